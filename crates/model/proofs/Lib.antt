@@ -1,0 +1,5 @@
+pub mod Cover
+pub mod Cards
+pub mod Packing
+pub mod Slots
+pub mod Priority

@@ -1,0 +1,213 @@
+-- Retentions of valid rows leave valid rows, and the limits. Assumes nothing.
+use mathlib.Core.Path.{_≡_, refl, sym, _∙_, ap, subst}
+use mathlib.Core.Logic.{_⊎_, inl, inr}
+use mathlib.Core.Bool.{Bool, true, false, _&&_, _||_, not, false≢true, true≢false}
+use mathlib.Core.List.{List, [], _∷_, _++_, map}
+use Prim.Native.Nat.{ℕ, zero, suc, _+_, min, _≤_, _<_, compare, Ordering, Ordering·lt, Ordering·eq, Ordering·gt}
+use native.Mathlib.Nat.{le-refl, le-trans}
+use native.Mathlib.Omega.{arith}
+use lib.Dec.{T, eqb, leb, ltb, isLe, isEq, eqb→eq, leb→le, nleb→lt}
+use lib.ListN.{length, set}
+use borrow.Author.Tests.{eq-eqb}
+use Rattle.lists.specs.Lists.{same}
+use Rattle.meter.specs.declared.Meter.{Meter}
+use Rattle.meter.specs.Meter.{Run, paid, declined, stopped, andThen, pay}
+use Rattle.model.specs.declared.LearningLimits.{LearningLimits}
+use Rattle.model.specs.declared.Header.{Header}
+use Rattle.model.specs.Records.{Row, Entry, Ledger, header, plus, withAdded, withHits}
+use Rattle.model.specs.Union.{into, union, mayJoin, joins, grown}
+use Rattle.model.specs.Rows.{subsumes}
+use Rattle.model.specs.Retention.{Compared, Pass, found, passed, noted, firstPass, secondPass, anyReplaced, kept, place, judge, judged, verdict, Verdict, subsumed, protected, placing, evicting, victim, halved, settle, newborn, Retained, untaken, carryOut, retained, retainReads, retain}
+use Rattle.model.specs.Priority.{In, Covers}
+use Rattle.model.proofs.Cover.{and-left, and-right}
+use Rattle.model.proofs.Packing.{Asc, asc-less}
+use Rattle.model.proofs.Slots.{Valid}
+use Rattle.model.proofs.Priority.Covering.{rowsE, rowsM, cmp-eq, Grown, PassOk, pass-ok, Cov, covers-refl, covers-trans, covers-cons, covers-sub}
+use Rattle.model.proofs.Priority.Retaining.{VerdictOk, verdict-ok, place-in, placed, halve-rows, settle-rows}
+
+-- ---- the union of ascending lists ascends
+cmp-lt : (a b : ℕ) → compare a b ≡ Ordering·lt → a < b
+cmp-lt a b e =
+    let l : a ≤ b = leb→le a b (subst (λ (o : Ordering). T (isLe o)) (sym e) tt) in
+    let n : (a ≡ b → ⊥) = λ q. false≢true (sym (ap isEq e) ∙ eq-eqb a b q) in
+    lt-of a b l n
+  where
+    lt-of : (a b : ℕ) → a ≤ b → (a ≡ b → ⊥) → a < b
+    lt-of a b l n = omega arith
+
+cmp-gt : (a b : ℕ) → compare a b ≡ Ordering·gt → b < a
+cmp-gt a b e = nleb→lt a b (subst (λ (o : Ordering). T (not (isLe o))) (sym e) tt)
+
+into-asc-step : (k a b : ℕ) (rest : List ℕ → List ℕ) (bs : List ℕ) (o : Ordering) → compare a b ≡ o
+    → ((cs : List ℕ) → Asc (suc a) cs → Asc (suc a) (rest cs)) → k ≤ a → Asc k (b ∷ bs)
+    → ((j : ℕ) → j ≤ a → Asc j bs → Asc j (into a rest bs))
+    → Asc k (elim o [ Ordering·lt ↦ a ∷ rest (b ∷ bs) | Ordering·eq ↦ a ∷ rest bs | Ordering·gt ↦ b ∷ into a rest bs ])
+into-asc-step k a b rest bs Ordering·lt e f h g i = (h, f (b ∷ bs) (cmp-lt a b e, g .1))
+into-asc-step k a b rest bs Ordering·eq e f h g i = (h, f bs (subst (λ (x : ℕ). Asc (suc x) bs) (sym (cmp-eq a b e)) (g .1)))
+into-asc-step k a b rest bs Ordering·gt e f h g i = (g .0, i (suc b) (cmp-gt a b e) (g .1))
+
+into-asc : (a : ℕ) (rest : List ℕ → List ℕ) → ((cs : List ℕ) → Asc (suc a) cs → Asc (suc a) (rest cs)) → (bs : List ℕ) (k : ℕ) → k ≤ a → Asc k bs → Asc k (into a rest bs)
+unfolding into
+into-asc a rest f [] k h g = (h, f [] tt)
+into-asc a rest f (b ∷ bs) k h g = into-asc-step k a b rest bs (compare a b) refl f h g (λ j. into-asc a rest f bs j)
+
+union-asc : (a b : List ℕ) (k : ℕ) → Asc k a → Asc k b → Asc k (union a b)
+unfolding union
+union-asc [] b k g h = h
+union-asc (a ∷ as′) b k g h = into-asc a (union as′) (λ cs i. union-asc as′ cs (suc a) (g .1) i) b k (g .0) h
+
+-- ---- a grown proposal is valid
+grown-valid : (m : ℕ) (r p : Row) → m ≤ 64 → T (joins m r p) → Valid r → Valid p → Valid (grown r p)
+unfolding joins grown
+grown-valid m r p l t v w = record {
+  conditions = w .conditions;
+  outputs = union-asc (r .outputs) (p .outputs) 0 (v .outputs) (w .outputs);
+  few = w .few;
+  many = le-trans (leb→le (length (union (r .outputs) (p .outputs))) m (and-right (same (r .conditions) (p .conditions)) (leb (length (union (r .outputs) (p .outputs))) m) (and-right (mayJoin m r p) _ t))) l;
+}
+
+-- each row of the list is valid
+abbrev pub Fine : List Row → Type 0
+Fine rs = (r : Row) → In r rs → Valid r
+
+abbrev PassFine : Pass → Type 0
+PassFine (found n) = Unit {0}
+PassFine (passed ks p) = Valid p
+
+noted-fine : (b : Bool) (e : Entry) (x : Pass) → PassFine x → PassFine (noted b e x)
+unfolding noted
+noted-fine b e (found n) f = tt
+noted-fine b e (passed ks p) f = f
+
+pass-fine-step : (m : ℕ) (p : Row) (e : Entry) (es : List Entry) (b c : Bool)
+    → (T c → PassFine (firstPass m (grown (e .row) p) es)) → PassFine (firstPass m p es)
+    → PassFine (elim b [ true ↦ found 0 | false ↦ elim c [ true ↦ noted true e (firstPass m (grown (e .row) p) es) | false ↦ noted false e (firstPass m p es) ] ])
+pass-fine-step m p e es true c f g = tt
+pass-fine-step m p e es false true f g = noted-fine true e (firstPass m (grown (e .row) p) es) (f tt)
+pass-fine-step m p e es false false f g = noted-fine false e (firstPass m p es) g
+
+pass-fine : (m : ℕ) (p : Row) (es : List Entry) → m ≤ 64 → Valid p → Fine (rowsE es) → PassFine (firstPass m p es)
+unfolding firstPass
+pass-fine m p [] l v f = v
+pass-fine m p (e ∷ es) l v f =
+    pass-fine-step m p e es (subsumes (e .row) p) (joins m (e .row) p)
+    (λ t. pass-fine m (grown (e .row) p) es l (grown-valid m (e .row) p l t (f (e .row) (inl refl)) v) (λ r i. f r (inr i)))
+    (pass-fine m p es l v (λ r i. f r (inr i)))
+
+abbrev VerdictFine : Verdict → Type 0
+VerdictFine (subsumed p) = Unit {0}
+VerdictFine protected = Unit {0}
+VerdictFine (placing ks p) = Valid p
+VerdictFine (evicting v p) = Valid p
+
+judge-fine-step : (es : List Entry) (ks : List Compared) (p : Row) (a c : Bool) → Valid p
+    → VerdictFine (elim a [ true ↦ placing ks p | false ↦ elim c [ true ↦ protected | false ↦ evicting (victim es) p ] ])
+judge-fine-step es ks p true c v = v
+judge-fine-step es ks p false true v = tt
+judge-fine-step es ks p false false v = v
+
+judged-fine : (l : LearningLimits) (es : List Entry) (x : Pass) → PassFine x → VerdictFine (judged l es x)
+unfolding judged judge
+judged-fine l es (found n) f = tt
+judged-fine l es (passed ks p) f =
+    judge-fine-step es (secondPass p ks) p (anyReplaced (secondPass p ks) || ltb (length es) (l .«tier_rows»)) (leb (length es) (l .«founded_floor»)) f
+
+verdict-fine : (l : LearningLimits) (m : ℕ) (t : Row) (es : List Entry) → m ≤ 64 → Valid t → Fine (rowsE es) → VerdictFine (verdict l m t es)
+unfolding verdict
+verdict-fine l m t es h v f = judged-fine l es (firstPass m t es) (pass-fine m t es h v f)
+
+-- ---- the entries after
+set-in : (v : ℕ) (e : Entry) (es : List Entry) (r : Row) → In r (rowsE (set es v e)) → In r (e .row ∷ rowsE es)
+set-in v e [] r m = absurd m
+set-in zero e (x ∷ es) r (inl q) = inl q
+set-in zero e (x ∷ es) r (inr m) = inr (inr m)
+set-in (suc v) e (x ∷ es) r (inl q) = inr (inl q)
+set-in (suc v) e (x ∷ es) r (inr m) = go (set-in v e es r m)
+  where
+    go : In r (e .row ∷ rowsE es) → In r (e .row ∷ x .row ∷ rowsE es)
+    go (inl q) = inl q
+    go (inr i) = inr (inr i)
+
+-- evictions from n on came to k: none, and the count stays; else it is not 0
+pub record Counted (evicts : Bool) (n k : ℕ) : Type 0 where
+  pub calm : evicts ≡ false → k ≡ n
+  pub some : evicts ≡ true → 0 < k
+  pub more : 0 < n → 0 < k
+
+pub none-counted : (n : ℕ) → Counted false n n
+none-counted n = record { calm = λ e. refl; some = λ e. absurd (false≢true e); more = λ h. h }
+
+one-counted : (n k : ℕ) → k ≡ plus n 1 → Counted true n k
+unfolding plus
+one-counted n k e = record { calm = λ q. absurd (true≢false q); some = λ q. omega arith; more = λ h. omega arith }
+
+pub both-counted : (a b : Bool) (n k m : ℕ) → Counted b n k → Counted a k m → Counted (a || b) n m
+both-counted true b n k m p q = record { calm = λ e. absurd (true≢false e); some = λ e. q .some refl; more = λ h. q .more (p .more h) }
+both-counted false b n k m p q = record {
+  calm = λ e. q .calm refl ∙ p .calm e;
+  some = λ e. subst (λ (x : ℕ). 0 < x) (sym (q .calm refl)) (p .some e);
+  more = λ h. q .more (p .more h);
+}
+
+-- a retention, all of it: limits, rows, what was taken, and the count of evictions
+pub record RetainedFine (l : Ledger) (t : Row) (d : Retained) : Type 0 where
+  pub limits : d .ledger .header .limits ≡ l .header .limits
+  pub fine : Fine (rowsE (d .ledger .entries))
+  pub took : (r : Row) → In r (d .took) → r ≡ t
+  pub from : Covers (d .took ++ rowsE (l .entries)) (rowsE (d .ledger .entries))
+  pub counted : Counted (d .evicts) (l .header .evicted) (d .ledger .header .evicted)
+
+settle-limits : (h : Header) (es : List Entry) (n : ℕ) → settle h es n .header .limits ≡ h .limits
+unfolding settle withAdded
+settle-limits h es n = go (leb (h .limits .«tier_rows») (suc (h .epoch)))
+  where
+    go : (b : Bool) → (elim b as (λ k. Ledger) [ true ↦ record { header = withAdded h 0 n; entries = halved es } | false ↦ record { header = withAdded h (suc (h .epoch)) n; entries = es } ]) .header .limits ≡ h .limits
+    go true = refl
+    go false = refl
+
+settle-evicted : (h : Header) (es : List Entry) (n : ℕ) → settle h es n .header .evicted ≡ n
+unfolding settle withAdded
+settle-evicted h es n = go (leb (h .limits .«tier_rows») (suc (h .epoch)))
+  where
+    go : (b : Bool) → (elim b as (λ k. Ledger) [ true ↦ record { header = withAdded h 0 n; entries = halved es } | false ↦ record { header = withAdded h (suc (h .epoch)) n; entries = es } ]) .header .evicted ≡ n
+    go true = refl
+    go false = refl
+
+fine-cons : (e : Row) (rs : List Row) → Valid e → Fine rs → Fine (e ∷ rs)
+fine-cons e rs v f r (inl q) = subst Valid (sym q) v
+fine-cons e rs v f r (inr m) = f r m
+
+only : (t r : Row) → In r (t ∷ []) → r ≡ t
+only t r (inl e) = e
+only t r (inr m) = absurd m
+
+carry-fine : (l : Ledger) (t : Row) (h a : ℕ) (m : Meter) (v : Verdict) → Fine (rowsE (l .entries)) → VerdictOk t (l .entries) v → VerdictFine v → RetainedFine l t (carryOut l t h a m v)
+unfolding carryOut untaken newborn
+carry-fine l t h a m (subsumed p) f o v = record { limits = refl; fine = f; took = only t; from = covers-sub (λ r i. inr i); counted = none-counted _ }
+carry-fine l t h a m protected f o v = record { limits = refl; fine = f; took = λ r i. absurd i; from = covers-refl (rowsE (l .entries)); counted = none-counted _ }
+carry-fine l t h a m (placing ks p) f o v = record {
+  limits = settle-limits (l .header) _ _;
+  fine = λ r i. fine-cons p (rowsM ks) v (subst Fine (sym (o .rows)) f) r (place-in _ ks r (subst (λ (rs : List Row). In r rs) (settle-rows (l .header) _ _) i));
+  took = only t;
+  from = subst (λ (rs : List Row). Covers (t ∷ rowsE (l .entries)) rs) (sym (settle-rows (l .header) _ _)) (placed t (l .entries) ks _ o .back);
+  counted = subst (λ (k : ℕ). Counted false (l .header .evicted) k) (sym (settle-evicted (l .header) _ (l .header .evicted))) (none-counted (l .header .evicted));
+}
+carry-fine l t h a m (evicting v p) f o w = record {
+  limits = settle-limits (l .header) _ _;
+  fine = λ r i. fine-cons p (rowsE (l .entries)) w f r (set-in v _ (l .entries) r (subst (λ (rs : List Row). In r rs) (settle-rows (l .header) _ _) i));
+  took = only t;
+  from = subst (λ (rs : List Row). Covers (t ∷ rowsE (l .entries)) rs) (sym (settle-rows (l .header) _ _)) (covers-trans (covers-cons {B = rowsE (l .entries)} {t = p} o (covers-sub (λ r i. inr i))) (covers-sub (set-in v _ (l .entries))));
+  counted = one-counted (l .header .evicted) _ (settle-evicted (l .header) _ _);
+}
+
+retained-fine : (l : Ledger) (m h : ℕ) (t : Row) (run : Run) → m ≤ 64 → Valid t → Fine (rowsE (l .entries)) → RetainedFine l t (retained l m h t run)
+unfolding retained untaken
+retained-fine l m h t (paid a n) k v f =
+    carry-fine l t h a n (verdict (l .header .limits) m t (l .entries)) f (verdict-ok (l .header .limits) m t (l .entries))
+    (verdict-fine (l .header .limits) m t (l .entries) k v f)
+retained-fine l m h t (declined a n) k v f = record { limits = refl; fine = f; took = λ r i. absurd i; from = covers-refl (rowsE (l .entries)); counted = none-counted _ }
+retained-fine l m h t (stopped a n) k v f = record { limits = refl; fine = f; took = λ r i. absurd i; from = covers-refl (rowsE (l .entries)); counted = none-counted _ }
+
+pub retain-fine : (l : Ledger) (m h : ℕ) (t : Row) (run : Run) → m ≤ 64 → Valid t → Fine (rowsE (l .entries)) → RetainedFine l t (retain l m h t run)
+unfolding retain
+retain-fine l m h t run k v f = retained-fine l m h t (andThen run (pay (retainReads (l .header .limits) m t (l .entries)))) k v f
