@@ -11,7 +11,10 @@ use lib.ListN.{length, set}
 use borrow.Author.Tests.{eq-eqb}
 use Rattle.lists.specs.Lists.{same}
 use Rattle.meter.specs.declared.Meter.{Meter}
-use Rattle.meter.specs.Meter.{Run, paid, declined, stopped, andThen, pay}
+use Rattle.meter.specs.declared.Account.{Account}
+use Rattle.meter.specs.declared.Read.{Read}
+use Rattle.meter.specs.declared.Read.the-variants.{Paid, Declined, Stopped}
+use Rattle.meter.specs.Meter.{andThen, pay}
 use Rattle.model.specs.declared.LearningLimits.{LearningLimits}
 use Rattle.model.specs.declared.Header.{Header}
 use Rattle.model.specs.Records.{Row, Entry, Ledger, header, plus, withAdded, withHits}
@@ -181,7 +184,7 @@ only : (t r : Row) → In r (t ∷ []) → r ≡ t
 only t r (inl e) = e
 only t r (inr m) = absurd m
 
-carry-fine : (l : Ledger) (t : Row) (h a : ℕ) (m : Meter) (v : Verdict) → Fine (rowsE (l .entries)) → VerdictOk t (l .entries) v → VerdictFine v → RetainedFine l t (carryOut l t h a m v)
+carry-fine : (l : Ledger) (t : Row) (h : ℕ) (a : Account) (m : Meter) (v : Verdict) → Fine (rowsE (l .entries)) → VerdictOk t (l .entries) v → VerdictFine v → RetainedFine l t (carryOut l t h a m v)
 unfolding carryOut untaken newborn
 carry-fine l t h a m (subsumed p) f o v = record { limits = refl; fine = f; took = only t; from = covers-sub (λ r i. inr i); counted = none-counted _ }
 carry-fine l t h a m protected f o v = record { limits = refl; fine = f; took = λ r i. absurd i; from = covers-refl (rowsE (l .entries)); counted = none-counted _ }
@@ -200,14 +203,14 @@ carry-fine l t h a m (evicting v p) f o w = record {
   counted = one-counted (l .header .evicted) _ (settle-evicted (l .header) _ _);
 }
 
-retained-fine : (l : Ledger) (m h : ℕ) (t : Row) (run : Run) → m ≤ 64 → Valid t → Fine (rowsE (l .entries)) → RetainedFine l t (retained l m h t run)
+retained-fine : (l : Ledger) (m h : ℕ) (t : Row) (run : Read) → m ≤ 64 → Valid t → Fine (rowsE (l .entries)) → RetainedFine l t (retained l m h t run)
 unfolding retained untaken
-retained-fine l m h t (paid a n) k v f =
+retained-fine l m h t (Paid a n) k v f =
     carry-fine l t h a n (verdict (l .header .limits) m t (l .entries)) f (verdict-ok (l .header .limits) m t (l .entries))
     (verdict-fine (l .header .limits) m t (l .entries) k v f)
-retained-fine l m h t (declined a n) k v f = record { limits = refl; fine = f; took = λ r i. absurd i; from = covers-refl (rowsE (l .entries)); counted = none-counted _ }
-retained-fine l m h t (stopped a n) k v f = record { limits = refl; fine = f; took = λ r i. absurd i; from = covers-refl (rowsE (l .entries)); counted = none-counted _ }
+retained-fine l m h t (Declined a n) k v f = record { limits = refl; fine = f; took = λ r i. absurd i; from = covers-refl (rowsE (l .entries)); counted = none-counted _ }
+retained-fine l m h t (Stopped a n) k v f = record { limits = refl; fine = f; took = λ r i. absurd i; from = covers-refl (rowsE (l .entries)); counted = none-counted _ }
 
-pub retain-fine : (l : Ledger) (m h : ℕ) (t : Row) (run : Run) → m ≤ 64 → Valid t → Fine (rowsE (l .entries)) → RetainedFine l t (retain l m h t run)
+pub retain-fine : (l : Ledger) (m h : ℕ) (t : Row) (run : Read) → m ≤ 64 → Valid t → Fine (rowsE (l .entries)) → RetainedFine l t (retain l m h t run)
 unfolding retain
 retain-fine l m h t run k v f = retained-fine l m h t (andThen run (pay (retainReads (l .header .limits) m t (l .entries)))) k v f

@@ -33,7 +33,7 @@ made-limits l i ss ps h e = go _ refl _ _ e
     tests : List (Bool × ℕ)
     tests = (limitsOk l, 1) ∷ (eqb (length ss) (168 * l .«tier_rows») && eqb (length ps) (80 * l .«tier_rows»), 2) ∷ []
 
-    go : (o : Option ℕ) → refusal tests ≡ o → (xs ys : List ℕ) → (elim o as (λ k. MakeEnd) [ some n ↦ record { answer = make-answer.Refused n; slots = ss; postings = ps } | none ↦ record { answer = make-answer.Made (fresh l i); slots = xs; postings = ys } ]) .answer ≡ make-answer.Made h → T (limitsOk l)
+    go : (o : Option ℕ) → refusal tests ≡ o → (xs ys : List ℕ) → (elim o as (λ k. MakeEnd) [ some n ↦ record { answer = make-answer.Refused n; slots = ss; postings = ps; ticks = 0 } | none ↦ record { answer = make-answer.Made (fresh l i); slots = xs; postings = ys; ticks = 0 } ]) .answer ≡ make-answer.Made h → T (limitsOk l)
     go (some n) r xs ys q = absurd (subst IsMade (sym q) tt)
     go none r xs ys q = refusal-cons _ _ _ r .0
 

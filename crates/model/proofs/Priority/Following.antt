@@ -70,7 +70,7 @@ pub fresh-of : (l : LearningLimits) (i : ℕ) (ss ps : List ℕ) (h : Header) �
 unfolding make
 fresh-of l i ss ps h e = go (refusal _) _ _ e
   where
-    go : (o : Option ℕ) (xs ys : List ℕ) → (elim o as (λ k. MakeEnd) [ some n ↦ record { answer = make-answer.Refused n; slots = ss; postings = ps } | none ↦ record { answer = make-answer.Made (fresh l i); slots = xs; postings = ys } ]) .answer ≡ make-answer.Made h → h ≡ fresh l i
+    go : (o : Option ℕ) (xs ys : List ℕ) → (elim o as (λ k. MakeEnd) [ some n ↦ record { answer = make-answer.Refused n; slots = ss; postings = ps; ticks = 0 } | none ↦ record { answer = make-answer.Made (fresh l i); slots = xs; postings = ys; ticks = 0 } ]) .answer ≡ make-answer.Made h → h ≡ fresh l i
     go (some n) xs ys q = absurd (subst IsMade (sym q) tt)
     go none xs ys q = sym (ap (λ (a : MakeAnswer). made-header a h) q)
 

@@ -13,12 +13,13 @@ use Rattle.lists.specs.Lists.{all, adjust, ascending, above, below, same}
 use Rattle.words.specs.Literal.{atom}
 use Rattle.words.specs.Region.{Region, decide, atomsOk}
 use Rattle.meter.specs.declared.Meter.{Meter}
+use Rattle.meter.specs.declared.Account.{Account}
 use Rattle.meter.specs.declared.Tick.{Tick}
 use Rattle.meter.specs.declared.Tick.the-variants.{Ticked, Stopped}
-use Rattle.meter.specs.Meter.{tickOf, ticks, pay, paid, made}
+use Rattle.meter.specs.Meter.{tickOf, ticks, pay, made}
 use Rattle.model.specs.declared.LearningLimits.{LearningLimits}
 use Rattle.model.specs.declared.Header.{Header}
-use Rattle.model.specs.Records.{Row, Entry, Ledger, rowsOf, rowAt, isRow, isRowOver, within, limitsOk, literals, plus, header, withRows, withStale, withFull, attempted, withRemaining, withSharing, withMark, withDeliveries, withSeeded, withHits, hitEntry, withDelivered}
+use Rattle.model.specs.Records.{Row, Entry, Ledger, rowsOf, rowAt, isRow, isRowOver, within, limitsOk, literals, plus, header, withRows, withStale, withFull, attempted, withAccount, withMark, withDeliveries, withSeeded, withHits, hitEntry, withDelivered}
 use Rattle.model.specs.Slots.{slotsOf, entriesIn}
 use Rattle.model.specs.Retention.{Retained, Outcome, Stops, Declines, Subsumes, Adds, retain, canCapture}
 use Rattle.model.specs.Transfers.{Transfer, Delivery, Reach, starting, ticked, receive, received, changeAt, seedRows, markFor, seeding, marked, seededTier, seededStore, passesOver, front, deliverRows, delivering, deliveredTier, deliveredStore}
@@ -54,7 +55,7 @@ pub record TransferOk (l : Ledger) (v : Transfer) : Type 0 where
   pub from : Covers (v .took ++ rowsE (l .entries)) (rowsE (v .receiver .entries))
   pub counted : Counted (v .evicts) (l .header .evicted) (v .receiver .header .evicted)
 
-starting-ok : (l : Ledger) (a : ℕ) (m : Meter) → Fine (rowsE (l .entries)) → TransferOk l (starting l a m)
+starting-ok : (l : Ledger) (a : Account) (m : Meter) → Fine (rowsE (l .entries)) → TransferOk l (starting l a m)
 unfolding starting
 starting-ok l a m f = record { limits = refl; alike = λ e. alike-refl (rowsE (l .entries)); fine = f; over = λ r i. absurd i; from = covers-refl (rowsE (l .entries)); counted = none-counted (l .header .evicted) }
 
@@ -77,10 +78,10 @@ receive-ok : (l : Ledger) (tier : LearningLimits) (hits : ℕ) (r : Row) (v : Tr
 unfolding receive
 receive-ok l tier hits r v h t k =
     let w = valid-of (l .header .limits .atoms) r t in
-    let f = retain-fine (v .receiver) (max (length (r .outputs)) (tier .«founded_outputs»)) hits r (pay (suc (literals r)) (v .sharing) (v .meter)) (max-le (length (r .outputs)) (tier .«founded_outputs») (w .many) h) w (k .fine) in
+    let f = retain-fine (v .receiver) (max (length (r .outputs)) (tier .«founded_outputs»)) hits r (pay (suc (literals r)) (v .account) (v .meter)) (max-le (length (r .outputs)) (tier .«founded_outputs») (w .many) h) w (k .fine) in
     record {
       limits = f .limits ∙ k .limits;
-      alike = retain-ok (v .receiver) (max (length (r .outputs)) (tier .«founded_outputs»)) hits r (pay (suc (literals r)) (v .sharing) (v .meter));
+      alike = retain-ok (v .receiver) (max (length (r .outputs)) (tier .«founded_outputs»)) hits r (pay (suc (literals r)) (v .account) (v .meter));
       fine = f .fine;
       over = λ q i. subst (λ (x : Row). T (isRowOver (l .header .limits .atoms) x)) (sym (f .took q i)) (row-over (l .header .limits .atoms) r t);
       from = f .from;
@@ -228,7 +229,7 @@ unmoved t s true n m = record { tier = still t; store = still s }
 unmoved t s false n m = record { tier = still t; store = still s }
 
 seeded-tier : (t s : Lent) (v : Transfer) → TransferOk (ledgerIn t) v → StepOk t (lentOf (seededTier (ledgerIn s) v)) (v .took) (v .evicts)
-unfolding seededTier withSharing ledgerIn
+unfolding seededTier withAccount ledgerIn
 seeded-tier t s v k = to-lent t _ (v .took) (v .evicts) (k .fine) (marked-limits (v .reach) _ _ ∙ k .limits) (k .alike) (k .over) (k .from) (subst (λ (n : ℕ). Counted (v .evicts) (t .header .evicted) n) (sym (marked-evicted (v .reach) _ _)) (k .counted))
 
 seeded-store : (s : Lent) (v : Transfer) → Accepted s → StepOk s (lentOf (seededStore (ledgerIn s) v)) [] false
@@ -236,7 +237,7 @@ unfolding seededStore withSeeded ledgerIn
 seeded-store s v a = same-step s _ a (record { limits = refl; rows = refl; evicted = refl })
 
 delivered-tier : (t s : Lent) → Accepted t → (d : Delivery) → DeliveryOk (ledgerIn s) (ledgerIn t .entries) d → StepOk t (lentOf (deliveredTier (ledgerIn t) d)) [] false
-unfolding deliveredTier withSharing ledgerIn
+unfolding deliveredTier withAccount ledgerIn
 delivered-tier t s a d k = same-step t _ a (record { limits = refl; rows = k .rows; evicted = refl })
 
 delivered-store : (t s : Lent) (d : Delivery) → DeliveryOk (ledgerIn s) (ledgerIn t .entries) d → StepOk s (lentOf (deliveredStore d)) (d .1 .took) (d .1 .evicts)

@@ -7,7 +7,10 @@ use Prim.Native.Nat.{ℕ, zero, suc}
 use lib.Dec.{T, leb, ltb}
 use lib.ListN.{length}
 use Rattle.meter.specs.declared.Meter.{Meter}
-use Rattle.meter.specs.Meter.{Run, paid, declined, stopped, andThen, pay}
+use Rattle.meter.specs.declared.Account.{Account}
+use Rattle.meter.specs.declared.Read.{Read}
+use Rattle.meter.specs.declared.Read.the-variants.{Paid, Declined, Stopped}
+use Rattle.meter.specs.Meter.{andThen, pay}
 use Rattle.model.specs.declared.LearningLimits.{LearningLimits}
 use Rattle.model.specs.declared.Header.{Header}
 use Rattle.model.specs.Records.{Row, Entry, Ledger, withAdded, withHits}
@@ -189,7 +192,7 @@ settle-rows h es n = go (leb (h .limits .«tier_rows») (suc (h .epoch)))
 abbrev pub RetainedOk : Ledger → Retained → Type 0
 RetainedOk l d = T (not (d .evicts)) → Alike (rowsE (d .ledger .entries)) (d .took ++ rowsE (l .entries))
 
-carry-ok : (l : Ledger) (t : Row) (h a : ℕ) (m : Meter) (v : Verdict) → VerdictOk t (l .entries) v → RetainedOk l (carryOut l t h a m v)
+carry-ok : (l : Ledger) (t : Row) (h : ℕ) (a : Account) (m : Meter) (v : Verdict) → VerdictOk t (l .entries) v → RetainedOk l (carryOut l t h a m v)
 unfolding carryOut untaken newborn
 carry-ok l t h a m (subsumed p) c = λ e. record
     { there = covers-cons c (covers-refl (rowsE (l .entries))); back = covers-sub (λ r i. inr i) }
@@ -197,12 +200,12 @@ carry-ok l t h a m protected c = λ e. alike-refl (rowsE (l .entries))
 carry-ok l t h a m (placing ks p) c = λ e. rw settle-rows (placed t (l .entries) ks _ c)
 carry-ok l t h a m (evicting v p) c = λ e. absurd e
 
-pub retained-ok : (l : Ledger) (m h : ℕ) (t : Row) (r : Run) → RetainedOk l (retained l m h t r)
+pub retained-ok : (l : Ledger) (m h : ℕ) (t : Row) (r : Read) → RetainedOk l (retained l m h t r)
 unfolding retained untaken
-retained-ok l m h t (paid a k) = carry-ok l t h a k (verdict (l .header .limits) m t (l .entries)) (verdict-ok (l .header .limits) m t (l .entries))
-retained-ok l m h t (declined a k) = λ e. alike-refl (rowsE (l .entries))
-retained-ok l m h t (stopped a k) = λ e. alike-refl (rowsE (l .entries))
+retained-ok l m h t (Paid a k) = carry-ok l t h a k (verdict (l .header .limits) m t (l .entries)) (verdict-ok (l .header .limits) m t (l .entries))
+retained-ok l m h t (Declined a k) = λ e. alike-refl (rowsE (l .entries))
+retained-ok l m h t (Stopped a k) = λ e. alike-refl (rowsE (l .entries))
 
-pub retain-ok : (l : Ledger) (m h : ℕ) (t : Row) (r : Run) → RetainedOk l (retain l m h t r)
+pub retain-ok : (l : Ledger) (m h : ℕ) (t : Row) (r : Read) → RetainedOk l (retain l m h t r)
 unfolding retain
 retain-ok l m h t r = retained-ok l m h t (andThen r (pay (retainReads (l .header .limits) m t (l .entries))))

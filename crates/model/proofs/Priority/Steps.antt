@@ -15,10 +15,10 @@ use Rattle.words.specs.Region.{Region, decide, atomsOk}
 use Rattle.meter.specs.declared.Meter.{Meter}
 use Rattle.meter.specs.declared.Tick.{Tick}
 use Rattle.meter.specs.declared.Tick.the-variants.{Ticked, Stopped}
-use Rattle.meter.specs.Meter.{tickOf, ticks, pay, paid, made}
+use Rattle.meter.specs.Meter.{tickOf, ticks, pay, made}
 use Rattle.model.specs.declared.LearningLimits.{LearningLimits}
 use Rattle.model.specs.declared.Header.{Header}
-use Rattle.model.specs.Records.{Row, Entry, Ledger, rowsOf, rowAt, isRow, isRowOver, within, limitsOk, literals, plus, header, withRows, withStale, withFull, attempted, withRemaining, withSharing, withMark, withDeliveries, withSeeded, withHits, hitEntry, withDelivered}
+use Rattle.model.specs.Records.{Row, Entry, Ledger, rowsOf, rowAt, isRow, isRowOver, within, limitsOk, literals, plus, header, withRows, withStale, withFull, attempted, withAccount, withMark, withDeliveries, withSeeded, withHits, hitEntry, withDelivered}
 use Rattle.model.specs.Slots.{slotsOf, entriesIn}
 use Rattle.model.specs.Retention.{Retained, Outcome, Stops, Declines, Subsumes, Adds, retain, canCapture}
 use Rattle.model.specs.Transfers.{Transfer, Delivery, Reach, starting, ticked, receive, received, changeAt, seedRows, markFor, seeding, marked, seededTier, seededStore, passesOver, front, deliverRows, delivering, deliveredTier, deliveredStore}
@@ -214,7 +214,7 @@ abbrev OfferOk : Lent → OfferEnd → Type 0
 OfferOk s e = StepOk s (e .ledger) (e .took) (e .evicts)
 
 capture-ok : (s : Lent) (t : Row) (m : Meter) → Accepted s → T (fitsOffer (s .header .limits) t) → OfferOk s (capture (ledgerIn s) t m)
-unfolding capture attempted withRemaining ledgerIn
+unfolding capture attempted withAccount ledgerIn
 capture-ok s t m a h =
     let v = offered-valid (s .header .limits) t (a .limits) h in
     let f = retain-fine _ (s .header .limits .«founded_outputs») 0 t _ (most-ok (s .header .limits) (a .limits) .1) (valid-of (s .header .limits .atoms) t v) (fine-in s a) in
