@@ -199,7 +199,7 @@ carry-fine l t h a m (evicting v p) f o w = record {
   limits = settle-limits (l .header) _ _;
   fine = λ r i. fine-cons p (rowsE (l .entries)) w f r (set-in v _ (l .entries) r (subst (λ (rs : List Row). In r rs) (settle-rows (l .header) _ _) i));
   took = only t;
-  from = subst (λ (rs : List Row). Covers (t ∷ rowsE (l .entries)) rs) (sym (settle-rows (l .header) _ _)) (covers-trans (covers-cons {B = rowsE (l .entries)} {t = p} o (covers-sub (λ r i. inr i))) (covers-sub (set-in v _ (l .entries))));
+  from = subst (λ (rs : List Row). Covers (t ∷ rowsE (l .entries)) rs) (sym (settle-rows (l .header) _ _)) (covers-trans (covers-cons {B = rowsE (l .entries)} {t = p} (o .0) (covers-sub (λ r i. inr i))) (covers-sub (set-in v _ (l .entries))));
   counted = one-counted (l .header .evicted) _ (settle-evicted (l .header) _ _);
 }
 

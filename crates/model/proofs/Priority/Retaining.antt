@@ -129,6 +129,10 @@ alike-refl A = record { there = covers-refl A; back = covers-refl A }
 pub alike-trans : {A B C : List Row} → Alike A B → Alike B C → Alike A C
 alike-trans p q = record { there = covers-trans (p .there) (q .there); back = covers-trans (q .back) (p .back) }
 
+-- a grown proposal dominates the row taken
+grown-dom : {t : Row} {es : List Entry} {ks : List Compared} {p : Row} → Grown t es ks p → Dom p t
+grown-dom g = record { less = λ x m. subst (λ (c : List ℕ). In x c) (g .conditions) m; more = g .outputs }
+
 -- the placed rows against the old ones and the row taken
 pub placed : (t : Row) (es : List Entry) (ks : List Compared) (e : Entry) → Grown t es ks (e .row) → Alike (rowsE (place e ks)) (t ∷ rowsE es)
 placed t es ks e g = record {
@@ -137,7 +141,7 @@ placed t es ks e g = record {
 }
   where
     taken : Cov (rowsE (place e ks)) t
-    taken = dom-cov {s = t} (place-has e ks) (record { less = λ x m. subst (λ (c : List ℕ). In x c) (g .conditions) m; more = g .outputs })
+    taken = dom-cov {s = t} (place-has e ks) (grown-dom g)
 
     pick : (s : Row) → In s (rowsE (place e ks)) ⊎ Dom (e .row) s → Cov (rowsE (place e ks)) s
     pick s (inl m) = covers-refl (rowsE (place e ks)) .at s m
@@ -151,13 +155,13 @@ abbrev pub VerdictOk : Row → List Entry → Verdict → Type 0
 VerdictOk t es (subsumed n) = Cov (rowsE es) t
 VerdictOk t es protected = Unit {0}
 VerdictOk t es (placing ks p) = Grown t es ks p
-VerdictOk t es (evicting v p) = Cov (t ∷ rowsE es) p
+VerdictOk t es (evicting v p) = Cov (t ∷ rowsE es) p × Dom p t
 
 judge-ok-step : (t : Row) (es : List Entry) (ks : List Compared) (p : Row) (a c : Bool) → Grown t es ks p
     → VerdictOk t es (elim a [ true ↦ placing ks p | false ↦ elim c [ true ↦ protected | false ↦ evicting (victim es) p ] ])
 judge-ok-step t es ks p true c g = g
 judge-ok-step t es ks p false true g = tt
-judge-ok-step t es ks p false false g = g .from
+judge-ok-step t es ks p false false g = (g .from, grown-dom g)
 
 settle-pass-ok : (l : LearningLimits) (t : Row) (es : List Entry) (x : Pass) → PassOk t es x → VerdictOk t es (judged l es x)
 unfolding judged judge

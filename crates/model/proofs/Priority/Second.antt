@@ -21,7 +21,7 @@ use Rattle.model.specs.Slots.{entriesIn}
 use Rattle.model.specs.Refusals.{Lent, ledgerIn, refusal, accepts, contentsOk, countsOk}
 use Rattle.model.specs.Operations.{CloseEnd, closeEnd, close, region, regionOk}
 use Rattle.model.specs.Closing.{Turn, going, conflict, halted, closing}
-use Rattle.model.specs.Priority.{Contains, ClosedFor, Ended, Right, CloseAlike, SecondHalf, Demand3}
+use Rattle.model.specs.Priority.{Contains, ClosedFor, NoneClosed, Ended, Right, ClosesRight, CloseAlike, SecondHalf, Demand3}
 use Rattle.model.proofs.Cover.{and-left, and-right}
 use Rattle.model.proofs.Priority.Covering.{rowsE}
 use Rattle.model.proofs.Priority.Retaining.{Alike}
@@ -155,13 +155,23 @@ abbrev ClosesAlike : ℕ → List Row → List Row → Type 0
 ClosesAlike n us vs = (d : Region) → T (isRegion n d) → ClosedFor us d ↔ ClosedFor vs d
 
 alike-end : (n : ℕ) (us vs : List Row) (r : Region) (x y : CloseEnd) → ClosesAlike n us vs → Ended (x .answer) → Ended (y .answer) → Right n us r x → Right n vs r y → CloseAlike n us vs r x y
-alike-end n us vs r x y f a b p q = record { answer = go a b; words = λ e. word e b; left = p; right = q }
+alike-end n us vs r x y f a b p q = record {
+  answer = go a b;
+  conflict = (p .ifConflict, none a);
+  smallest = p .ifClosed;
+  words = λ e. word e b;
+  closed = f;
+}
   where
     go : Ended (x .answer) → Ended (y .answer) → x .answer ≡ y .answer
     go (inl e) (inl z) = e ∙ sym z
     go (inl e) (inr z) = let c = p .ifClosed e in absurd (q .ifConflict z (x .region) (c .isA) (f (x .region) (c .isA) .0 (c .closed)) (c .contains))
     go (inr e) (inl z) = let c = q .ifClosed z in absurd (p .ifConflict e (y .region) (c .isA) (f (y .region) (c .isA) .1 (c .closed)) (c .contains))
     go (inr e) (inr z) = e ∙ sym z
+
+    none : Ended (x .answer) → NoneClosed n us r → x .answer ≡ Conflict
+    none (inl e) h = let c = p .ifClosed e in absurd (h (x .region) (c .isA) (c .closed) (c .contains))
+    none (inr e) h = e
 
     word : x .answer ≡ Closed → Ended (y .answer) → x .region ≡ y .region
     word e (inl z) =
@@ -188,6 +198,11 @@ second-half s t held cut x y v w m k e a b f =
     (closes-alike (s .header .limits .atoms) (rowsE (ledgerIn s .entries)) (rowsE (ledgerIn t .entries)) os ot (force-iff (s .header .limits .atoms) (rowsE (ledgerIn s .entries)) (rowsE (ledgerIn t .entries)) (atoms-ok s as′) os ot .0 f))
     a b (right-end s held cut x y m)
     (subst (λ (n : ℕ). Right n (rowsE (ledgerIn t .entries)) (region held cut) (close t held cut v w k)) (sym e) (right-end t held cut v w k))
+
+-- every closing ends right, with evictions or without
+pub closes-right : ClosesRight
+unfolding rowsOf
+closes-right s held cut x y m = right-end s held cut x y m
 
 pub demand3 : Demand3
 demand3 = record { first = first-half; second = second-half }
