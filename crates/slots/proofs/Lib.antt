@@ -1,0 +1,9 @@
+pub mod Codes
+pub mod Cursors
+pub mod Sides
+pub mod Groups
+pub mod Laying
+pub mod Words
+pub mod Canon
+pub mod Storing
+pub mod Checked

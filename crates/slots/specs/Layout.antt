@@ -1,0 +1,57 @@
+-- 01, Slot: "conditions, outputs, total groups, condition groups (both 0 = scalar), .., then the body .. conditions first". The two sides of a slot. Assumes nothing.
+use mathlib.Core.Path.{_≡_}
+use mathlib.Core.Bool.{true, false}
+use mathlib.Core.List.{List, _∷_, _++_}
+use Prim.Native.Nat.{ℕ, _+_, _-_, _*_, _≤_}
+use lib.Dec.{T, eqb}
+use lib.ListN.{length, getD}
+use Rattle.lists.specs.Lists.{pad}
+use Rattle.words.specs.Region.{maxAtoms}
+use Rattle.model.specs.Records.{Row, isRow, slotWords, maxConditions, maxOutputs}
+use Rattle.model.specs.Slots.{slotOf, rowIn, entryIn}
+use Rattle.slots.specs.declared.Side.{Side}
+use Rattle.slots.specs.Cursor.{listOf, Sound}
+
+unfoldable pub conditionSide : List ℕ → Side
+conditionSide ws =
+    elim (eqb (getD ws 2 0) 0) [
+      | true ↦ record { packed = false; base = 8; count = getD ws 0 0 }
+      | false ↦ record { packed = true; base = 8; count = getD ws 3 0 }
+    ]
+
+unfoldable pub outputSide : List ℕ → Side
+outputSide ws =
+    elim (eqb (getD ws 2 0) 0) [
+      | true ↦ record { packed = false; base = 8 + getD ws 0 0; count = getD ws 1 0 }
+      | false ↦ record { packed = true; base = 8 + 3 * getD ws 3 0; count = getD ws 2 0 - getD ws 3 0 }
+    ]
+
+-- the counts are within their limits
+pub record Counted (ws : List ℕ) : Type 0 where
+  pub few : getD ws 0 0 ≤ maxConditions
+  pub most : getD ws 1 0 ≤ maxOutputs
+  pub parts : getD ws 3 0 ≤ getD ws 2 0
+  pub words : 3 * getD ws 2 0 ≤ slotWords - 8
+
+-- 168 words that hold a row, in either form, as `prepare` leaves it or as a scalar proposal
+pub record Laid (ws : List ℕ) : Type 0 where
+  pub long : length ws ≡ slotWords
+  pub counted : Counted ws
+  pub first : Sound ws (conditionSide ws)
+  pub second : Sound ws (outputSide ws)
+  pub conditions : listOf ws (conditionSide ws) ≡ rowIn ws .conditions
+  pub outputs : listOf ws (outputSide ws) ≡ rowIn ws .outputs
+  pub conditionCount : length (rowIn ws .conditions) ≡ getD ws 0 0
+  pub outputCount : length (rowIn ws .outputs) ≡ getD ws 1 0
+
+-- 168 words that are the slot of a row over n atoms: what a ledger that was accepted holds
+pub record Stored (n : ℕ) (ws : List ℕ) : Type 0 where
+  pub atoms : n ≤ maxAtoms
+  pub row : T (isRow n (rowIn ws))
+  pub same : slotOf (entryIn ws) ≡ ws
+
+-- a row on its way to a slot: in scalar form whatever `prepare` would choose, its numbers zero
+unfoldable pub proposal : Row → List ℕ
+proposal r =
+    pad slotWords
+    (length (r .conditions) ∷ length (r .outputs) ∷ 0 ∷ 0 ∷ 0 ∷ 0 ∷ 0 ∷ 0 ∷ (r .conditions ++ r .outputs))

@@ -1,0 +1,94 @@
+use borrow.Author.Needs.{needs}
+use native.Mathlib.Omega.{arith}
+use mathlib.Core.Path.{_≡_, refl, sym, _∙_, ap}
+use Prim.Native.Nat.{ℕ, _*_, _-_, _≤_, _<_}
+use lib.ListN.{length, length-set}
+use Rattle.model.specs.Slots.{slotsOf, entriesIn}
+use Rattle.tier.specs.Tier.{tierOf}
+use Rattle.tier.proofs.Buffer.{rows-fit}
+use Rattle.tier.proofs.Halving.{halvedTo, halve-start, halve-step, halve-length, halve-end}
+use Rattle.tier.proofs.halve.Statement.{statement}
+use Rattle.tier.proofs.halve.Tie as tie
+use Rattle.tier.proofs.halve.Reads as reads
+use Rattle.tier.proofs.halve.Lts as lts
+
+abbrev Inv-loop : tie.InvT-loop
+Inv-loop slots₀ rows i₀ slots i =
+    (i ≤ rows) × (168 * rows ≤ length slots) × (length slots ≡ length slots₀)
+    × (slots ≡ slotsOf (tierOf slots₀) (halvedTo i (entriesIn rows slots₀)))
+
+abbrev μ-loop : tie.MeasureT-loop
+μ-loop slots₀ rows i₀ slots i = rows - i
+
+-- src/lib.rt:102:5
+loop-holds : tie.Need-loop-holds Inv-loop μ-loop
+loop-holds c = (omega arith, rows-fit _ _ (c .pre), refl, halve-start _ _ (c .pre))
+
+-- src/lib.rt:103:18
+mul-at : tie.Need-mul-at Inv-loop μ-loop
+mul-at c = search needs
+
+-- src/lib.rt:103:18
+add-at : tie.Need-add-at Inv-loop μ-loop
+add-at c = search needs
+
+-- src/lib.rt:104:21
+mul-slots : tie.Need-mul-slots Inv-loop μ-loop
+mul-slots c = search needs
+
+-- src/lib.rt:104:21
+slice-read-slots : tie.Need-slice-read-slots Inv-loop μ-loop
+slice-read-slots c = omega arith
+
+-- src/lib.rt:104:9
+mul-slots-2 : tie.Need-mul-slots-2 Inv-loop μ-loop
+mul-slots-2 c = search needs
+
+-- src/lib.rt:104:9
+slice-write-slots : tie.Need-slice-write-slots Inv-loop μ-loop
+slice-write-slots c = omega arith
+
+-- src/lib.rt:105:9
+add-i : tie.Need-add-i Inv-loop μ-loop
+add-i c = search needs
+
+-- src/lib.rt:102:5
+loop-less : tie.Need-loop-less Inv-loop μ-loop
+loop-less c = search needs
+
+-- src/lib.rt:102:5
+loop-again : tie.Need-loop-again Inv-loop μ-loop
+loop-again c =
+    let t = c .before .before in
+    (omega arith, simp length-set (omega arith), simp length-set (t .loop .inv .2),
+    halve-step _ _ (t .before .pre) (t .loop .i) (t .loop .slots) (omega arith) (t .loop .inv .3))
+
+-- src/lib.rt:97:1
+same-length : tie.Need-same-length Inv-loop μ-loop
+same-length c = c .before .loop .inv .2
+
+-- src/lib.rt:97:1
+returns : tie.Need-returns Inv-loop μ-loop
+returns c =
+    let t = c .before in
+    let e : t .loop .i ≡ t .before .args .rows = omega arith in
+    t .loop .inv .3 ∙ halve-end _ _ (t .before .pre) (t .loop .i) e
+
+pub halve-spec : {M : Type 1} → statement M
+halve-spec =
+    tie.close
+    (tie.spec
+    Inv-loop
+    μ-loop
+    loop-holds
+    mul-at
+    add-at
+    mul-slots
+    slice-read-slots
+    mul-slots-2
+    slice-write-slots
+    add-i
+    loop-less
+    loop-again
+    same-length
+    returns)

@@ -1,0 +1,58 @@
+use borrow.Author.Needs.{needs}
+use native.Mathlib.Omega.{arith}
+use mathlib.Core.Path.{_≡_, refl, sym, _∙_, ap}
+use Prim.Native.Nat.{ℕ, _*_, _-_, _≤_, _<_}
+use lib.ListN.{length, getD, drop}
+use Rattle.model.specs.Slots.{entriesIn}
+use Rattle.model.specs.Retention.{victimFrom, victim}
+use Rattle.tier.proofs.Buffer.{no-entry, rows-fit}
+use Rattle.tier.proofs.Victims.{victim-start, victim-step, victim-end, lesser-lt}
+use Rattle.tier.proofs.victim.Statement.{statement}
+use Rattle.tier.proofs.victim.Tie as tie
+use Rattle.tier.proofs.victim.Reads as reads
+use Rattle.tier.proofs.victim.Lts as lts
+use Rattle.tier.proofs.lesser.Reads as lesser-reads
+
+abbrev Inv-loop : tie.InvT-loop
+Inv-loop slots rows at₀ i₀ at i =
+    (at < rows) × (i ≤ rows) × (168 * rows ≤ length slots)
+    × (victimFrom at (getD (entriesIn rows slots) at no-entry) i (drop i (entriesIn rows slots)) ≡ victim (entriesIn rows slots))
+
+abbrev μ-loop : tie.MeasureT-loop
+μ-loop slots rows at₀ i₀ at i = rows - i
+
+-- src/lib.rt:91:5
+loop-holds : tie.Need-loop-holds Inv-loop μ-loop
+loop-holds c = (omega arith, omega arith, rows-fit _ _ (c .before .pre .0), victim-start _ _ (c .before .pre .0) (omega arith))
+
+-- src/lib.rt:92:9
+lesser-requires : tie.Need-lesser-requires Inv-loop μ-loop
+lesser-requires c κs = search needs
+
+-- src/lib.rt:93:9
+add-i : tie.Need-add-i Inv-loop μ-loop
+add-i c = search needs
+
+-- src/lib.rt:91:5
+loop-less : tie.Need-loop-less Inv-loop μ-loop
+loop-less c = search needs
+
+-- src/lib.rt:91:5
+loop-again : tie.Need-loop-again Inv-loop μ-loop
+loop-again c =
+    let t = c .before .before in
+    let k = t .before .before .pre .0 in
+    let e = c .lesser .ensures in
+    (rw e (lesser-lt _ _ k (t .loop .at) (t .loop .i) (omega arith) (omega arith)), omega arith, t .loop .inv .2,
+    rw e (victim-step _ _ k (t .loop .at) (t .loop .i) (omega arith) (omega arith) ∙ t .loop .inv .3))
+
+-- src/lib.rt:85:1
+returns : tie.Need-returns Inv-loop μ-loop
+returns c =
+    let t = c .before in
+    sym (victim-end _ _ (t .before .before .pre .0) (t .loop .at) (t .loop .i) (omega arith)) ∙ t .loop .inv .3
+
+pub victim-spec : {M : Type 1} → statement M
+victim-spec =
+    tie.close
+    (tie.spec Inv-loop μ-loop loop-holds lesser-requires add-i loop-less loop-again returns)

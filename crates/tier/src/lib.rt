@@ -1,0 +1,158 @@
+// The slots of a tier as one buffer: the numbers of a row changed in place, the victim, hits halved, places closed up.
+ghost use mathlib.Core.Path.{_≡_};
+ghost use mathlib.Core.List.{_++_};
+ghost use Prim.Native.Nat.{_+_, _-_, _*_, _<_, _≤_};
+ghost use lib.ListN.{length, take, drop, replicate};
+ghost use Rattle.words.specs.Region.{has};
+ghost use Rattle.model.specs.Records.{slotWords, plus};
+ghost use Rattle.model.specs.Slots.{slotsOf, entriesIn};
+ghost use Rattle.model.specs.Retention.{victim as victimOf, halved};
+ghost use Rattle.tier.specs.Tier.{tierOf, Held, hitWords, hitsAdded, markedDelivered, sharedOut, lesserOf, moved, keptWords, keptPlace, closedUp};
+
+use lists::fill_zero;
+use words::contains;
+
+const SLOT_WORDS: usize = 168;
+const MOST: u64 = 18446744073709551615;
+
+// The sum, or the greatest number where the sum is beyond it.
+pub fn saturating_add(a: u64, b: u64) -> u64
+    ensures { λ r. ⌜ r ≡ plus a b ⌝ }
+{
+    if MOST - a < b {
+        return MOST;
+    }
+    a + b
+}
+
+// One hit more for the row at `position`, shared with nobody yet.
+pub fn hit(slots: &mut [u64], position: usize)
+    requires { ⌜ slotWords * position + slotWords ≤ length (now slots) ⌝ }
+    ensures { λ _. ⌜ now (slots .exit) ≡ hitWords position (now (slots .entry)) ⌝ }
+{
+    let at = SLOT_WORDS * position;
+    let hits = saturating_add(slots[at + 4], 1);
+    let unshared = saturating_add(slots[at + 5], 1);
+    slots[at + 4] = hits;
+    slots[at + 5] = unshared;
+}
+
+// `hits` hits more for the row at `position`.
+pub fn add_hits(slots: &mut [u64], position: usize, hits: u64)
+    requires { ⌜ slotWords * position + slotWords ≤ length (now slots) ⌝ }
+    ensures { λ _. ⌜ now (slots .exit) ≡ hitsAdded position hits (now (slots .entry)) ⌝ }
+{
+    let at = SLOT_WORDS * position;
+    slots[at + 4] = saturating_add(slots[at + 4], hits);
+}
+
+// The row at `position` came from a store: it has nothing to deliver.
+pub fn mark_delivered(slots: &mut [u64], position: usize)
+    requires { ⌜ slotWords * position + slotWords ≤ length (now slots) ⌝ }
+    ensures { λ _. ⌜ now (slots .exit) ≡ markedDelivered position (now (slots .entry)) ⌝ }
+{
+    let at = SLOT_WORDS * position;
+    slots[at + 7] = 1;
+}
+
+// The row at `position` is delivered, and so are its hits.
+pub fn share_out(slots: &mut [u64], position: usize)
+    requires { ⌜ slotWords * position + slotWords ≤ length (now slots) ⌝ }
+    ensures { λ _. ⌜ now (slots .exit) ≡ sharedOut position (now (slots .entry)) ⌝ }
+{
+    let at = SLOT_WORDS * position;
+    slots[at + 5] = 0;
+    slots[at + 7] = 1;
+}
+
+// The position with the less (hits, born) of two; the first where they are equal.
+fn lesser(slots: &[u64], at: usize, i: usize) -> usize
+    requires { ⌜ slotWords * at + slotWords ≤ length (now slots) ⌝ ∗ ⌜ slotWords * i + slotWords ≤ length (now slots) ⌝ }
+    ensures { λ r. ⌜ r ≡ lesserOf (now (slots .entry)) at i ⌝ }
+{
+    let a = SLOT_WORDS * at;
+    let b = SLOT_WORDS * i;
+    if slots[b + 4] < slots[a + 4] {
+        return i;
+    }
+    if slots[a + 4] < slots[b + 4] {
+        return at;
+    }
+    if slots[b + 6] < slots[a + 6] {
+        return i;
+    }
+    at
+}
+
+// The row that a full tier gives up: the least (hits, born), the first on ties.
+pub fn victim(slots: &[u64], rows: usize) -> usize
+    requires { ⌜ Held rows (now slots) ⌝ ∗ ⌜ 0 < rows ⌝ }
+    ensures { λ r. ⌜ r ≡ victimOf (entriesIn rows (now (slots .entry))) ⌝ }
+{
+    let mut at: usize = 0;
+    let mut i: usize = 1;
+    while i < rows {
+        at = lesser(slots, at, i);
+        i += 1;
+    }
+    at
+}
+
+// All hits halved.
+pub fn halve(slots: &mut [u64], rows: usize)
+    requires { ⌜ Held rows (now slots) ⌝ }
+    ensures { λ _. ⌜ now (slots .exit) ≡ slotsOf (tierOf (now (slots .entry))) (halved (entriesIn rows (now (slots .entry)))) ⌝ }
+{
+    let mut i: usize = 0;
+    while i < rows {
+        let at = SLOT_WORDS * i + 4;
+        slots[at] = slots[at] / 2;
+        i += 1;
+    }
+}
+
+// The slot at `from` copied down to `to`.
+fn move_slot(slots: &mut [u64], from: usize, to: usize)
+    requires { ⌜ to ≤ from ⌝ ∗ ⌜ slotWords * from + slotWords ≤ length (now slots) ⌝ }
+    ensures { λ _. ⌜ now (slots .exit) ≡ moved from to (now (slots .entry)) ⌝ }
+{
+    let a = SLOT_WORDS * to;
+    let b = SLOT_WORDS * from;
+    let mut i: usize = 0;
+    while i < SLOT_WORDS {
+        slots[a + i] = slots[b + i];
+        i += 1;
+    }
+}
+
+// The slot at `from` copied down to `to` unless it is marked; the place after it.
+fn keep(slots: &mut [u64], from: usize, to: usize, replaced: &[u64]) -> usize
+    requires { ⌜ to ≤ from ⌝ ∗ ⌜ slotWords * from + slotWords ≤ length (now slots) ⌝ }
+    ensures { λ r. ⌜ (now (slots .exit) ≡ keptWords (has (now (replaced .entry)) from) from to (now (slots .entry))) × (r ≡ keptPlace (has (now (replaced .entry)) from) to) ⌝ }
+{
+    if contains(replaced, from as u64) {
+        return to;
+    }
+    move_slot(slots, from, to);
+    to + 1
+}
+
+// The rows after `first` that are not marked close up, and the places freed become zero; how many rows there are then.
+pub fn close_up(slots: &mut [u64], rows: usize, first: usize, replaced: &[u64]) -> usize
+    requires { ⌜ Held rows (now slots) ⌝ ∗ ⌜ first < rows ⌝ }
+    ensures {
+        λ r. ⌜ (now (slots .exit) ≡ slotsOf (tierOf (now (slots .entry))) (closedUp (has (now (replaced .entry))) first (entriesIn rows (now (slots .entry)))))
+            × (r ≡ length (closedUp (has (now (replaced .entry))) first (entriesIn rows (now (slots .entry))))) ⌝
+    }
+{
+    let mut to = first + 1;
+    let mut i = first + 1;
+    while i < rows {
+        to = keep(slots, i, to, replaced);
+        i += 1;
+    }
+    let a = SLOT_WORDS * to;
+    let e = SLOT_WORDS * rows;
+    fill_zero(&mut slots[a..e]);
+    to
+}
