@@ -13,9 +13,12 @@ use borrow.Author.Tests.{eq-eqb, ne-eqb, eqb-true, eqb-false}
 use Rattle.lists.specs.Lists.{all, below, ascending, above}
 use Rattle.words.specs.Bit.{testBit}
 use Rattle.words.specs.Literal.{atom, isPresent, opposite, wordOf, bitOf}
-use Rattle.words.specs.Region.{atomsOk, has, mark, Region, holds, markLiteral, wordsFor, isRegion}
+use Rattle.words.specs.Region.{atomsOk, has, Region, holds, contradicts, markLiteral, wordsFor, isRegion}
 use Rattle.words.proofs.Bits.{bit-zero}
-use Rattle.words.proofs.Regions.{or-false, has-mark, length-mark, words-mark, Words, Set, Sound, region-test}
+use Rattle.words.proofs.Bools.{false-of, T-true, T-of}
+use Rattle.words.proofs.Literals.{atom-opposite, present-opposite}
+use Rattle.words.proofs.Regions.{Words, Set, Sound, region-test}
+use Rattle.words.proofs.Deciding.{sound-mark, holds-mark as holds-marked}
 use Rattle.model.specs.Records.{Row, isRowOver}
 use Rattle.model.specs.Priority.{In, Forces, ForceAlike, Gives, Covers}
 use Rattle.model.proofs.Cover.{and-left, and-right, or-split, covers-forces}
@@ -23,13 +26,6 @@ use Rattle.model.proofs.Packing.{Asc, asc-less}
 use Rattle.model.proofs.Slots.{ascending-asc}
 use Rattle.model.proofs.Priority.Retaining.{Alike}
 use Rattle.model.proofs.Priority.Steps.{Over}
-
-T-true : (b : Bool) → T b → b ≡ true
-T-true true t = refl
-T-true false t = absurd t
-
-T-of : {b : Bool} → b ≡ true → T b
-T-of e = subst T (sym e) tt
 
 -- ---- the empty region
 blank : ℕ → Region
@@ -69,123 +65,22 @@ blank-holds n c t = go (isPresent c) t
     go false u = false≢true (sym (has-zero (wordsFor n) (atom c)) ∙ T-true _ u)
 
 -- ---- a literal marked
-in-words : (n c k : ℕ) → k ≡ wordsFor n → c < 2 * n → atom c / 64 < k
-unfolding wordsFor atom
-in-words n c k e h = omega arith
-
-set-mark : (n : ℕ) (ws : List ℕ) (a : ℕ) → Set n ws → a < n → a / 64 < length ws → Set n (mark ws a)
-set-mark n ws a s h l = record {
-  long = length-mark ws a ∙ s .long;
-  words = words-mark ws a (s .words);
-  inside = λ b e. go b (or-split (has ws b) (eqb b a) (T-of (sym (has-mark ws a b l) ∙ e)));
-}
-  where
-    go : (b : ℕ) → T (has ws b) ⊎ T (eqb b a) → b < n
-    go b (inl t) = s .inside b (T-true (has ws b) t)
-    go b (inr t) = subst (λ (x : ℕ). x < n) (sym (eqb→eq b a t)) h
-
 pub half-lt : (n c : ℕ) → c < 2 * n → atom c < n
 unfolding atom
 half-lt n c h = omega arith
 
--- the marked atom, and the others
-mark-split : (ws : List ℕ) (a b : ℕ) → a / 64 < length ws → has (mark ws a) b ≡ true → (b ≡ a) ⊎ (has ws b ≡ true)
-mark-split ws a b l e = go (or-split (has ws b) (eqb b a) (T-of (sym (has-mark ws a b l) ∙ e)))
-  where
-    go : T (has ws b) ⊎ T (eqb b a) → (b ≡ a) ⊎ (has ws b ≡ true)
-    go (inl t) = inr (T-true (has ws b) t)
-    go (inr t) = inl (eqb→eq b a t)
-
 pub opposite-present : (c : ℕ) → isPresent c ≡ true → (isPresent (opposite c) ≡ false) × (atom (opposite c) ≡ atom c)
-unfolding isPresent opposite atom
-opposite-present c p =
-    let e : c % 2 ≡ 1 = eqb-true (c % 2) 1 p in
-    let q : (elim (eqb (c % 2) 1) as (λ k. ℕ) [ true ↦ c - 1 | false ↦ c + 1 ]) ≡ c - 1 = ap (λ (b : Bool). elim b as (λ k. ℕ) [ true ↦ c - 1 | false ↦ c + 1 ]) p in
-    (ap (λ (x : ℕ). eqb (x % 2) 1) q ∙ ne-eqb ((c - 1) % 2) 1 (λ f. omega arith), ap (λ (x : ℕ). x / 2) q ∙ (omega arith))
+opposite-present c p = (present-opposite c ∙ ap not p, atom-opposite c)
 
 pub opposite-absent : (c : ℕ) → isPresent c ≡ false → (isPresent (opposite c) ≡ true) × (atom (opposite c) ≡ atom c)
-unfolding isPresent opposite atom
-opposite-absent c p =
-    let e : (c % 2 ≡ 1 → ⊥) = eqb-false (c % 2) 1 p in
-    let q : (elim (eqb (c % 2) 1) as (λ k. ℕ) [ true ↦ c - 1 | false ↦ c + 1 ]) ≡ c + 1 = ap (λ (b : Bool). elim b as (λ k. ℕ) [ true ↦ c - 1 | false ↦ c + 1 ]) p in
-    (ap (λ (x : ℕ). eqb (x % 2) 1) q ∙ eq-eqb ((c + 1) % 2) 1 (omega arith), ap (λ (x : ℕ). x / 2) q ∙ (omega arith))
-
-free-of : (r : Region) (c : ℕ) → (T (holds r (opposite c)) → ⊥) → (isPresent c ≡ true → has (r .cut) (atom c) ≡ true → ⊥) × (isPresent c ≡ false → has (r .held) (atom c) ≡ true → ⊥)
-unfolding holds
-free-of r c f = (
-  λ p e. f (T-of (ap (λ (b : Bool). elim b as (λ k. Bool) [ true ↦ has (r .held) (atom (opposite c)) | false ↦ has (r .cut) (atom (opposite c)) ]) (opposite-present c p .0) ∙ ap (has (r .cut)) (opposite-present c p .1) ∙ e)),
-  λ p e. f (T-of (ap (λ (b : Bool). elim b as (λ k. Bool) [ true ↦ has (r .held) (atom (opposite c)) | false ↦ has (r .cut) (atom (opposite c)) ]) (opposite-absent c p .0) ∙ ap (has (r .held)) (opposite-absent c p .1) ∙ e)),
-)
+opposite-absent c p = (present-opposite c ∙ ap not p, atom-opposite c)
 
 pub mark-sound : (n : ℕ) (r : Region) (c : ℕ) → Sound n r → c < 2 * n → (T (holds r (opposite c)) → ⊥) → Sound n (markLiteral r c)
-unfolding markLiteral
-mark-sound n r c s h free = go (isPresent c) (free-of r c free .0) (free-of r c free .1)
-  where
-    lh : atom c / 64 < length (r .held)
-    lh = in-words n c (length (r .held)) (s .held .long) h
-
-    lc : atom c / 64 < length (r .cut)
-    lc = in-words n c (length (r .cut)) (s .cut .long) h
-
-    go : (b : Bool) → (b ≡ true → has (r .cut) (atom c) ≡ true → ⊥) → (b ≡ false → has (r .held) (atom c) ≡ true → ⊥)
-        → Sound n (elim b as (λ k. Region) [ true ↦ record { held = mark (r .held) (atom c); cut = r .cut } | false ↦ record { held = r .held; cut = mark (r .cut) (atom c) } ])
-    go true f g = record {
-      held = set-mark n (r .held) (atom c) (s .held) (half-lt n c h) lh;
-      cut = s .cut;
-      apart = λ a p q. split-held a q (mark-split (r .held) (atom c) a lh p);
-    }
-      where
-        split-held : (a : ℕ) → has (r .cut) a ≡ true → (a ≡ atom c) ⊎ (has (r .held) a ≡ true) → ⊥
-        split-held a q (inl e) = f refl (ap (has (r .cut)) (sym e) ∙ q)
-        split-held a q (inr p) = s .apart a p q
-    go false f g = record {
-      held = s .held;
-      cut = set-mark n (r .cut) (atom c) (s .cut) (half-lt n c h) lc;
-      apart = λ a p q. split-cut a p (mark-split (r .cut) (atom c) a lc q);
-    }
-      where
-        split-cut : (a : ℕ) → has (r .held) a ≡ true → (a ≡ atom c) ⊎ (has (r .cut) a ≡ true) → ⊥
-        split-cut a p (inl e) = g refl (ap (has (r .held)) (sym e) ∙ p)
-        split-cut a p (inr q) = s .apart a p q
-
--- ---- the literals after a mark
-same-atom : (c d : ℕ) → isPresent d ≡ isPresent c → eqb (atom d) (atom c) ≡ eqb d c
-unfolding isPresent atom
-same-atom c d e = go (ℕ-discrete d c)
-  where
-    sign : Dec (d % 2 ≡ 1) → Dec (c % 2 ≡ 1) → d % 2 ≡ c % 2
-    sign (yes p) (yes q) = p ∙ sym q
-    sign (no p) (no q) = omega arith
-    sign (yes p) (no q) = absurd (true≢false (sym (eq-eqb (d % 2) 1 p) ∙ e ∙ ne-eqb (c % 2) 1 q))
-    sign (no p) (yes q) = absurd (false≢true (sym (ne-eqb (d % 2) 1 p) ∙ e ∙ eq-eqb (c % 2) 1 q))
-
-    go : Dec (d ≡ c) → eqb (d / 2) (c / 2) ≡ eqb d c
-    go (yes q) = eq-eqb (d / 2) (c / 2) (ap (λ (x : ℕ). x / 2) q) ∙ sym (eq-eqb d c q)
-    go (no f) = ne-eqb (d / 2) (c / 2) (λ h. f (let k = sign (ℕ-discrete (d % 2) 1) (ℕ-discrete (c % 2) 1) in omega arith)) ∙ sym (ne-eqb d c f)
-
-other-sign : (c d : ℕ) → (isPresent d ≡ isPresent c → ⊥) → eqb d c ≡ false
-other-sign c d f = ne-eqb d c (λ e. f (ap isPresent e))
+unfolding contradicts
+mark-sound n r c s h free = sound-mark n r c s (half-lt n c h) (false-of (contradicts r c) (λ e. free (T-of e)))
 
 pub holds-mark : (n : ℕ) (r : Region) (c d : ℕ) → Sound n r → c < 2 * n → holds (markLiteral r c) d ≡ (holds r d || eqb d c)
-unfolding holds markLiteral
-holds-mark n r c d s h = go (isPresent c) (isPresent d) refl refl
-  where
-    lh : atom c / 64 < length (r .held)
-    lh = in-words n c (length (r .held)) (s .held .long) h
-
-    lc : atom c / 64 < length (r .cut)
-    lc = in-words n c (length (r .cut)) (s .cut .long) h
-
-    after : Bool → Region
-    after x = elim x [ true ↦ record { held = mark (r .held) (atom c); cut = r .cut } | false ↦ record { held = r .held; cut = mark (r .cut) (atom c) } ]
-
-    go : (x y : Bool) → isPresent c ≡ x → isPresent d ≡ y
-        → (elim y as (λ k. Bool) [ true ↦ has (after x .held) (atom d) | false ↦ has (after x .cut) (atom d) ])
-        ≡ ((elim y as (λ k. Bool) [ true ↦ has (r .held) (atom d) | false ↦ has (r .cut) (atom d) ]) || eqb d c)
-    go true true p q = has-mark (r .held) (atom c) (atom d) lh ∙ ap (λ (b : Bool). has (r .held) (atom d) || b) (same-atom c d (q ∙ sym p))
-    go true false p q = sym (ap (λ (b : Bool). has (r .cut) (atom d) || b) (other-sign c d (λ e. false≢true (sym q ∙ e ∙ p))) ∙ or-false (has (r .cut) (atom d)))
-    go false true p q = sym (ap (λ (b : Bool). has (r .held) (atom d) || b) (other-sign c d (λ e. true≢false (sym q ∙ e ∙ p))) ∙ or-false (has (r .held) (atom d)))
-    go false false p q = has-mark (r .cut) (atom c) (atom d) lc ∙ ap (λ (b : Bool). has (r .cut) (atom d) || b) (same-atom c d (q ∙ sym p))
+holds-mark n r c d s h = holds-marked n r c d s (half-lt n c h)
 
 -- ---- the region of a list of literals
 pub regionOf : ℕ → List ℕ → Region
@@ -203,11 +98,7 @@ pub record Of (n : ℕ) (cs : List ℕ) (r : Region) : Type 0 where
   pub each : (x : ℕ) → In x cs → T (holds r x)
 
 pub opposite-atom : (c : ℕ) → atom (opposite c) ≡ atom c
-opposite-atom c = go (isPresent c) refl
-  where
-    go : (b : Bool) → isPresent c ≡ b → atom (opposite c) ≡ atom c
-    go true p = opposite-present c p .1
-    go false p = opposite-absent c p .1
+opposite-atom c = atom-opposite c
 
 or-left : (a b : Bool) → T a → T (a || b)
 or-left true b t = tt

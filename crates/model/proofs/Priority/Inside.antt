@@ -50,7 +50,9 @@ use Prim.Native.Nat.{zero-le}
 use Rattle.lists.specs.Lists.{any, select, concat}
 use Rattle.words.specs.Literal.{isPresent, opposite, wordOf}
 use Rattle.words.specs.Region.{has, holds, contradicts, markLiteral, isRegion}
+pub use Rattle.words.proofs.Bools.{T-true, T-of}
 use Rattle.words.proofs.Regions.{Set, Sound, sound-of, region-test}
+use Rattle.words.proofs.Deciding.{sound-apart, sound-inside}
 use Rattle.model.specs.Rows.{groups, packed}
 use Rattle.model.specs.Slots.{indexOf, bitsOf, codesOf}
 use Rattle.model.specs.Deduction.{failing, contradicted, deduceFrom, published, startCursor, scalarNext, pending, loaded, givenOut, give, packedNext}
@@ -62,32 +64,13 @@ use Rattle.model.proofs.Priority.Cursors.{Good, Gives as Given, start-g
 use Rattle.model.proofs.Priority.Quiet.{adjust-rows, hit-row, search-ok, TurnSame}
 use Rattle.model.proofs.Priority.Closed.{Requires, Saying, says, failing-in, failing-has, contradicted-in, in-contradicted, unfold-con, force-all, require-one, single}
 
-pub T-true : (b : Bool) → T b → b ≡ true
-T-true true t = refl
-T-true false t = absurd t
-
-pub T-of : {b : Bool} → b ≡ true → T b
-T-of e = subst T (sym e) tt
-
 -- ---- a sound region has no literal with its opposite, and none at n atoms or above
 pub no-both : (n : ℕ) (r : Region) → Sound n r → (x : ℕ) → T (holds r x) → T (holds r (opposite x)) → ⊥
-unfolding holds
-no-both n r s x t u = go (isPresent x) refl t
-  where
-    other : (b : Bool) → isPresent (opposite x) ≡ b → T (elim b [ true ↦ has (r .held) (atom (opposite x)) | false ↦ has (r .cut) (atom (opposite x)) ])
-    other b e = subst (λ (y : Bool). T (elim y [ true ↦ has (r .held) (atom (opposite x)) | false ↦ has (r .cut) (atom (opposite x)) ])) e u
-
-    go : (b : Bool) → isPresent x ≡ b → T (elim b [ true ↦ has (r .held) (atom x) | false ↦ has (r .cut) (atom x) ]) → ⊥
-    go true e v = let q = opposite-present x e in s .apart (atom x) (T-true _ v) (ap (has (r .cut)) (sym (q .1)) ∙ T-true _ (other false (q .0)))
-    go false e v = let q = opposite-absent x e in s .apart (atom x) (ap (has (r .held)) (sym (q .1)) ∙ T-true _ (other true (q .0))) (T-true _ v)
+unfolding contradicts
+no-both n r s x t u = true≢false (sym (T-true (holds r (opposite x)) u) ∙ sound-apart n r x s (T-true (holds r x) t))
 
 pub holds-in : (n : ℕ) (r : Region) → Sound n r → (x : ℕ) → T (holds r x) → atom x < n
-unfolding holds
-holds-in n r s x t = go (isPresent x) t
-  where
-    go : (b : Bool) → T (elim b [ true ↦ has (r .held) (atom x) | false ↦ has (r .cut) (atom x) ]) → atom x < n
-    go true v = s .held .inside (atom x) (T-true _ v)
-    go false v = s .cut .inside (atom x) (T-true _ v)
+holds-in n r s x t = sound-inside n r x s (T-true (holds r x) t)
 
 pub double : (n c : ℕ) → atom c < n → c < 2 * n
 unfolding atom

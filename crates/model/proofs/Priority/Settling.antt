@@ -9,6 +9,7 @@ use lib.Dec.{T}
 use Rattle.lists.specs.Lists.{select}
 use Rattle.words.specs.Literal.{atom, isPresent, opposite}
 use Rattle.words.specs.Region.{Region, has, holds, contradicts, decided}
+pub use Rattle.words.proofs.Deciding.{holds-present, holds-absent}
 use Rattle.words.proofs.Regions.{Sound}
 use Rattle.model.specs.declared.Deduction.{Deduction}
 use Rattle.model.specs.declared.Deduction.the-variants.{Nothing, Force}
@@ -28,14 +29,6 @@ abbrev pub Quiet : Row → Region → Region → Type 0
 Quiet s r q = (x : ℕ) → In x (s .conditions) ⊎ In x (s .outputs) → T (decided q (atom x)) → T (decided r (atom x))
 
 -- ---- an atom is decided exactly if one of its literals holds
-pub holds-present : (r : Region) (x : ℕ) → isPresent x ≡ true → holds r x ≡ has (r .held) (atom x)
-unfolding holds
-holds-present r x e = ap (λ (b : Bool). elim b as (λ k. Bool) [ true ↦ has (r .held) (atom x) | false ↦ has (r .cut) (atom x) ]) e
-
-pub holds-absent : (r : Region) (x : ℕ) → isPresent x ≡ false → holds r x ≡ has (r .cut) (atom x)
-unfolding holds
-holds-absent r x e = ap (λ (b : Bool). elim b as (λ k. Bool) [ true ↦ has (r .held) (atom x) | false ↦ has (r .cut) (atom x) ]) e
-
 pub decided-of : (r : Region) (x : ℕ) → T (holds r x) → T (decided r (atom x))
 unfolding holds decided
 decided-of r x t = go (isPresent x) (has (r .held) (atom x)) (has (r .cut) (atom x)) t

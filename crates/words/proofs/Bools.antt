@@ -1,0 +1,61 @@
+-- What `&&` and `||` say of their two sides. Assumes nothing.
+use mathlib.Core.Path.{_≡_, refl, sym, _∙_, subst}
+use mathlib.Core.Bool.{Bool, true, false, not, _&&_, _||_, true≢false, false≢true}
+use lib.Dec.{T}
+
+-- ---- both, and not both
+pub and-both : (x y : Bool) → (x && y) ≡ true → (x ≡ true) × (y ≡ true)
+and-both true y e = (refl, e)
+and-both false y e = absurd (false≢true e)
+
+pub both-and : (x y : Bool) → x ≡ true → y ≡ true → (x && y) ≡ true
+both-and true y p q = q
+both-and false y p q = p
+
+pub and-first : (x y : Bool) → (x && y) ≡ false → x ≡ true → y ≡ false
+and-first true y e p = e
+and-first false y e p = absurd (false≢true p)
+
+pub and-second : (x y : Bool) → (x && y) ≡ false → y ≡ true → x ≡ false
+and-second true y e p = absurd (true≢false (sym p ∙ e))
+and-second false y e p = refl
+
+pub not-both : (x y : Bool) → (x ≡ true → y ≡ true → ⊥) → (x && y) ≡ false
+not-both true true f = absurd (f refl refl)
+not-both true false f = refl
+not-both false y f = refl
+
+pub and-not-both : (x y : Bool) → (x && not y) ≡ true → (x ≡ true) × (y ≡ false)
+and-not-both true true e = absurd (false≢true e)
+and-not-both true false e = (refl, refl)
+and-not-both false y e = absurd (false≢true e)
+
+-- ---- neither, and the one that is left
+pub or-none : (x y : Bool) → (x || y) ≡ false → (x ≡ false) × (y ≡ false)
+or-none true y e = absurd (true≢false e)
+or-none false y e = (refl, e)
+
+pub or-left : (x y : Bool) → (x || y) ≡ true → y ≡ false → x ≡ true
+or-left true y e p = refl
+or-left false y e p = absurd (true≢false (sym e ∙ p))
+
+pub or-right : (x y : Bool) → (x || y) ≡ true → x ≡ false → y ≡ true
+or-right true y e p = absurd (true≢false p)
+or-right false y e p = e
+
+-- ---- the other value
+pub false-of : (x : Bool) → (x ≡ true → ⊥) → x ≡ false
+false-of true f = absurd (f refl)
+false-of false f = refl
+
+pub true-of : (x : Bool) → (x ≡ false → ⊥) → x ≡ true
+true-of true f = refl
+true-of false f = absurd (f refl)
+
+-- ---- a test as a fact, and back
+pub T-true : (x : Bool) → T x → x ≡ true
+T-true true t = refl
+T-true false t = absurd t
+
+pub T-of : {x : Bool} → x ≡ true → T x
+T-of e = subst T (sym e) tt

@@ -1,0 +1,268 @@
+-- Literals on a region: `holds`, `contradicts` and `decide`, by atom and sign. Assumes nothing.
+use mathlib.Core.Path.{_≡_, refl, sym, ap, _∙_, subst}
+use mathlib.Core.Logic.{_⊎_, inl, inr}
+use mathlib.Core.Bool.{Bool, true, false, not, _&&_, _||_, true≢false, false≢true, and-false, or-false}
+use mathlib.Core.List.{List}
+use mathlib.Core.Option.{Option, none, some}
+use Prim.Native.Nat.{ℕ, _+_, _*_, _/_, _%_, _≤_, _<_}
+use native.Mathlib.Decide.{ℕ-discrete}
+use native.Mathlib.Omega.{arith}
+use lib.ListN.{length, getD}
+use lib.Dec.{eqb, ltb}
+use borrow.Author.Tests.{eq-eqb, ne-eqb, lt-ltb, le-ltb, ltb-true, not-true}
+use Rattle.words.specs.Bit.{testBit}
+use Rattle.words.specs.Literal.{atom, isPresent, code, opposite, wordOf}
+use Rattle.words.specs.Region.{has, mark, Region, region, holds, contradicts, markLiteral, decide, Decision, decision, decisionOn, answered, wordsFor}
+use Rattle.words.proofs.Bools.{and-both, false-of, or-left}
+use Rattle.words.proofs.Literals.{atom-code, present-code, same-sign, other-sign, opposite-code, atom-opposite, present-opposite}
+use Rattle.words.proofs.Regions.{Set, Sound, has-mark, length-mark, words-mark, at-place}
+
+-- ---- the side that a literal asks
+module _ (r : Region) (c : ℕ) where
+  pub holds-present : isPresent c ≡ true → holds r c ≡ has (r .held) (atom c)
+  unfolding holds
+  holds-present e = rw (e, holds)
+
+  pub holds-absent : isPresent c ≡ false → holds r c ≡ has (r .cut) (atom c)
+  unfolding holds
+  holds-absent e = rw (e, holds)
+
+  pub mark-present : isPresent c ≡ true → markLiteral r c ≡ region (mark (r .held) (atom c)) (r .cut)
+  unfolding markLiteral
+  mark-present e = rw (e, markLiteral)
+
+  pub mark-absent : isPresent c ≡ false → markLiteral r c ≡ region (r .held) (mark (r .cut) (atom c))
+  unfolding markLiteral
+  mark-absent e = rw (e, markLiteral)
+
+module _ (r : Region) (c : ℕ) where
+  pub contradicts-present : isPresent c ≡ true → contradicts r c ≡ has (r .cut) (atom c)
+  unfolding contradicts
+  contradicts-present e = holds-absent r (opposite c) (present-opposite c ∙ ap not e) ∙ ap (has (r .cut)) (atom-opposite c)
+
+  pub contradicts-absent : isPresent c ≡ false → contradicts r c ≡ has (r .held) (atom c)
+  unfolding contradicts
+  contradicts-absent e = holds-present r (opposite c) (present-opposite c ∙ ap not e) ∙ ap (has (r .held)) (atom-opposite c)
+
+  -- ---- the code's tests of a literal
+  pub holds-odd : c % 2 ≡ 1 → has (r .held) (c / 2) ≡ holds r c
+  unfolding isPresent atom
+  holds-odd e = sym (holds-present r c (eq-eqb (c % 2) 1 e))
+
+  pub holds-even : (c % 2 ≡ 1 → ⊥) → has (r .cut) (c / 2) ≡ holds r c
+  unfolding isPresent atom
+  holds-even f = sym (holds-absent r c (ne-eqb (c % 2) 1 f))
+
+  pub contradicts-odd : c % 2 ≡ 1 → has (r .cut) (c / 2) ≡ contradicts r c
+  unfolding isPresent atom
+  contradicts-odd e = sym (contradicts-present (eq-eqb (c % 2) 1 e))
+
+  pub contradicts-even : (c % 2 ≡ 1 → ⊥) → has (r .held) (c / 2) ≡ contradicts r c
+  unfolding isPresent atom
+  contradicts-even f = sym (contradicts-absent (ne-eqb (c % 2) 1 f))
+
+-- ---- the literals of word x at place i
+module _ (r : Region) (x i : ℕ) where
+  pub holds-at-present : i < 64 → holds r (code (x * 64 + i) true) ≡ testBit (getD (r .held) x 0) i
+  holds-at-present l =
+      holds-present r (code (x * 64 + i) true) (present-code (x * 64 + i) true) ∙ ap (has (r .held)) (atom-code (x * 64 + i) true) ∙ at-place (r .held) x i l
+
+  pub holds-at-absent : i < 64 → holds r (code (x * 64 + i) false) ≡ testBit (getD (r .cut) x 0) i
+  holds-at-absent l =
+      holds-absent r (code (x * 64 + i) false) (present-code (x * 64 + i) false) ∙ ap (has (r .cut)) (atom-code (x * 64 + i) false) ∙ at-place (r .cut) x i l
+
+module _ (r : Region) (x i : ℕ) where
+  pub contradicts-at-present : i < 64 → contradicts r (code (x * 64 + i) true) ≡ testBit (getD (r .cut) x 0) i
+  unfolding contradicts
+  contradicts-at-present l = ap (holds r) (opposite-code (x * 64 + i) true) ∙ holds-at-absent r x i l
+
+  pub contradicts-at-absent : i < 64 → contradicts r (code (x * 64 + i) false) ≡ testBit (getD (r .held) x 0) i
+  unfolding contradicts
+  contradicts-at-absent l = ap (holds r) (opposite-code (x * 64 + i) false) ∙ holds-at-present r x i l
+
+-- ---- `decide` by its tests
+module _ (n : ℕ) (r : Region) (c : ℕ) where
+  pub decide-out : n ≤ atom c → decide n r c ≡ none
+  unfolding decide
+  decide-out h = rw (le-ltb (atom c) n h, decide)
+
+  pub decide-against : contradicts r c ≡ true → decide n r c ≡ none
+  unfolding decide
+  decide-against e = rw (e, and-false (ltb (atom c) n), decide)
+
+  pub decide-marks : atom c < n → contradicts r c ≡ false → decide n r c ≡ some (markLiteral r c)
+  unfolding decide
+  decide-marks h e = rw (lt-ltb (atom c) n h, e, decide)
+
+  -- a literal decided: it is in range, its opposite is not marked, and the region has it
+  pub decide-some : (s : Region) → decide n r c ≡ some s → (atom c < n) × (contradicts r c ≡ false) × (s ≡ markLiteral r c)
+  unfolding decide
+  decide-some s e = go (ltb (atom c) n && not (contradicts r c)) refl e
+    where
+      go : (b : Bool) → (ltb (atom c) n && not (contradicts r c)) ≡ b → elim b as (λ k. Option Region) [ true ↦ some (markLiteral r c) | false ↦ none ] ≡ some s
+          → (atom c < n) × (contradicts r c ≡ false) × (s ≡ markLiteral r c)
+      go true t q =
+          let both = and-both (ltb (atom c) n) (not (contradicts r c)) t in
+          (ltb-true (atom c) n (both .0), not-true (contradicts r c) (both .1), cc)
+      go false t q = absurd (let z : _≡_ {A = ℕ} 0 1 = cc in omega arith)
+
+-- ---- the region after a decision
+-- an atom in range has a word
+pub word-inside : (n a k : ℕ) → k ≡ wordsFor n → a < n → wordOf a < k
+unfolding wordsFor wordOf
+word-inside n a k e h = omega arith
+
+marked : (ws : List ℕ) (a b : ℕ) → wordOf a < length ws → has (mark ws a) b ≡ true → (has ws b ≡ true) ⊎ (b ≡ a)
+unfolding wordOf
+marked ws a b l e =
+    elim (ℕ-discrete b a) [
+      | yes q ↦ inr q
+      | no f ↦ inl (or-left (has ws b) (eqb b a) (sym (has-mark ws a b l) ∙ e) (ne-eqb b a f))
+    ]
+
+set-mark : (n : ℕ) (ws : List ℕ) (a : ℕ) → Set n ws → a < n → Set n (mark ws a)
+set-mark n ws a s h = record {
+  long = length-mark ws a ∙ s .long;
+  words = words-mark ws a (s .words);
+  inside = λ b e. go b (marked ws a b (word-inside n a (length ws) (s .long) h) e);
+}
+  where
+    go : (b : ℕ) → (has ws b ≡ true) ⊎ (b ≡ a) → b < n
+    go b (inl t) = s .inside b t
+    go b (inr q) = subst (λ (x : ℕ). x < n) (sym q) h
+
+-- two sets with no common atom, one of them with an atom more that the other lacks
+apart-mark : (n : ℕ) (ws vs : List ℕ) (a : ℕ) → Set n ws → a < n → has vs a ≡ false
+    → ((b : ℕ) → has ws b ≡ true → has vs b ≡ true → ⊥) → (b : ℕ) → has (mark ws a) b ≡ true → has vs b ≡ true → ⊥
+apart-mark n ws vs a s h free f b p q = go (marked ws a b (word-inside n a (length ws) (s .long) h) p)
+  where
+    go : (has ws b ≡ true) ⊎ (b ≡ a) → ⊥
+    go (inl t) = f b t q
+    go (inr e) = false≢true (sym free ∙ ap (has vs) (sym e) ∙ q)
+
+module _ (n : ℕ) (r : Region) (c : ℕ) where
+  pub sound-mark : Sound n r → atom c < n → contradicts r c ≡ false → Sound n (markLiteral r c)
+  sound-mark s h free = go (isPresent c) refl
+    where
+      go : (p : Bool) → isPresent c ≡ p → Sound n (markLiteral r c)
+      go true e =
+          rw (mark-present r c e)
+          (record {
+            held = set-mark n (r .held) (atom c) (s .held) h;
+            cut = s .cut;
+            apart = apart-mark n (r .held) (r .cut) (atom c) (s .held) h (sym (contradicts-present r c e) ∙ free) (s .apart);
+          })
+      go false e =
+          rw (mark-absent r c e)
+          (record {
+            held = s .held;
+            cut = set-mark n (r .cut) (atom c) (s .cut) h;
+            apart = λ b p q. apart-mark n (r .cut) (r .held) (atom c) (s .cut) h (sym (contradicts-absent r c e) ∙ free) (λ d x y. s .apart d y x) b q p;
+          })
+
+  -- it has the literal, and those it had
+  pub holds-mark : (d : ℕ) → Sound n r → atom c < n → holds (markLiteral r c) d ≡ (holds r d || eqb d c)
+  unfolding wordOf
+  holds-mark d s h = go (isPresent c) (isPresent d) refl refl
+    where
+      same : (ws : List ℕ) → Set n ws → isPresent d ≡ isPresent c → has (mark ws (atom c)) (atom d) ≡ (has ws (atom d) || eqb d c)
+      same ws t e =
+          has-mark ws (atom c) (atom d) (word-inside n (atom c) (length ws) (t .long) h) ∙ ap (λ (b : Bool). has ws (atom d) || b) (same-sign d c e)
+
+      other : (isPresent d ≡ isPresent c → ⊥) → holds r d ≡ (holds r d || eqb d c)
+      other f = sym (ap (λ (b : Bool). holds r d || b) (other-sign d c f) ∙ or-false (holds r d))
+
+      go : (x y : Bool) → isPresent c ≡ x → isPresent d ≡ y → holds (markLiteral r c) d ≡ (holds r d || eqb d c)
+      go true true p q =
+          ap (λ (k : Region). holds k d) (mark-present r c p) ∙ holds-present (region (mark (r .held) (atom c)) (r .cut)) d q
+          ∙ same (r .held) (s .held) (q ∙ sym p) ∙ ap (λ (b : Bool). b || eqb d c) (sym (holds-present r d q))
+      go true false p q =
+          ap (λ (k : Region). holds k d) (mark-present r c p) ∙ holds-absent (region (mark (r .held) (atom c)) (r .cut)) d q
+          ∙ sym (holds-absent r d q) ∙ other (λ e. false≢true (sym q ∙ e ∙ p))
+      go false true p q =
+          ap (λ (k : Region). holds k d) (mark-absent r c p) ∙ holds-present (region (r .held) (mark (r .cut) (atom c))) d q
+          ∙ sym (holds-present r d q) ∙ other (λ e. true≢false (sym q ∙ e ∙ p))
+      go false false p q =
+          ap (λ (k : Region). holds k d) (mark-absent r c p) ∙ holds-absent (region (r .held) (mark (r .cut) (atom c))) d q
+          ∙ same (r .cut) (s .cut) (q ∙ sym p) ∙ ap (λ (b : Bool). b || eqb d c) (sym (holds-absent r d q))
+
+  pub sound-decide : (t : Region) → Sound n r → decide n r c ≡ some t → Sound n t
+  sound-decide t s e = let d = decide-some n r c t e in rw (d .2) (sound-mark s (d .0) (d .1))
+
+  -- a literal of a region is of its atoms, and its opposite is not there
+  pub sound-inside : Sound n r → holds r c ≡ true → atom c < n
+  sound-inside s t = go (isPresent c) refl
+    where
+      go : (p : Bool) → isPresent c ≡ p → atom c < n
+      go true e = s .held .inside (atom c) (sym (holds-present r c e) ∙ t)
+      go false e = s .cut .inside (atom c) (sym (holds-absent r c e) ∙ t)
+
+  pub sound-apart : Sound n r → holds r c ≡ true → contradicts r c ≡ false
+  sound-apart s t = go (isPresent c) refl
+    where
+      go : (p : Bool) → isPresent c ≡ p → contradicts r c ≡ false
+      go true e =
+          contradicts-present r c e ∙ false-of (has (r .cut) (atom c)) (λ q. s .apart (atom c) (sym (holds-present r c e) ∙ t) q)
+      go false e =
+          contradicts-absent r c e ∙ false-of (has (r .held) (atom c)) (λ q. s .apart (atom c) q (sym (holds-absent r c e) ∙ t))
+
+-- ---- what the code's answer says
+module _ (n : ℕ) (held cut : List ℕ) (c : ℕ) (b : Bool) (held′ cut′ : List ℕ) where
+  abbrev before : Region
+  before = region held cut
+
+  -- false: there is no decision, and the slices are as they were
+  pub answer-none : answered b held′ cut′ ≡ decisionOn n held cut c → b ≡ false
+      → (decide n (region held cut) c ≡ none) × (held′ ≡ held) × (cut′ ≡ cut)
+  answer-none e f = go (decide n before c) refl
+    where
+      go : (d : Option Region) → decide n before c ≡ d → (decide n before c ≡ none) × (held′ ≡ held) × (cut′ ≡ cut)
+      go none q =
+          let k : answered b held′ cut′ ≡ decision before none = e ∙ ap (decision before) q in
+          (q, ap (λ (x : Decision). x .after .held) k, ap (λ (x : Decision). x .after .cut) k)
+      go (some s) q = absurd (false≢true (sym f ∙ ap (λ (x : Decision). x .answer) (e ∙ ap (decision before) q)))
+
+  -- true: the slices are the region after the decision
+  pub answer-some : answered b held′ cut′ ≡ decisionOn n held cut c → b ≡ true → decide n (region held cut) c ≡ some (region held′ cut′)
+  answer-some e f = go (decide n before c) refl
+    where
+      go : (d : Option Region) → decide n before c ≡ d → decide n before c ≡ some (region held′ cut′)
+      go none q = absurd (true≢false (sym f ∙ ap (λ (x : Decision). x .answer) (e ∙ ap (decision before) q)))
+      go (some s) q = q ∙ ap some (sym (ap (λ (x : Decision). x .after) (e ∙ ap (decision before) q)))
+
+-- ---- the code's ways through `decide`
+module _ (n : ℕ) (held cut : List ℕ) (a : ℕ) (p : Bool) where
+  abbrev start : Region
+  start = region held cut
+
+  against : contradicts start (code a p) ≡ true → answered false held cut ≡ decisionOn n held cut (code a p)
+  against e = sym (ap (decision start) (decide-against n start (code a p) e))
+
+  marks : (s : Region) → a < n → contradicts start (code a p) ≡ false → markLiteral start (code a p) ≡ s
+      → _≡_ {A = Decision} (record { answer = true; after = s }) (decisionOn n held cut (code a p))
+  marks s h e q = sym (ap (decision start) (decide-marks n start (code a p) (rw (atom-code a p) h) e ∙ ap some q))
+
+  opposed-cut : p ≡ true → contradicts start (code a p) ≡ has cut a
+  opposed-cut e = contradicts-present start (code a p) (present-code a p ∙ e) ∙ ap (has cut) (atom-code a p)
+
+  opposed-held : p ≡ false → contradicts start (code a p) ≡ has held a
+  opposed-held e = contradicts-absent start (code a p) (present-code a p ∙ e) ∙ ap (has held) (atom-code a p)
+
+  pub way-out : n ≤ a → answered false held cut ≡ decisionOn n held cut (code a p)
+  way-out h = sym (ap (decision start) (decide-out n start (code a p) (rw (atom-code a p) h)))
+
+  pub way-cut : p ≡ true → has cut a ≡ true → answered false held cut ≡ decisionOn n held cut (code a p)
+  way-cut e t = against (opposed-cut e ∙ t)
+
+  pub way-held : p ≡ false → has held a ≡ true → answered false held cut ≡ decisionOn n held cut (code a p)
+  way-held e t = against (opposed-held e ∙ t)
+
+  pub way-hold : p ≡ true → a < n → has cut a ≡ false → answered true (mark held a) cut ≡ decisionOn n held cut (code a p)
+  way-hold e h t =
+      marks (region (mark held a) cut) h (opposed-cut e ∙ t)
+      (mark-present start (code a p) (present-code a p ∙ e) ∙ ap (λ (x : ℕ). region (mark held x) cut) (atom-code a p))
+
+  pub way-drop : p ≡ false → a < n → has held a ≡ false → answered true held (mark cut a) ≡ decisionOn n held cut (code a p)
+  way-drop e h t =
+      marks (region held (mark cut a)) h (opposed-held e ∙ t)
+      (mark-absent start (code a p) (present-code a p ∙ e) ∙ ap (λ (x : ℕ). region held (mark cut x)) (atom-code a p))

@@ -1,0 +1,65 @@
+-- `words::is_region`: one law for each way out. Assumes nothing.
+use borrow.Author.Needs.{needs}
+use borrow.Author.Tests.{not-true, not-false}
+use mathlib.Core.Path.{sym, _∙_}
+use native.Mathlib.Omega.{arith}
+use Rattle.words.proofs.Testing.{set-length, region-low, region-high, region-held, region-cut, region-both}
+use Rattle.words.specs.Region.{region}
+use Rattle.words.proofs.is_region.Statement.{statement}
+use Rattle.words.proofs.is_region.Tie as tie
+
+returns : tie.Need-returns
+returns c =
+    let s = c .before .before .before .args in
+    let r = region (s .held .now) (s .cut .now) in
+    region-low (s .atoms) r (c .if1 .taken)
+
+returns-2 : tie.Need-returns-2
+returns-2 c =
+    let s = c .before .before .before .before .args in
+    let r = region (s .held .now) (s .cut .now) in
+    region-high (s .atoms) r (c .if2 .taken)
+
+is-set-requires : tie.Need-is-set-requires
+is-set-requires c κs = search needs
+
+returns-3 : tie.Need-returns-3
+returns-3 c =
+    let s = c .before .before .before .before .before .before .args in
+    let r = region (s .held .now) (s .cut .now) in
+    region-held (s .atoms) r (omega arith) (omega arith) (sym (c .before .is-set .ensures) ∙ not-true _ (c .if3 .taken))
+
+is-set-requires-2 : tie.Need-is-set-requires-2
+is-set-requires-2 c κs = search needs
+
+returns-4 : tie.Need-returns-4
+returns-4 c =
+    let s = c .before .before .before .before .before .before .before .before .args in
+    let r = region (s .held .now) (s .cut .now) in
+    region-cut (s .atoms) r (omega arith) (omega arith) (sym (c .before .before .before .is-set .ensures) ∙ not-false _ (c .before .before .if3 .left)) (sym (c .before .is-set2 .ensures) ∙ not-true _ (c .if4 .taken))
+
+is-apart-requires : tie.Need-is-apart-requires
+is-apart-requires c κs =
+    let s = c .before .before .before .before .before .before .before .before .args in
+    set-length (s .atoms) (s .held .now) (sym (c .before .before .before .is-set .ensures) ∙ not-false _ (c .before .before .if3 .left))
+    ∙ sym (set-length (s .atoms) (s .cut .now) (sym (c .before .is-set2 .ensures) ∙ not-false _ (c .if4 .left)))
+
+returns-5 : tie.Need-returns-5
+returns-5 c =
+    let s = c .before .before .before .before .before .before .before .before .before .args in
+    let r = region (s .held .now) (s .cut .now) in
+    c .is-apart .ensures
+    ∙ region-both (s .atoms) r (omega arith) (omega arith) (sym (c .before .before .before .before .is-set .ensures) ∙ not-false _ (c .before .before .before .if3 .left)) (sym (c .before .before .is-set2 .ensures) ∙ not-false _ (c .before .if4 .left))
+
+pub is-region-spec : {M : Type 1} → statement M
+is-region-spec =
+    tie.close
+    (tie.spec
+    returns
+    returns-2
+    is-set-requires
+    returns-3
+    is-set-requires-2
+    returns-4
+    is-apart-requires
+    returns-5)
