@@ -120,12 +120,12 @@ put-slot tier p es e v w h =
     let f : length front ≡ 168 * p = front-length p es v (omega arith) in
     let g : length (front ++ old) ≡ 168 * p + 168 = length-append front old ∙ (let s = slot-length (getD es p e) (valid-at p es e v h) in omega arith) in
     ap₂ (λ (a b : List ℕ). a ++ (slotOf e ++ b))
-      (ap (take (168 * p)) (slots-split tier p es e h) ∙ take-at front _ (168 * p) f)
-      (ap (drop (168 * p + 168)) (slots-split tier p es e h ∙ sym (append-assoc front old back)) ∙ drop-at (front ++ old) back (168 * p + 168) g)
+    (ap (take (168 * p)) (slots-split tier p es e h) ∙ take-at front _ (168 * p) f)
+    (ap (drop (168 * p + 168)) (slots-split tier p es e h ∙ sym (append-assoc front old back)) ∙ drop-at (front ++ old) back (168 * p + 168) g)
     ∙ sym (slots-split tier p (set es p e) e (subst (λ (n : ℕ). p < n) (sym (len-set es p e)) h)
-      ∙ ap₂ (λ (a b : List ℕ). a ++ b) (ap laid (take-set es p e))
-        (ap₂ (λ (a b : List ℕ). a ++ b) (ap slotOf (get-set es p e e h))
-          (ap₂ (λ (a : List ℕ) (n : ℕ). a ++ replicate (168 * tier - n) 0) (ap laid (drop-set es p e)) same)))
+    ∙ ap₂ (λ (a b : List ℕ). a ++ b) (ap laid (take-set es p e))
+    (ap₂ (λ (a b : List ℕ). a ++ b) (ap slotOf (get-set es p e e h))
+    (ap₂ (λ (a : List ℕ) (n : ℕ). a ++ replicate (168 * tier - n) 0) (ap laid (drop-set es p e)) same)))
   where
     same : length (laid (set es p e)) ≡ length (laid es)
     same = laid-length (set es p e) (valid-set p es e v w) ∙ ap (λ (n : ℕ). 168 * n) (len-set es p e) ∙ sym (laid-length es v)
@@ -137,9 +137,9 @@ set-part ws a k v h f =
     ap (λ (l : List ℕ). set l (a + k) v) (sym (take-append-drop a ws))
     ∙ set-later (take a ws) (drop a ws) a k v (length-take-le a ws (omega arith))
     ∙ ap (λ (l : List ℕ). take a ws ++ l)
-      (ap (λ (l : List ℕ). set l k v) (sym (take-append-drop 168 (drop a ws)))
-      ∙ set-append-left (take 168 (drop a ws)) (drop 168 (drop a ws)) k v (let m = length-take 168 (drop a ws) in let n = length-drop a ws in omega arith)
-      ∙ ap (λ (l : List ℕ). set (take 168 (drop a ws)) k v ++ l) (drop-drop 168 a ws))
+    (ap (λ (l : List ℕ). set l k v) (sym (take-append-drop 168 (drop a ws)))
+    ∙ set-append-left (take 168 (drop a ws)) (drop 168 (drop a ws)) k v (let m = length-take 168 (drop a ws) in let n = length-drop a ws in omega arith)
+    ∙ ap (λ (l : List ℕ). set (take 168 (drop a ws)) k v ++ l) (drop-drop 168 a ws))
   where
     set-later : (xs ys : List ℕ) (n k a : ℕ) → length xs ≡ n → set (xs ++ ys) (n + k) a ≡ xs ++ set ys k a
     set-later [] ys n k a e = let q : n + k ≡ k = omega (arith, e) in ap (λ (j : ℕ). set ys j a) q
@@ -170,7 +170,7 @@ set-word tier p k v es d e val w h f l q =
     let n = slots-length tier es val f in
     set-part (slotsOf tier es) (168 * p) k v l (omega arith)
     ∙ ap (λ (x : List ℕ). take (168 * p) (slotsOf tier es) ++ (x ++ drop (168 * p + 168) (slotsOf tier es)))
-        (ap (λ (x : List ℕ). set x k v) (slot-at tier p es d val h) ∙ q)
+    (ap (λ (x : List ℕ). set x k v) (slot-at tier p es d val h) ∙ q)
     ∙ put-slot tier p es e val w h
 
 pub adjust-set : (f : Entry → Entry) (p : ℕ) (es : List Entry) (d : Entry) → p < length es → adjust f p es ≡ set es p (f (getD es p d))
@@ -313,8 +313,8 @@ module _ (rows p : ℕ) (ws : List ℕ) (k : Held rows ws) (l : p < rows) where
       ∙ ap (λ (w : List ℕ). set w (168 * p + 5) y) (hits-set (tierOf ws) p held (f .valid) at (f .room) x)
       ∙ unshared-set (tierOf ws) p es (valid-adjust (λ e. withHits e x) p held (λ e. refl) (f .valid)) (subst (λ (m : ℕ). p < m) (sym n) at) (subst (λ (m : ℕ). m ≤ tierOf ws) (sym n) (f .room)) y
       ∙ ap (slotsOf (tierOf ws)) (adjust-adjust (λ e. withHits e x) (withUnshared y) p held
-        ∙ adjust-own (λ a e. withUnshared y (withHits e (plus a 1))) (λ e. e .hits) p held no-entry at
-        ∙ adjust-own (λ b e. withUnshared (plus b 1) (withHits e (plus (e .hits) 1))) (λ e. e .unshared) p held no-entry at)
+      ∙ adjust-own (λ a e. withUnshared y (withHits e (plus a 1))) (λ e. e .hits) p held no-entry at
+      ∙ adjust-own (λ b e. withUnshared (plus b 1) (withHits e (plus (e .hits) 1))) (λ e. e .unshared) p held no-entry at)
 
   pub hits-added : (n : ℕ) → hitsAdded p n ws ≡ slotsOf (tierOf ws) (adjust (λ e. withHits e (plus (e .hits) n)) p (entriesIn rows ws))
   unfolding hitsAdded

@@ -54,8 +54,8 @@ module _ (f : ℕ → Bool) (tier rows : ℕ) where
       let front : length (laid done ++ gap) ≡ 168 * rows = length-append (laid done) gap ∙ (omega arith) in
       let k : (168 * rows - 168 * length done) + n ≡ 168 * tier - length (laid done) = omega arith in
       ap₂ (λ (x y : List ℕ). x ++ (replicate (168 * rows - 168 * length done) 0 ++ y))
-        (ap (take (168 * length done)) w ∙ take-at (laid done) (gap ++ replicate n 0) (168 * length done) d)
-        (ap (drop (168 * rows)) (w ∙ sym (append-assoc (laid done) gap (replicate n 0))) ∙ drop-at (laid done ++ gap) (replicate n 0) (168 * rows) front)
+      (ap (take (168 * length done)) w ∙ take-at (laid done) (gap ++ replicate n 0) (168 * length done) d)
+      (ap (drop (168 * rows)) (w ∙ sym (append-assoc (laid done) gap (replicate n 0))) ∙ drop-at (laid done ++ gap) (replicate n 0) (168 * rows) front)
       ∙ ap (λ (x : List ℕ). laid done ++ x) (replicate-append-replicate (168 * rows - 168 * length done) n 0 ∙ ap (λ (m : ℕ). replicate m 0) k)
 
   -- the slot after the gap comes down to its front
@@ -68,17 +68,17 @@ module _ (f : ℕ → Bool) (tier rows : ℕ) where
       let d = laid-length done v in
       let s = slot-length e x in
       let a : row-of done gap (e ∷ rest) n ≡ laid done ++ ((gap ++ slotOf e) ++ z)
-            = ap (λ (y : List ℕ). laid done ++ (gap ++ y)) (ap (λ (y : List ℕ). y ++ replicate n 0) (laid-cons e rest) ∙ append-assoc (slotOf e) (laid rest) (replicate n 0))
-              ∙ ap (λ (y : List ℕ). laid done ++ y) (sym (append-assoc gap (slotOf e) z)) in
+      = ap (λ (y : List ℕ). laid done ++ (gap ++ y)) (ap (λ (y : List ℕ). y ++ replicate n 0) (laid-cons e rest) ∙ append-assoc (slotOf e) (laid rest) (replicate n 0))
+      ∙ ap (λ (y : List ℕ). laid done ++ y) (sym (append-assoc gap (slotOf e) z)) in
       let b : laid done ++ ((gap ++ slotOf e) ++ z) ≡ (laid done ++ gap) ++ (slotOf e ++ z)
-            = ap (λ (y : List ℕ). laid done ++ y) (append-assoc gap (slotOf e) z) ∙ sym (append-assoc (laid done) gap (slotOf e ++ z)) in
+      = ap (λ (y : List ℕ). laid done ++ y) (append-assoc gap (slotOf e) z) ∙ sym (append-assoc (laid done) gap (slotOf e ++ z)) in
       let p : length (laid done ++ gap) ≡ 168 * i = length-append (laid done) gap ∙ (omega arith) in
       let q : 168 ≤ length (gap ++ slotOf e) = let m = length-append gap (slotOf e) in omega arith in
       ap₂ (λ (y u : List ℕ). y ++ u) (ap (take (168 * length done)) a ∙ take-at (laid done) ((gap ++ slotOf e) ++ z) (168 * length done) d)
-        (ap₂ (λ (y u : List ℕ). y ++ u)
-          (ap (λ (y : List ℕ). take 168 (drop (168 * i) y)) (a ∙ b) ∙ ap (take 168) (drop-at (laid done ++ gap) (slotOf e ++ z) (168 * i) p) ∙ take-at (slotOf e) z 168 s)
-          (ap (drop (168 * length done + 168)) a ∙ sym (drop-drop 168 (168 * length done) (laid done ++ ((gap ++ slotOf e) ++ z)))
-            ∙ ap (drop 168) (drop-at (laid done) ((gap ++ slotOf e) ++ z) (168 * length done) d) ∙ drop-append-le 168 (gap ++ slotOf e) z q))
+      (ap₂ (λ (y u : List ℕ). y ++ u)
+      (ap (λ (y : List ℕ). take 168 (drop (168 * i) y)) (a ∙ b) ∙ ap (take 168) (drop-at (laid done ++ gap) (slotOf e ++ z) (168 * i) p) ∙ take-at (slotOf e) z 168 s)
+      (ap (drop (168 * length done + 168)) a ∙ sym (drop-drop 168 (168 * length done) (laid done ++ ((gap ++ slotOf e) ++ z)))
+      ∙ ap (drop 168) (drop-at (laid done) ((gap ++ slotOf e) ++ z) (168 * length done) d) ∙ drop-append-le 168 (gap ++ slotOf e) z q))
       ∙ sym (append-assoc (laid done) (slotOf e) (drop 168 (gap ++ slotOf e) ++ z))
       ∙ ap (λ (y : List ℕ). y ++ (drop 168 (gap ++ slotOf e) ++ z)) (sym (laid-snoc done e))
 
@@ -205,10 +205,14 @@ down-turn f rows first old ws to i now r d l e =
     let q : (rows - (i + 1)) + 1 ≡ rows - i = omega arith in
     let p = kept-place (f i) to i (d .0) in
     let h = d .2 in
-    let m = d .3 in
-    (rw (e .1) p, omega arith, omega arith, omega arith,
-    ap₂ (λ (x : ℕ) (y : List ℕ). movedDown f (rows - (i + 1)) (i + 1) x y) (e .1) (e .0)
-    ∙ down-step f (rows - (i + 1)) i to ws ∙ ap (λ (x : ℕ). movedDown f x i to ws) q ∙ d .4)
+    let m = d .3 in (
+      rw (e .1) p,
+      omega arith,
+      omega arith,
+      omega arith,
+      ap₂ (λ (x : ℕ) (y : List ℕ). movedDown f (rows - (i + 1)) (i + 1) x y) (e .1) (e .0)
+          ∙ down-step f (rows - (i + 1)) i to ws ∙ ap (λ (x : ℕ). movedDown f x i to ws) q ∙ d .4,
+    )
 
 pub down-end : (f : ℕ → Bool) (rows first : ℕ) (old ws : List ℕ) (to i : ℕ) (z : List ℕ) → Held rows old → first < rows → Down f rows first old ws to i → rows ≤ i
     → z ≡ zeroed (midOf (168 * to) (168 * rows - 168 * to) ws)
@@ -221,7 +225,8 @@ down-end f rows first old ws to i z k l d h e =
     let n : rows - i ≡ 0 = omega arith in
     let r : movedDown f (rows - (first + 1)) (first + 1) (first + 1) old ≡ (ws, to) = sym (d .4) ∙ ap (λ (x : ℕ). movedDown f x i to ws) n ∙ down-none f i to ws in
     let c = close-held f rows first old k l in
-    let len : length (midOf (168 * to) (168 * rows - 168 * to) ws) ≡ 168 * rows - 168 * to = mid-len (168 * to) (168 * rows) ws (omega arith) in
-    (ap₂ (λ (x y : List ℕ). take (168 * to) ws ++ (x ++ y)) (e ∙ ap (λ (x : ℕ). replicate x 0) len) (post-is (168 * to) (168 * rows) ws (omega arith))
-    ∙ ap (cleared rows) (sym r) ∙ c .0,
-    ap (λ (x : List ℕ × ℕ). x .1) (sym r) ∙ c .1)
+    let len : length (midOf (168 * to) (168 * rows - 168 * to) ws) ≡ 168 * rows - 168 * to = mid-len (168 * to) (168 * rows) ws (omega arith) in (
+      ap₂ (λ (x y : List ℕ). take (168 * to) ws ++ (x ++ y)) (e ∙ ap (λ (x : ℕ). replicate x 0) len) (post-is (168 * to) (168 * rows) ws (omega arith))
+          ∙ ap (cleared rows) (sym r) ∙ c .0,
+      ap (λ (x : List ℕ × ℕ). x .1) (sym r) ∙ c .1,
+    )

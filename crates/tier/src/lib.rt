@@ -8,11 +8,11 @@ ghost use Rattle.model.specs.Records.{slotWords, plus};
 ghost use Rattle.model.specs.Slots.{slotsOf, entriesIn};
 ghost use Rattle.model.specs.Retention.{victim as victimOf, halved};
 ghost use Rattle.tier.specs.Tier.{tierOf, Held, hitWords, hitsAdded, markedDelivered, sharedOut, lesserOf, moved, keptWords, keptPlace, closedUp};
-
 use lists::fill_zero;
 use words::contains;
 
 const SLOT_WORDS: usize = 168;
+
 const MOST: u64 = 18446744073709551615;
 
 // The sum, or the greatest number where the sum is beyond it.
@@ -140,10 +140,8 @@ fn keep(slots: &mut [u64], from: usize, to: usize, replaced: &[u64]) -> usize
 // The rows after `first` that are not marked close up, and the places freed become zero; how many rows there are then.
 pub fn close_up(slots: &mut [u64], rows: usize, first: usize, replaced: &[u64]) -> usize
     requires { ⌜ Held rows (now slots) ⌝ ∗ ⌜ first < rows ⌝ }
-    ensures {
-        λ r. ⌜ (now (slots .exit) ≡ slotsOf (tierOf (now (slots .entry))) (closedUp (has (now (replaced .entry))) first (entriesIn rows (now (slots .entry)))))
-            × (r ≡ length (closedUp (has (now (replaced .entry))) first (entriesIn rows (now (slots .entry))))) ⌝
-    }
+    ensures { λ r. ⌜ (now (slots .exit) ≡ slotsOf (tierOf (now (slots .entry))) (closedUp (has (now (replaced .entry))) first (entriesIn rows (now (slots .entry)))))
+        × (r ≡ length (closedUp (has (now (replaced .entry))) first (entriesIn rows (now (slots .entry))))) ⌝ }
 {
     let mut to = first + 1;
     let mut i = first + 1;

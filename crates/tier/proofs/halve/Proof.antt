@@ -59,9 +59,12 @@ loop-less c = search needs
 -- src/lib.rt:102:5
 loop-again : tie.Need-loop-again Inv-loop μ-loop
 loop-again c =
-    let t = c .before .before in
-    (omega arith, simp length-set (omega arith), simp length-set (t .loop .inv .2),
-    halve-step _ _ (t .before .pre) (t .loop .i) (t .loop .slots) (omega arith) (t .loop .inv .3))
+    let t = c .before .before in (
+      omega arith,
+      simp length-set (omega arith),
+      simp length-set (t .loop .inv .2),
+      halve-step _ _ (t .before .pre) (t .loop .i) (t .loop .slots) (omega arith) (t .loop .inv .3),
+    )
 
 -- src/lib.rt:97:1
 same-length : tie.Need-same-length Inv-loop μ-loop

@@ -66,9 +66,13 @@ loop-less c = search needs
 loop-again : tie.Need-loop-again Inv-loop μ-loop
 loop-again c =
     let l = c .before .before in
-    let p = l .before .args in
-    (search needs, search needs, search needs, search needs,
-    rw (l .loop .inv .4) (move-more (now (p .slots)) (168 * p .to) (168 * p .from) (l .loop .i) (omega arith) (omega arith)))
+    let p = l .before .args in (
+      search needs,
+      search needs,
+      search needs,
+      search needs,
+      rw (l .loop .inv .4) (move-more (now (p .slots)) (168 * p .to) (168 * p .from) (l .loop .i) (omega arith) (omega arith)),
+    )
 
 -- src/lib.rt:115:1
 same-length : tie.Need-same-length Inv-loop μ-loop

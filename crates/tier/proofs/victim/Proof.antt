@@ -42,9 +42,12 @@ loop-again : tie.Need-loop-again Inv-loop μ-loop
 loop-again c =
     let t = c .before .before in
     let k = t .before .before .pre .0 in
-    let e = c .lesser .ensures in
-    (rw e (lesser-lt _ _ k (t .loop .at) (t .loop .i) (omega arith) (omega arith)), omega arith, t .loop .inv .2,
-    rw e (victim-step _ _ k (t .loop .at) (t .loop .i) (omega arith) (omega arith) ∙ t .loop .inv .3))
+    let e = c .lesser .ensures in (
+      rw e (lesser-lt _ _ k (t .loop .at) (t .loop .i) (omega arith) (omega arith)),
+      omega arith,
+      t .loop .inv .2,
+      rw e (victim-step _ _ k (t .loop .at) (t .loop .i) (omega arith) (omega arith) ∙ t .loop .inv .3),
+    )
 
 -- src/lib.rt:85:1
 returns : tie.Need-returns Inv-loop μ-loop
