@@ -1,0 +1,1 @@
+// No code: cards of the definitions, with ends that the Rust gave.
