@@ -4,3 +4,4 @@ pub mod Instances
 pub mod Packing
 pub mod Slots
 pub mod Priority
+pub mod Accepting
