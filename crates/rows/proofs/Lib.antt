@@ -1,0 +1,4 @@
+pub mod Compare
+pub mod Charges
+pub mod Including
+pub mod Subsuming

@@ -1,0 +1,266 @@
+-- The check of a slot by the ways that it ends: one test that fails, or all that pass. Assumes nothing.
+use mathlib.Core.Path.{_≡_, refl, sym, ap, ap₂, _∙_}
+use mathlib.Core.Bool.{Bool, true, false, _&&_, and-false}
+use mathlib.Core.List.{List}
+use Prim.Native.Nat.{ℕ, _+_, _-_, _*_, _≤_, _<_}
+use native.Mathlib.Omega.{arith}
+use lib.Dec.{eqb, leb, ltb}
+use lib.ListN.{length, getD, take, drop, length-drop}
+use lib.Seq.{drop-drop, take-all}
+use borrow.Author.Tests.{eq-eqb, ne-eqb, lt-ltb, le-ltb, le-leb, lt-leb}
+use Rattle.model.specs.Rows.{groups}
+use Rattle.slotcheck.specs.Check.{climbs, groupsOk, codeCount, allZero, headOk, scalarOk, packedOk, wordsPass, slotOk}
+use Rattle.slotcheck.proofs.Loops.{runs, groups-runs}
+use Rattle.slotcheck.proofs.Slot.{words-slot}
+
+no-left : (x y : Bool) → x ≡ false → (x && y) ≡ false
+no-left x y e = ap (λ (b : Bool). b && y) e
+
+no-right : (x y : Bool) → y ≡ false → (x && y) ≡ false
+no-right x y e = ap (λ (b : Bool). x && b) e ∙ and-false x
+
+after : (x y z : Bool) → x ≡ true → z ≡ y → z ≡ (x && y)
+after x y z e f = f ∙ sym (ap (λ (b : Bool). b && y) e)
+
+-- ---- the parts of a slot that the code lends
+first-part : (ws : List ℕ) (b n : ℕ) → take ((b + n) - b) (drop b ws) ≡ take n (drop b ws)
+first-part ws b n = let e : (b + n) - b ≡ n = omega arith in ap (λ (k : ℕ). take k (drop b ws)) e
+
+next-part : (ws : List ℕ) (b n e m : ℕ) → e ≡ b + n + m → take (e - (b + n)) (drop (b + n) ws) ≡ take m (drop n (drop b ws))
+next-part ws b n e m q =
+    let k : e - (b + n) ≡ m = omega arith in
+    ap (λ (i : ℕ). take i (drop (b + n) ws)) k ∙ ap (take m) (sym (drop-drop n b ws))
+
+last-part : (ws : List ℕ) (b n : ℕ) → take (length ws - (b + n)) (drop (b + n) ws) ≡ drop n (drop b ws)
+last-part ws b n =
+    take-all (length ws - (b + n)) (drop (b + n) ws) (omega (arith, length-drop (b + n) ws)) ∙ sym (drop-drop n b ws)
+
+-- ---- scalar
+module _ (n : ℕ) (ws : List ℕ) where
+  abbrev nc : ℕ
+  nc = getD ws 0 0
+
+  abbrev no : ℕ
+  no = getD ws 1 0
+
+  abbrev cs : List ℕ
+  cs = take nc (drop 8 ws)
+
+  abbrev os : List ℕ
+  os = take no (drop nc (drop 8 ws))
+
+  -- the five tests
+  abbrev s1 : Bool
+  s1 = eqb (getD ws 3 0) 0
+
+  abbrev s2 : Bool
+  s2 = climbs true n 0 cs
+
+  abbrev s3 : Bool
+  s3 = climbs false (2 * n) 0 os
+
+  abbrev s4 : Bool
+  s4 = leb (2 * (nc + no)) (3 * (length (groups cs) + length (groups os)))
+
+  abbrev s5 : Bool
+  s5 = allZero (drop (nc + no) (drop 8 ws))
+
+  pub scalar-groups : (getD ws 3 0 ≡ 0 → ⊥) → false ≡ scalarOk n ws
+  unfolding scalarOk
+  scalar-groups f = sym (no-left s1 ((s2 && s3) && (s4 && s5)) (ne-eqb (getD ws 3 0) 0 f))
+
+  pub scalar-conditions : climbs true n 0 (take ((8 + nc) - 8) (drop 8 ws)) ≡ false → false ≡ scalarOk n ws
+  unfolding scalarOk
+  scalar-conditions e = sym (no-right s1 ((s2 && s3) && (s4 && s5)) (no-left (s2 && s3) (s4 && s5) (no-left s2 s3 (ap (climbs true n 0) (sym (first-part ws 8 nc)) ∙ e))))
+
+  pub scalar-outputs : climbs false (2 * n) 0 (take ((8 + nc + no) - (8 + nc)) (drop (8 + nc) ws)) ≡ false → false ≡ scalarOk n ws
+  unfolding scalarOk
+  scalar-outputs e =
+      sym (no-right s1 ((s2 && s3) && (s4 && s5)) (no-left (s2 && s3) (s4 && s5) (no-right s2 s3 (ap (climbs false (2 * n) 0) (sym (next-part ws 8 nc (8 + nc + no) no refl)) ∙ e))))
+
+  module _ (wc wo : ℕ) (ec : wc ≡ runs 7 (take ((8 + nc) - 8) (drop 8 ws)))
+      (eo : wo ≡ runs 7 (take ((8 + nc + no) - (8 + nc)) (drop (8 + nc) ws))) where
+    gc : length (groups cs) ≡ wc
+    gc = groups-runs cs ∙ sym (ec ∙ ap (runs 7) (first-part ws 8 nc))
+
+    go : length (groups os) ≡ wo
+    go = groups-runs os ∙ sym (eo ∙ ap (runs 7) (next-part ws 8 nc (8 + nc + no) no refl))
+
+    pub scalar-form : 3 * (wc + wo) < 2 * (nc + no) → false ≡ scalarOk n ws
+    unfolding scalarOk
+    scalar-form h =
+        let a = gc in
+        let b = go in
+        sym (no-right s1 ((s2 && s3) && (s4 && s5)) (no-right (s2 && s3) (s4 && s5) (no-left s4 s5 (lt-leb (2 * (nc + no)) (3 * (length (groups cs) + length (groups os))) (omega arith)))))
+
+    pub scalar-rest : (b : Bool) → getD ws 3 0 ≡ 0 → climbs true n 0 (take ((8 + nc) - 8) (drop 8 ws)) ≡ true →
+        climbs false (2 * n) 0 (take ((8 + nc + no) - (8 + nc)) (drop (8 + nc) ws)) ≡ true → 2 * (nc + no) ≤ 3 * (wc + wo) →
+        b ≡ allZero (take (length ws - (8 + nc + no)) (drop (8 + nc + no) ws)) → b ≡ scalarOk n ws
+    unfolding scalarOk
+    scalar-rest b z c o h e =
+        let x = gc in
+        let y = go in
+        let s : 8 + nc + no ≡ 8 + (nc + no) = omega arith in
+        after s1 ((s2 && s3) && (s4 && s5)) b (eq-eqb (getD ws 3 0) 0 z)
+        (after (s2 && s3) (s4 && s5) b
+        (ap (λ (t : Bool). t && climbs false (2 * n) 0 os) (ap (climbs true n 0) (sym (first-part ws 8 nc)) ∙ c)
+        ∙ ap (climbs false (2 * n) 0) (sym (next-part ws 8 nc (8 + nc + no) no refl)) ∙ o)
+        (after s4 s5 b (le-leb (2 * (nc + no)) (3 * (length (groups cs) + length (groups os))) (omega arith))
+        (e ∙ ap (λ (k : ℕ). allZero (take (length ws - k) (drop k ws))) s ∙ ap allZero (last-part ws 8 (nc + no)))))
+
+-- ---- packed
+module _ (n : ℕ) (ws : List ℕ) where
+  abbrev kc : ℕ
+  kc = getD ws 0 0
+
+  abbrev ko : ℕ
+  ko = getD ws 1 0
+
+  abbrev w : ℕ
+  w = getD ws 2 0
+
+  abbrev g : ℕ
+  g = getD ws 3 0
+
+  abbrev ps : List ℕ
+  ps = take (3 * g) (drop 8 ws)
+
+  abbrev qs : List ℕ
+  qs = take (3 * (w - g)) (drop (3 * g) (drop 8 ws))
+
+  -- the seven tests
+  abbrev t1 : Bool
+  t1 = leb g w
+
+  abbrev t2 : Bool
+  t2 = ltb (3 * w) (2 * (kc + ko))
+
+  abbrev t3 : Bool
+  t3 = groupsOk true n 0 ps
+
+  abbrev t4 : Bool
+  t4 = groupsOk false n 0 qs
+
+  abbrev t5 : Bool
+  t5 = eqb (codeCount ps) kc
+
+  abbrev t6 : Bool
+  t6 = eqb (codeCount qs) ko
+
+  abbrev t7 : Bool
+  t7 = allZero (drop (3 * w) (drop 8 ws))
+
+  pub packed-many : kc ≤ 16 → ko ≤ 64 → 53 < w → false ≡ packedOk n ws
+  unfolding packedOk
+  packed-many a b h = sym (no-left (t1 && t2) ((t3 && t4) && ((t5 && t6) && t7)) (no-right t1 t2 (le-ltb (3 * w) (2 * (kc + ko)) (omega arith))))
+
+  pub packed-parts : w < g → false ≡ packedOk n ws
+  unfolding packedOk
+  packed-parts h = sym (no-left (t1 && t2) ((t3 && t4) && ((t5 && t6) && t7)) (no-left t1 t2 (lt-leb g w h)))
+
+  pub packed-form : 2 * (kc + ko) ≤ 3 * w → false ≡ packedOk n ws
+  unfolding packedOk
+  packed-form h = sym (no-left (t1 && t2) ((t3 && t4) && ((t5 && t6) && t7)) (no-right t1 t2 (le-ltb (3 * w) (2 * (kc + ko)) h)))
+
+  first-groups : take ((8 + 3 * g) - 8) (drop 8 ws) ≡ ps
+  first-groups = first-part ws 8 (3 * g)
+
+  next-groups : g ≤ w → take ((8 + 3 * w) - (8 + 3 * g)) (drop (8 + 3 * g) ws) ≡ qs
+  next-groups h = next-part ws 8 (3 * g) (8 + 3 * w) (3 * (w - g)) (omega arith)
+
+  pub packed-conditions : groupsOk true n 0 (take ((8 + 3 * g) - 8) (drop 8 ws)) ≡ false → false ≡ packedOk n ws
+  unfolding packedOk
+  packed-conditions e = sym (no-right (t1 && t2) ((t3 && t4) && ((t5 && t6) && t7)) (no-left (t3 && t4) ((t5 && t6) && t7) (no-left t3 t4 (ap (groupsOk true n 0) (sym first-groups) ∙ e))))
+
+  pub packed-few : (k : ℕ) → k ≡ codeCount (take ((8 + 3 * g) - 8) (drop 8 ws)) → (k ≡ kc → ⊥) → false ≡ packedOk n ws
+  unfolding packedOk
+  packed-few k e f =
+      sym (no-right (t1 && t2) ((t3 && t4) && ((t5 && t6) && t7)) (no-right (t3 && t4) ((t5 && t6) && t7) (no-left (t5 && t6) t7 (no-left t5 t6 (ne-eqb (codeCount ps) kc (λ q. f (e ∙ ap codeCount first-groups ∙ q)))))))
+
+  module _ (h : g ≤ w) where
+    pub packed-outputs : groupsOk false n 0 (take ((8 + 3 * w) - (8 + 3 * g)) (drop (8 + 3 * g) ws)) ≡ false → false ≡ packedOk n ws
+    unfolding packedOk
+    packed-outputs e = sym (no-right (t1 && t2) ((t3 && t4) && ((t5 && t6) && t7)) (no-left (t3 && t4) ((t5 && t6) && t7) (no-right t3 t4 (ap (groupsOk false n 0) (sym (next-groups h)) ∙ e))))
+
+    pub packed-most : (k : ℕ) → k ≡ codeCount (take ((8 + 3 * w) - (8 + 3 * g)) (drop (8 + 3 * g) ws)) → (k ≡ ko → ⊥) → false ≡ packedOk n ws
+    unfolding packedOk
+    packed-most k e f =
+        sym (no-right (t1 && t2) ((t3 && t4) && ((t5 && t6) && t7)) (no-right (t3 && t4) ((t5 && t6) && t7) (no-left (t5 && t6) t7 (no-right t5 t6 (ne-eqb (codeCount qs) ko (λ q. f (e ∙ ap codeCount (next-groups h) ∙ q)))))))
+
+    pub packed-rest : (b : Bool) → 3 * w < 2 * (kc + ko) → groupsOk true n 0 (take ((8 + 3 * g) - 8) (drop 8 ws)) ≡ true →
+        groupsOk false n 0 (take ((8 + 3 * w) - (8 + 3 * g)) (drop (8 + 3 * g) ws)) ≡ true →
+        codeCount (take ((8 + 3 * g) - 8) (drop 8 ws)) ≡ kc → codeCount (take ((8 + 3 * w) - (8 + 3 * g)) (drop (8 + 3 * g) ws)) ≡ ko →
+        b ≡ allZero (take (length ws - (8 + 3 * w)) (drop (8 + 3 * w) ws)) → b ≡ packedOk n ws
+    unfolding packedOk
+    packed-rest b l x y p q e =
+        after (t1 && t2) ((t3 && t4) && ((t5 && t6) && t7)) b (ap₂ (λ (s t : Bool). s && t) (le-leb g w h) (lt-ltb (3 * w) (2 * (kc + ko)) l))
+        (after (t3 && t4) ((t5 && t6) && t7) b (ap₂ (λ (s t : Bool). s && t) (ap (groupsOk true n 0) (sym first-groups) ∙ x) (ap (groupsOk false n 0) (sym (next-groups h)) ∙ y))
+        (after (t5 && t6) t7 b
+        (ap₂ (λ (s t : Bool). s && t) (eq-eqb (codeCount ps) kc (ap codeCount (sym first-groups) ∙ p)) (eq-eqb (codeCount qs) ko (ap codeCount (sym (next-groups h)) ∙ q)))
+        (e ∙ ap allZero (last-part ws 8 (3 * w)))))
+
+-- ---- a slot
+module _ (n born : ℕ) (ws : List ℕ) (long : length ws ≡ 168) where
+  -- the tests of the head, and of the body
+  abbrev h1 : Bool
+  h1 = leb (getD ws 0 0) 16
+
+  abbrev h2 : Bool
+  h2 = leb (getD ws 1 0) 64
+
+  abbrev h3 : Bool
+  h3 = leb 1 (getD ws 6 0)
+
+  abbrev h4 : Bool
+  h4 = leb (getD ws 6 0) born
+
+  abbrev h5 : Bool
+  h5 = leb (getD ws 7 0) 1
+
+  abbrev formed : Bool
+  formed = elim (eqb (getD ws 2 0) 0) [ true ↦ scalarOk n ws | false ↦ packedOk n ws ]
+
+  head-no : headOk born ws ≡ false → false ≡ slotOk n born ws
+  unfolding wordsPass
+  head-no e = sym (no-left (headOk born ws) formed e) ∙ words-slot n born ws long
+
+  pub slot-conditions : 16 < getD ws 0 0 → false ≡ slotOk n born ws
+  unfolding headOk
+  slot-conditions h = head-no (no-left (h1 && h2) ((h3 && h4) && h5) (no-left h1 h2 (lt-leb (getD ws 0 0) 16 h)))
+
+  pub slot-outputs : 64 < getD ws 1 0 → false ≡ slotOk n born ws
+  unfolding headOk
+  slot-outputs h = head-no (no-left (h1 && h2) ((h3 && h4) && h5) (no-right h1 h2 (lt-leb (getD ws 1 0) 64 h)))
+
+  pub slot-unborn : getD ws 6 0 < 1 → false ≡ slotOk n born ws
+  unfolding headOk
+  slot-unborn h = head-no (no-right (h1 && h2) ((h3 && h4) && h5) (no-left (h3 && h4) h5 (no-left h3 h4 (lt-leb 1 (getD ws 6 0) h))))
+
+  pub slot-late : born < getD ws 6 0 → false ≡ slotOk n born ws
+  unfolding headOk
+  slot-late h = head-no (no-right (h1 && h2) ((h3 && h4) && h5) (no-left (h3 && h4) h5 (no-right h3 h4 (lt-leb (getD ws 6 0) born h))))
+
+  pub slot-flag : 1 < getD ws 7 0 → false ≡ slotOk n born ws
+  unfolding headOk
+  slot-flag h = head-no (no-right (h1 && h2) ((h3 && h4) && h5) (no-right (h3 && h4) h5 (lt-leb (getD ws 7 0) 1 h)))
+
+  module _ (a : getD ws 0 0 ≤ 16) (b : getD ws 1 0 ≤ 64) (c : 1 ≤ getD ws 6 0) (d : getD ws 6 0 ≤ born) (e : getD ws 7 0 ≤ 1) where
+    head-yes : headOk born ws ≡ true
+    unfolding headOk
+    head-yes =
+        ap₂ (λ (x y : Bool). x && y) (ap₂ (λ (x y : Bool). x && y) (le-leb (getD ws 0 0) 16 a) (le-leb (getD ws 1 0) 64 b))
+        (ap₂ (λ (x y : Bool). x && y) (ap₂ (λ (x y : Bool). x && y) (le-leb 1 (getD ws 6 0) c) (le-leb (getD ws 6 0) born d)) (le-leb (getD ws 7 0) 1 e))
+
+    pub slot-scalar : (r : Bool) → getD ws 2 0 ≡ 0 → r ≡ scalarOk n ws → r ≡ slotOk n born ws
+    unfolding wordsPass
+    slot-scalar r z q =
+        after (headOk born ws) formed r head-yes
+        (q ∙ sym (ap (λ (t : Bool). elim t as (λ k. Bool) [ true ↦ scalarOk n ws | false ↦ packedOk n ws ]) (eq-eqb (getD ws 2 0) 0 z)))
+        ∙ words-slot n born ws long
+
+    pub slot-packed : (r : Bool) → (getD ws 2 0 ≡ 0 → ⊥) → r ≡ packedOk n ws → r ≡ slotOk n born ws
+    unfolding wordsPass
+    slot-packed r z q =
+        after (headOk born ws) formed r head-yes
+        (q ∙ sym (ap (λ (t : Bool). elim t as (λ k. Bool) [ true ↦ scalarOk n ws | false ↦ packedOk n ws ]) (ne-eqb (getD ws 2 0) 0 z)))
+        ∙ words-slot n born ws long

@@ -1,0 +1,93 @@
+-- 01, refusal 3: whether the words of one slot are those of a row over A, born from 1 to the header's. The tests of the code as one Bool,
+-- that speaks of the words alone. Assumes nothing.
+use mathlib.Core.Bool.{Bool, true, false, _&&_}
+use mathlib.Core.List.{List, [], _∷_, map}
+use Prim.Native.Nat.{ℕ, suc, _+_, _-_, _*_, _/_, _^_, min}
+use lib.Bits.{bitAnd, bitOr}
+use lib.Count.{ones}
+use lib.Dec.{eqb, ltb, leb}
+use lib.ListN.{length, getD, take, drop}
+use Rattle.lists.specs.Lists.{same, zeroed}
+use Rattle.words.specs.Bit.{wordBits}
+use Rattle.words.specs.Literal.{atom}
+use Rattle.model.specs.Records.{Entry, isRow, maxConditions, maxOutputs}
+use Rattle.model.specs.Rows.{groups}
+use Rattle.model.specs.Slots.{slotOf, entryIn}
+
+-- ---- what is to be tested
+unfoldable pub entryOver : ℕ → ℕ → Entry → Bool
+entryOver atoms born e = isRow atoms (e .row) && (leb 1 (e .born) && leb (e .born) born)
+
+unfoldable pub slotOk : ℕ → ℕ → List ℕ → Bool
+slotOk atoms born ws = entryOver atoms born (entryIn ws) && same ws (slotOf (entryIn ws))
+
+-- ---- codes: the atoms of conditions, and the codes of outputs, ascend strictly from k on and lie below n
+abbrev pub key : Bool → ℕ → ℕ
+key true c = atom c
+key false c = c
+
+unfoldable pub climbs : Bool → ℕ → ℕ → List ℕ → Bool
+climbs half n k [] = true
+climbs half n k (c ∷ cs) = (leb k (key half c) && ltb (key half c) n) && climbs half n (suc (key half c)) cs
+
+-- what is left of the codes without their low bits: their words, or their atoms
+unfoldable pub shifted : ℕ → List ℕ → List ℕ
+shifted bits cs = map (λ c. c / 2 ^ bits) cs
+
+-- ---- groups of three words: ascending, none empty, no bit of an atom at n or above, in conditions no atom in both signs
+
+-- the bits of word x that belong to atoms below n
+unfoldable pub room : ℕ → ℕ → ℕ
+room n x = min wordBits (n - wordBits * x)
+
+unfoldable pub groupOk : Bool → ℕ → ℕ → ℕ → ℕ → Bool
+groupOk apart n x p a =
+    (ltb 0 (bitOr p a) && ltb (bitOr p a) (2 ^ room n x)) && (elim apart [ true ↦ eqb (bitAnd p a) 0 | false ↦ true ])
+
+unfoldable pub groupsOk : Bool → ℕ → ℕ → List ℕ → Bool
+groupsOk apart n k [] = true
+groupsOk apart n k (x ∷ []) = false
+groupsOk apart n k (x ∷ p ∷ []) = false
+groupsOk apart n k (x ∷ p ∷ a ∷ ws) = (leb k x && groupOk apart n x p a) && groupsOk apart n (suc x) ws
+
+-- the codes that groups hold
+unfoldable pub codeCount : List ℕ → ℕ
+codeCount [] = 0
+codeCount (x ∷ []) = 0
+codeCount (x ∷ p ∷ []) = 0
+codeCount (x ∷ p ∷ a ∷ ws) = (ones p + ones a) + codeCount ws
+
+-- ---- one slot
+abbrev pub allZero : List ℕ → Bool
+allZero ws = same ws (zeroed ws)
+
+unfoldable pub headOk : ℕ → List ℕ → Bool
+headOk born ws =
+    (leb (getD ws 0 0) maxConditions && leb (getD ws 1 0) maxOutputs)
+    && ((leb 1 (getD ws 6 0) && leb (getD ws 6 0) born) && leb (getD ws 7 0) 1)
+
+unfoldable pub scalarOk : ℕ → List ℕ → Bool
+scalarOk n ws =
+    let nc : ℕ = getD ws 0 0 in
+    let no : ℕ = getD ws 1 0 in
+    let cs : List ℕ = take nc (drop 8 ws) in
+    let os : List ℕ = take no (drop nc (drop 8 ws)) in
+    eqb (getD ws 3 0) 0
+    && ((climbs true n 0 cs && climbs false (2 * n) 0 os)
+    && (leb (2 * (nc + no)) (3 * (length (groups cs) + length (groups os))) && allZero (drop (nc + no) (drop 8 ws))))
+
+unfoldable pub packedOk : ℕ → List ℕ → Bool
+packedOk n ws =
+    let nc : ℕ = getD ws 0 0 in
+    let no : ℕ = getD ws 1 0 in
+    let w : ℕ = getD ws 2 0 in
+    let g : ℕ = getD ws 3 0 in
+    let cs : List ℕ = take (3 * g) (drop 8 ws) in
+    let os : List ℕ = take (3 * (w - g)) (drop (3 * g) (drop 8 ws)) in
+    (leb g w && ltb (3 * w) (2 * (nc + no)))
+    && ((groupsOk true n 0 cs && groupsOk false n 0 os)
+    && ((eqb (codeCount cs) nc && eqb (codeCount os) no) && allZero (drop (3 * w) (drop 8 ws))))
+
+unfoldable pub wordsPass : ℕ → ℕ → List ℕ → Bool
+wordsPass n born ws =
+    headOk born ws && (elim (eqb (getD ws 2 0) 0) [ true ↦ scalarOk n ws | false ↦ packedOk n ws ])
