@@ -1,0 +1,103 @@
+use mathlib.Core.Path.{_≡_, sym, ap, _∙_, subst}
+use mathlib.Core.Bool.{true, false}
+use mathlib.Core.Logic.{⊎-elim}
+use Prim.Native.Nat.{ℕ, _+_, _-_, _*_, _≤_, _<_}
+use native.Mathlib.Omega.{arith}
+use lib.ListN.{length}
+use borrow.Author.Needs.{needs}
+use borrow.Author.Tests.{not-true, not-false, eqb-true, eqb-false}
+use Rattle.slots.specs.declared.Side.{Side}
+use Rattle.slots.specs.Layout.{outputSide, Laid}
+use Rattle.slots.proofs.Storing.{laid-stored}
+use Rattle.matching.specs.declared.Group.{Group}
+use Rattle.matching.specs.Chunks.{groupAt}
+use Rattle.matching.specs.Publication.{ofWords}
+use Rattle.matching.proofs.Cursors.{cursor-past, cursor-scalar, cursor-start, cursor-loaded}
+use Rattle.matching.proofs.cursor_ok.Statement.{statement}
+use Rattle.matching.proofs.cursor_ok.Tie as tie
+use Rattle.matching.proofs.cursor_ok.Reads as reads
+use Rattle.matching.proofs.cursor_ok.Lts as lts
+use Rattle.matching.proofs.group_at.Reads as group-at-reads
+use Rattle.matching.proofs.is_of_group.Reads as is-of-group-reads
+use Rattle.matching.proofs.is_unloaded.Reads as is-unloaded-reads
+use Rattle.slots.proofs.outputs.Reads as outputs-reads
+
+laid : (c : tie.Start) → Laid (c .args .slot .now)
+laid c = laid-stored (c .pre .atoms) (c .args .slot .now) (c .pre .row)
+
+-- the side that was read
+module _ (c : tie.After-outputs) where
+  abbrev start : tie.Start
+  start = c .before .before
+
+  form : outputSide (start .args .slot .now) .packed ≡ c .outputs .result .packed
+  form = ap (λ (x : Side). x .packed) (sym (c .outputs .ensures))
+
+  count : outputSide (start .args .slot .now) .count ≡ c .outputs .result .count
+  count = ap (λ (x : Side). x .count) (sym (c .outputs .ensures))
+
+-- src/lib.rt:487:9
+outputs-requires : tie.Need-outputs-requires
+outputs-requires c κs = (let l = laid (c .before) .long in omega arith, laid (c .before) .counted)
+
+-- src/lib.rt:490:9
+returns : tie.Need-returns
+returns c =
+    let k = c .before .before in
+    cursor-past (start k .pre .atoms) (start k .args .slot .now) (start k .pre .row) (start k .args .cursor) (let e = count k in let h = c .if1 .taken in omega arith)
+
+-- src/lib.rt:493:9
+is-unloaded-requires : tie.Need-is-unloaded-requires
+is-unloaded-requires c κs = search needs
+
+-- src/lib.rt:493:9
+returns-2 : tie.Need-returns-2
+returns-2 c =
+    let k = c .before .before .before .before .before in
+    c .is-unloaded .ensures
+    ∙ ⊎-elim
+    (λ w. cursor-scalar (start k .pre .atoms) (start k .args .slot .now) (start k .pre .row) (start k .args .cursor) (form k ∙ not-true (k .outputs .result .packed) (w .taken))
+    (let e = count k in let h = c .before .before .before .if1 .left in omega arith))
+    (λ w. cursor-start (start k .pre .atoms) (start k .args .slot .now) (start k .pre .row) (start k .args .cursor) (eqb-true (start k .args .cursor .next) 0 (w .1 .taken)))
+    (c .before .if2 .came)
+
+-- src/lib.rt:495:46
+sub-group-at : tie.Need-sub-group-at
+sub-group-at c = omega (arith, eqb-false (c .before .before .before .before .before .before .before .args .cursor .next) 0 (c .if3 .left))
+
+-- src/lib.rt:495:25
+group-at-requires : tie.Need-group-at-requires
+group-at-requires c κs =
+    let k = c .before .before .before .before .before in
+    let p = form k ∙ not-false (k .outputs .result .packed) (c .before .if2 .left) in (
+      subst (λ (x : Side). x .base + 3 * x .count ≤ length (start k .args .slot .now)) (sym (k .outputs .ensures)) (laid (start k) .second .whole p),
+      (let f = eqb-false (start k .args .cursor .next) 0 (c .if3 .left) in let h = c .before .before .before .if1 .left in omega arith),
+    )
+
+-- src/lib.rt:495:5
+is-of-group-requires : tie.Need-is-of-group-requires
+is-of-group-requires c κs = search needs
+
+-- src/lib.rt:483:1
+returns-3 : tie.Need-returns-3
+returns-3 c =
+    let k = c .before .before .before .before .before .before .before in
+    let p = form k ∙ not-false (k .outputs .result .packed) (c .before .before .before .if2 .left) in
+    c .is-of-group .ensures
+    ∙ ap (ofWords (start k .args .cursor)) (c .before .group-at .ensures)
+    ∙ ap (λ (x : Side). ofWords (start k .args .cursor) (groupAt (start k .args .slot .now) x (start k .args .cursor .next - 1))) (k .outputs .ensures)
+    ∙ cursor-loaded (start k .pre .atoms) (start k .args .slot .now) (start k .pre .row) (start k .args .cursor) p (eqb-false (start k .args .cursor .next) 0 (c .before .before .if3 .left))
+    (let e = count k in let h = c .before .before .before .before .before .if1 .left in omega arith)
+
+pub cursor-ok-spec : {M : Type 1} → statement M
+cursor-ok-spec =
+    tie.close
+    (tie.spec
+    outputs-requires
+    returns
+    is-unloaded-requires
+    returns-2
+    sub-group-at
+    group-at-requires
+    is-of-group-requires
+    returns-3)

@@ -1,0 +1,164 @@
+use mathlib.Core.Path.{_≡_, refl, sym, ap, _∙_}
+use mathlib.Core.List.{[]}
+use Prim.Native.Nat.{ℕ, _*_, _≤_, _<_}
+use native.Mathlib.Omega.{arith}
+use borrow.Author.Needs.{needs}
+use Rattle.words.specs.Region.{Region, region, maxAtoms}
+use Rattle.meter.specs.declared.Meter.{Meter}
+use Rattle.meter.specs.declared.Tick.the-variants.{Ticked}
+use Rattle.meter.specs.Meter.{tickOf}
+use Rattle.model.specs.Records.{Row}
+use Rattle.model.specs.Rows.{packed}
+use Rattle.model.specs.Slots.{rowIn}
+use Rattle.model.specs.Deduction.{chunks}
+use Rattle.slots.proofs.Storing.{row-under}
+use Rattle.matching.specs.declared.Look.{Look}
+use Rattle.matching.specs.declared.Look.the-variants as look
+use Rattle.matching.specs.Walks.{looked, looking}
+use Rattle.matching.proofs.Walks.{deduced-stopped, deduced-halted, deduced-idle, deduced-force, deduced-open, undecided-under}
+use Rattle.matching.proofs.deduction.Statement.{statement}
+use Rattle.matching.proofs.deduction.Tie as tie
+use Rattle.matching.proofs.deduction.Reads as reads
+use Rattle.matching.proofs.deduction.Lts as lts
+use Rattle.matching.proofs.concluded.Reads as concluded-reads
+use Rattle.matching.proofs.conditions.Reads as conditions-reads
+use Rattle.matching.proofs.ended.Reads as ended-reads
+use Rattle.meter.proofs.Meter.tick.Reads as tick-reads
+
+-- the conditions were looked at
+module _ (c : tie.After-conditions) where
+  abbrev start : tie.Start
+  start = c .before .before .before .before .before .before .before .before
+
+  abbrev r : Region
+  r = region (start .args .held .now) (start .args .cut .now)
+
+  abbrev row : Row
+  row = rowIn (start .args .slot .now)
+
+  abbrev first : Meter
+  first = c .before .before .m2 .given .0 .0
+
+  made : Ticked first ≡ tickOf (start .args .work)
+  made = sym (c .before .before .m2 .given .1) ∙ c .before .before .before .before .tick .ensures
+
+  -- what was seen, where it is l
+  seen : (l : Look) → c .conditions .result .look ≡ l → looked l (c .conditions .result .meter) ≡ looking r [] (chunks (packed row) (row .conditions)) first
+  seen l e = ap (λ (x : Look). looked x (c .conditions .result .meter)) (sym e) ∙ c .conditions .ensures
+
+-- src/lib.rt:328:11
+tick-requires : tie.Need-tick-requires
+tick-requires c κs = search needs
+
+-- src/lib.rt:329:23
+enum-known-m : tie.Need-enum-known-m
+enum-known-m c = search needs
+
+-- src/lib.rt:329:29
+ended-requires : tie.Need-ended-requires
+ended-requires c κs = search needs
+
+-- src/lib.rt:330:22
+enum-known-m-2 : tie.Need-enum-known-m-2
+enum-known-m-2 c = search needs
+
+-- src/lib.rt:331:17
+conditions-requires : tie.Need-conditions-requires
+conditions-requires c κs = search needs
+
+-- src/lib.rt:334:40
+enum-told : tie.Need-enum-told
+enum-told c = search needs
+
+-- src/lib.rt:334:34
+ended-requires-2 : tie.Need-ended-requires-2
+ended-requires-2 c κs = search needs
+
+-- src/lib.rt:335:59
+enum-told-2 : tie.Need-enum-told-2
+enum-told-2 c = search needs
+
+-- src/lib.rt:335:31
+ended-requires-3 : tie.Need-ended-requires-3
+ended-requires-3 c κs = search needs
+
+-- src/lib.rt:336:60
+enum-told-3 : tie.Need-enum-told-3
+enum-told-3 c = search needs
+
+-- src/lib.rt:336:32
+ended-requires-4 : tie.Need-ended-requires-4
+ended-requires-4 c κs = search needs
+
+-- src/lib.rt:337:33
+enum-known-look : tie.Need-enum-known-look
+enum-known-look c = search needs
+
+-- src/lib.rt:337:42
+concluded-requires : tie.Need-concluded-requires
+concluded-requires c κs =
+    let k = c .before .before .before in
+    let code = c .before .look .given .0 .0 in
+    let under : code < 2 * start k .pre .atoms
+    = undecided-under (r k) (2 * start k .pre .atoms) (row k) (first k) code (k .conditions .result .meter)
+    (row-under (start k .pre .atoms) (row k) (start k .pre .row .row) .0) (seen k (look.Undecided code) (c .before .look .given .1)) in
+    let most : start k .pre .atoms ≤ maxAtoms = start k .pre .row .atoms in
+    (start k .pre, omega arith)
+
+-- src/lib.rt:321:1
+returns : tie.Need-returns
+returns c =
+    let s = c .before .before .before .before .before .before .before .before in
+    c .ended .ensures
+    ∙ deduced-stopped (region (s .args .held .now) (s .args .cut .now)) (rowIn (s .args .slot .now)) (s .args .work)
+    (sym (c .before .before .m .given .1) ∙ c .before .before .before .before .tick .ensures)
+
+-- src/lib.rt:321:1
+returns-2 : tie.Need-returns-2
+returns-2 c =
+    let k = c .before .before .before in
+    c .ended2 .ensures ∙ deduced-halted (r k) (row k) (start k .args .work) (first k) (made k) (seen k look.Stopped (c .before .enum-told .given .1))
+
+-- src/lib.rt:321:1
+returns-3 : tie.Need-returns-3
+returns-3 c =
+    let k = c .before .before .before in
+    c .ended3 .ensures ∙ deduced-idle (r k) (row k) (start k .args .work) (first k) (made k) (seen k look.Idle (c .before .enum-told2 .given .1))
+
+-- src/lib.rt:321:1
+returns-4 : tie.Need-returns-4
+returns-4 c =
+    let k = c .before .before .before in
+    c .ended4 .ensures ∙ deduced-force (r k) (row k) (start k .args .work) (first k) (made k) (seen k look.Holds (c .before .enum-told3 .given .1))
+
+-- src/lib.rt:321:1
+returns-5 : tie.Need-returns-5
+returns-5 c =
+    let k = c .before .before .before .before in
+    let code = c .before .before .look .given .0 .0 in
+    c .concluded .ensures
+    ∙ deduced-open (r k) (row k) (start k .args .work) (first k) (made k) code (k .conditions .result .meter)
+    (seen k (look.Undecided code) (c .before .before .look .given .1)) _ refl
+
+pub deduction-spec : {M : Type 1} → statement M
+deduction-spec =
+    tie.close
+    (tie.spec
+    tick-requires
+    enum-known-m
+    ended-requires
+    enum-known-m-2
+    conditions-requires
+    enum-told
+    ended-requires-2
+    enum-told-2
+    ended-requires-3
+    enum-told-3
+    ended-requires-4
+    enum-known-look
+    concluded-requires
+    returns
+    returns-2
+    returns-3
+    returns-4
+    returns-5)

@@ -1,0 +1,75 @@
+use mathlib.Core.Path.{sym, _∙_}
+use native.Mathlib.Omega.{arith}
+use Rattle.matching.proofs.Publishing.{given-stopped, given-ticked, code-lt}
+use borrow.Author.Needs.{needs}
+use Rattle.matching.proofs.given.Statement.{statement}
+use Rattle.matching.proofs.given.Tie as tie
+use Rattle.matching.proofs.given.Reads as reads
+use Rattle.matching.proofs.given.Lts as lts
+use Rattle.matching.proofs.published.Reads as published-reads
+use Rattle.meter.proofs.Meter.tick.Reads as tick-reads
+use Rattle.slots.proofs.take.Reads as take-reads
+
+-- src/lib.rt:384:9
+take-requires : tie.Need-take-requires
+take-requires c κs = search needs
+
+-- src/lib.rt:385:11
+tick-requires : tie.Need-tick-requires
+tick-requires c κs = search needs
+
+-- src/lib.rt:386:23
+enum-known-m : tie.Need-enum-known-m
+enum-known-m c = search needs
+
+-- src/lib.rt:386:29
+published-requires : tie.Need-published-requires
+published-requires c κs = search needs
+
+-- src/lib.rt:387:22
+enum-known-m-2 : tie.Need-enum-known-m-2
+enum-known-m-2 c = search needs
+
+-- src/lib.rt:394:50
+cast-t11 : tie.Need-cast-t11
+cast-t11 c =
+    let t = c .before .before .before .before .before in
+    let a = t .before .args in
+    omega (arith, code-lt (a .cursor) (a .work) (t .take .result .code) (t .take .result .present) (t .take .result .absent) (t .take .ensures) (t .before .pre .0))
+
+-- src/lib.rt:394:13
+published-requires-2 : tie.Need-published-requires-2
+published-requires-2 c κs = search needs
+
+-- src/lib.rt:380:1
+returns : tie.Need-returns
+returns c =
+    let t = c .before .before .before .before .before in
+    let a = t .before .args in
+    c .published .ensures
+    ∙ given-stopped (a .cursor) (a .work) (t .take .result .code) (t .take .result .present) (t .take .result .absent) (t .take .ensures) (a .before)
+    (sym (c .before .before .m .given .1) ∙ c .before .before .before .before .tick .ensures)
+
+-- src/lib.rt:380:1
+returns-2 : tie.Need-returns-2
+returns-2 c =
+    let t = c .before .before .before .before .before .before in
+    let a = t .before .args in
+    c .published2 .ensures
+    ∙ given-ticked (a .cursor) (a .work) (t .take .result .code) (t .take .result .present) (t .take .result .absent) (t .take .ensures) (a .before)
+    (c .before .struct-known .given .1 .0 .fits) (c .before .struct-known .given .1 .1 .0 .fits)
+    (sym (c .before .before .before .m2 .given .1) ∙ c .before .before .before .before .before .tick .ensures)
+
+pub given-spec : {M : Type 1} → statement M
+given-spec =
+    tie.close
+    (tie.spec
+    take-requires
+    tick-requires
+    enum-known-m
+    published-requires
+    enum-known-m-2
+    cast-t11
+    published-requires-2
+    returns
+    returns-2)

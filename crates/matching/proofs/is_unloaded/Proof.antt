@@ -1,0 +1,21 @@
+use mathlib.Core.Path.{ap, _∙_}
+use mathlib.Core.Bool.{Bool, _&&_}
+use lib.Bits.{bitOr}
+use lib.Dec.{eqb}
+use Rattle.words.proofs.Masks.{eqb-or}
+use Rattle.model.specs.Operations.{unloaded}
+use borrow.Author.Needs.{needs}
+use Rattle.matching.proofs.is_unloaded.Statement.{statement}
+use Rattle.matching.proofs.is_unloaded.Tie as tie
+use Rattle.matching.proofs.is_unloaded.Reads as reads
+use Rattle.matching.proofs.is_unloaded.Lts as lts
+
+-- src/lib.rt:463:1
+returns : tie.Need-returns
+unfolding unloaded
+returns c =
+    let k = c .before .before .args .cursor in
+    eqb-or (k .word) (bitOr (k .present) (k .absent)) ∙ ap (λ (b : Bool). eqb (k .word) 0 && b) (eqb-or (k .present) (k .absent))
+
+pub is-unloaded-spec : {M : Type 1} → statement M
+is-unloaded-spec = tie.close (tie.spec returns)
