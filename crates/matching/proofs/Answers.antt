@@ -2,7 +2,7 @@
 use mathlib.Core.Path.{_≡_, refl, sym, ap, _∙_}
 use mathlib.Core.Bool.{true}
 use mathlib.Core.List.{List, [], _∷_}
-use mathlib.Core.Option.{Option, none, some}
+use mathlib.Core.Option.{none, some}
 use Prim.Native.Nat.{ℕ}
 use native.Mathlib.Omega.{arith}
 use Rattle.words.specs.Region.{region}
@@ -16,10 +16,9 @@ use Rattle.model.specs.declared.OutputCursor.{OutputCursor}
 use Rattle.model.specs.declared.DeduceAnswer.{DeduceAnswer}
 use Rattle.model.specs.declared.DeduceAnswer.the-variants as deduce-answer
 use Rattle.model.specs.declared.DeduceResult.{DeduceResult}
-use Rattle.model.specs.declared.NextAnswer.{NextAnswer}
 use Rattle.model.specs.declared.NextAnswer.the-variants as next-answer
 use Rattle.model.specs.declared.NextResult.{NextResult}
-use Rattle.model.specs.Records.{Row, rowAt}
+use Rattle.model.specs.Records.{rowAt}
 use Rattle.model.specs.Deduction.{deduction, deductionTicks, Published, Next, stopped, end, output, nextOutput}
 use Rattle.model.specs.Refusals.{Lent, refusal, ledgerIn, accepts}
 use Rattle.model.specs.Operations.{DeduceEnd, NextEnd, positionOk, regionOk, nextAnswer, cursorOk, deduce}

@@ -1,16 +1,16 @@
 -- Cursors over the outputs of a stored row: its next output by its slot, which cursors stand in it, refusal 8. Assumes nothing.
 use mathlib.Core.Path.{_≡_, refl, sym, ap, ap₂, _∙_, subst}
-use mathlib.Core.Bool.{Bool, true, false, _&&_, true≢false, false≢true}
+use mathlib.Core.Bool.{Bool, true, false, _&&_, false≢true}
 use mathlib.Core.List.{List, [], _∷_}
-use Prim.Native.Nat.{ℕ, zero, suc, _+_, _-_, _*_, _^_, _≤_, _<_, zero-le}
+use Prim.Native.Nat.{ℕ, zero, suc, _+_, _-_, _*_, _≤_, _<_, zero-le}
 use native.Mathlib.Nat.{sub-zero, add-zero, zero-add, add-suc, suc-add}
 use native.Mathlib.Decide.{ℕ-discrete, decLt}
 use native.Mathlib.Omega.{arith}
-use lib.Bits.{bitAnd, bitOr, and-lt}
+use lib.Bits.{bitAnd, and-lt}
 use lib.Dec.{T, eqb, leb}
 use lib.ListN.{length, getD, drop, length-drop}
-use borrow.Author.Tests.{eq-eqb, ne-eqb, eqb-true, leb-true, le-leb, lt-leb}
-use Rattle.words.specs.Region.{Region, region, maxAtoms, wordsFor}
+use borrow.Author.Tests.{eq-eqb, ne-eqb, eqb-true, le-leb, lt-leb}
+use Rattle.words.specs.Region.{Region, region, maxAtoms}
 use Rattle.words.specs.Bit.{testBit}
 use Rattle.words.proofs.Bits.{bit-and, bit-none}
 use Rattle.words.proofs.Bools.{and-both, not-both}
@@ -22,17 +22,16 @@ use Rattle.meter.specs.Meter.{tickOf}
 use Rattle.model.specs.declared.OutputCursor.{OutputCursor}
 use Rattle.model.specs.Records.{Row, isRow}
 use Rattle.model.specs.Rows.{groups, packed}
-use Rattle.model.specs.Slots.{rowIn, indexOf, bitsOf}
-use Rattle.model.specs.Deduction.{Published, published, Next, output, stopped, end, pending, loaded, give, givenOut, packedNext, scalarNext, nextOutput, startCursor, chunks, failing}
+use Rattle.model.specs.Slots.{rowIn, indexOf}
+use Rattle.model.specs.Deduction.{Published, published, output, stopped, end, pending, loaded, give, givenOut, packedNext, scalarNext, nextOutput, startCursor, chunks}
 use Rattle.model.specs.Operations.{among, unloaded, ofGroup, cursorOk}
 use Rattle.model.proofs.Packing.{Under}
 use Rattle.slots.specs.declared.Side.{Side}
-use Rattle.slots.specs.Cursor.{maxWords, listOf}
-use Rattle.slots.specs.Layout.{outputSide, Laid, Stored}
+use Rattle.slots.specs.Cursor.{maxWords}
+use Rattle.slots.specs.Layout.{outputSide, Stored}
 use Rattle.slots.proofs.Groups.{Each, each-at, Headed, groups-headed, headed-index, words-for-le}
-use Rattle.slots.proofs.Storing.{Grouped, Singles, singles, laid-stored, form-stored, grouped-stored, row-under}
-use Rattle.matching.specs.declared.Group.{Group}
-use Rattle.matching.specs.Chunks.{chunkAt, chunksFrom, chunksOf, groupAt, Publishable, SmallCodes, Matched}
+use Rattle.slots.proofs.Storing.{Singles, singles, laid-stored, form-stored, grouped-stored, row-under}
+use Rattle.matching.specs.Chunks.{chunksFrom, groupAt, Publishable, SmallCodes, Matched}
 use Rattle.matching.specs.Publication.{singleGiven, singleNext, ofWords, Pointed}
 use Rattle.matching.proofs.Stored.{output-chunks, outputs-readable}
 
@@ -153,12 +152,51 @@ module _ (t : Row) (k : OutputCursor) where
     unfolding cursorOk
     ok-loaded f h = rw (e, le-leb (k .next) (length (groups (t .outputs))) h, ne-eqb (k .next) 0 f, cursorOk)
 
--- ---- cursors that stand in a packed row
-module _ (n : ℕ) (t : Row) (ok : T (isRow n t)) (most : n ≤ maxAtoms) where
-  -- the word of each group is one of a region
-  abbrev Inside : List ℕ → Type 0
-  Inside g = indexOf g < maxWords
+-- ---- cursors that stand in a packed row: at the start, after each call, and after refusal 8
+pub pointed-start : (t : Row) → Pointed t startCursor
+unfolding startCursor
+pointed-start t = record { next = λ p. zero-le; word = λ p. omega arith }
 
+-- the word of a group is one of a region
+abbrev Inside : List ℕ → Type 0
+Inside g = indexOf g < maxWords
+
+abbrev Stands : ℕ → OutputCursor → Type 0
+Stands l k = (k .next ≤ l) × (k .word < maxWords)
+
+give-stands : (l c : ℕ) (cs : List ℕ) (k : OutputCursor) (x : Tick) → Stands l k → Stands l (give c cs k x .cursor)
+unfolding give givenOut published
+give-stands l c cs k (Ticked m) h = h
+give-stands l c cs k (Stopped m) h = h
+
+packed-stands : (r : Region) (l : ℕ) (gs : List (List ℕ)) (k : OutputCursor) (m : Meter) → Each Inside gs → k .next + length gs ≤ l → k .word < maxWords
+    → Stands l (packedNext r gs k m .cursor)
+unfolding packedNext published loaded
+packed-stands r l [] k m e h w = go (pending k)
+  where
+    go : (ps : List ℕ) → Stands l ((elim ps as (λ z. Published) [ [] ↦ published end k m | c ∷ cs ↦ give c cs k (tickOf m) ]) .cursor)
+    go [] = (omega arith, w)
+    go (c ∷ cs) = give-stands l c cs k (tickOf m) (omega arith, w)
+packed-stands r l (g ∷ gs) k m e h w = go (pending k) (tickOf m) (λ n. packed-stands r l gs (loaded r g k) n (e .1))
+  where
+    next : loaded r g k .next + length gs ≤ l
+    next = omega arith
+
+    go : (ps : List ℕ) (x : Tick) → ((n : Meter) → loaded r g k .next + length gs ≤ l → loaded r g k .word < maxWords → Stands l (packedNext r gs (loaded r g k) n .cursor))
+        → Stands l ((elim ps as (λ z. Published) [
+          | [] ↦ elim x as (λ z. Published) [ Stopped n ↦ published stopped k n | Ticked n ↦ packedNext r gs (loaded r g k) n ]
+          | c ∷ cs ↦ give c cs k x
+        ]) .cursor)
+    go [] (Ticked n) ih = ih n next (e .0)
+    go [] (Stopped n) ih = (omega arith, w)
+    go (c ∷ cs) x ih = give-stands l c cs k x (omega arith, w)
+
+each-drop : (i : ℕ) (gs : List (List ℕ)) → Each Inside gs → Each Inside (drop i gs)
+each-drop zero gs e = e
+each-drop (suc i) [] e = tt
+each-drop (suc i) (g ∷ gs) e = each-drop i gs (e .1)
+
+module _ (n : ℕ) (t : Row) (ok : T (isRow n t)) (most : n ≤ maxAtoms) where
   groups-inside : Each Inside (groups (t .outputs))
   groups-inside = go (groups (t .outputs)) (groups-headed (2 * n) (t .outputs) (row-under n t ok .1))
     where
@@ -166,7 +204,16 @@ module _ (n : ℕ) (t : Row) (ok : T (isRow n t)) (most : n ≤ maxAtoms) where
       go [] e = tt
       go (g ∷ gs) e = (let h = headed-index n g (e .0) in let l = words-for-le n most in omega arith, go gs (e .1))
 
-  -- refusal 8 leaves no other
+  pub pointed-next : (r : Region) (k : OutputCursor) (m : Meter) → Pointed t k → Pointed t (nextOutput r t k m .cursor)
+  pointed-next r k m w = record { next = λ p. stands p .0; word = λ p. stands p .1 }
+    where
+      stands : packed t ≡ true → Stands (length (groups (t .outputs))) (nextOutput r t k m .cursor)
+      stands p =
+          let h = w .next p in
+          let l = length-drop (k .next) (groups (t .outputs)) in
+          subst (λ (x : Published). Stands (length (groups (t .outputs))) (x .cursor)) (sym (next-grouped r t k m p))
+          (packed-stands r (length (groups (t .outputs))) (drop (k .next) (groups (t .outputs))) k m (each-drop (k .next) (groups (t .outputs)) groups-inside) (omega arith) (w .word p))
+
   pub pointed-ok : (k : OutputCursor) → cursorOk t k ≡ true → Pointed t k
   unfolding unloaded ofGroup
   pointed-ok k e = record { next = λ p. within p (decLt (length (groups (t .outputs))) (k .next)); word = λ p. inside p (ℕ-discrete (k .next) 0) }
@@ -187,57 +234,6 @@ module _ (n : ℕ) (t : Row) (ok : T (isRow n t)) (most : n ≤ maxAtoms) where
           let q : k .word ≡ indexOf g = eqb-true (k .word) (indexOf g) u in
           let l : indexOf g < maxWords = each-at Inside (groups (t .outputs)) (k .next - 1) groups-inside (omega arith) in
           omega arith
-
-  pub pointed-start : Pointed t startCursor
-  unfolding startCursor
-  pointed-start = record { next = λ p. zero-le; word = λ p. omega arith }
-
-  -- each call gives back such a one
-  module _ (r : Region) where
-    abbrev Stands : ℕ → OutputCursor → Type 0
-    Stands l k = (k .next ≤ l) × (k .word < maxWords)
-
-    give-stands : (l c : ℕ) (cs : List ℕ) (k : OutputCursor) (x : Tick) → Stands l k → Stands l (give c cs k x .cursor)
-    unfolding give givenOut published
-    give-stands l c cs k (Ticked m) h = h
-    give-stands l c cs k (Stopped m) h = h
-
-    packed-stands : (l : ℕ) (gs : List (List ℕ)) (k : OutputCursor) (m : Meter) → Each Inside gs → k .next + length gs ≤ l → k .word < maxWords
-        → Stands l (packedNext r gs k m .cursor)
-    unfolding packedNext published loaded
-    packed-stands l [] k m e h w = go (pending k)
-      where
-        go : (ps : List ℕ) → Stands l ((elim ps as (λ z. Published) [ [] ↦ published end k m | c ∷ cs ↦ give c cs k (tickOf m) ]) .cursor)
-        go [] = (omega arith, w)
-        go (c ∷ cs) = give-stands l c cs k (tickOf m) (omega arith, w)
-    packed-stands l (g ∷ gs) k m e h w = go (pending k) (tickOf m) (λ n. packed-stands l gs (loaded r g k) n (e .1))
-      where
-        next : loaded r g k .next + length gs ≤ l
-        next = omega arith
-
-        go : (ps : List ℕ) (x : Tick) → ((n : Meter) → loaded r g k .next + length gs ≤ l → loaded r g k .word < maxWords → Stands l (packedNext r gs (loaded r g k) n .cursor))
-            → Stands l ((elim ps as (λ z. Published) [
-              | [] ↦ elim x as (λ z. Published) [ Stopped n ↦ published stopped k n | Ticked n ↦ packedNext r gs (loaded r g k) n ]
-              | c ∷ cs ↦ give c cs k x
-            ]) .cursor)
-        go [] (Ticked n) ih = ih n next (e .0)
-        go [] (Stopped n) ih = (omega arith, w)
-        go (c ∷ cs) x ih = give-stands l c cs k x (omega arith, w)
-
-    each-drop : (i : ℕ) (gs : List (List ℕ)) → Each Inside gs → Each Inside (drop i gs)
-    each-drop zero gs e = e
-    each-drop (suc i) [] e = tt
-    each-drop (suc i) (g ∷ gs) e = each-drop i gs (e .1)
-
-    pub pointed-next : (k : OutputCursor) (m : Meter) → Pointed t k → Pointed t (nextOutput r t k m .cursor)
-    pointed-next k m w = record { next = λ p. stands p .0; word = λ p. stands p .1 }
-      where
-        stands : packed t ≡ true → Stands (length (groups (t .outputs))) (nextOutput r t k m .cursor)
-        stands p =
-            let h = w .next p in
-            let l = length-drop (k .next) (groups (t .outputs)) in
-            subst (λ (x : Published). Stands (length (groups (t .outputs))) (x .cursor)) (sym (next-grouped r t k m p))
-            (packed-stands (length (groups (t .outputs))) (drop (k .next) (groups (t .outputs))) k m (each-drop (k .next) (groups (t .outputs)) groups-inside) (omega arith) (w .word p))
 
 -- ---- refusal 8 by the slot
 module _ (n : ℕ) (slot : List ℕ) (w : Stored n slot) (k : OutputCursor) where

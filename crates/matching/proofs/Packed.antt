@@ -12,7 +12,7 @@ use borrow.Author.Tests.{eq-eqb, ne-eqb, eqb-true, eqb-false, not-true, not-fals
 use Rattle.words.specs.Bit.{firstBit}
 use Rattle.words.specs.Region.{Region}
 use Rattle.meter.specs.declared.Meter.{Meter}
-use Rattle.meter.specs.declared.Tick.the-variants.{Ticked, Stopped}
+use Rattle.meter.specs.declared.Tick.the-variants.{Ticked}
 use Rattle.meter.specs.Meter.{tickOf}
 use Rattle.model.specs.Slots.{codesOf}
 use Rattle.model.specs.Deduction.{failing, contradicted}

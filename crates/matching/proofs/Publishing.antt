@@ -1,27 +1,23 @@
 -- The next output of a row, by the tests that the code makes. Assumes nothing.
 use mathlib.Core.Path.{_≡_, refl, sym, ap, ap₂, _∙_, subst}
-use mathlib.Core.Bool.{Bool, true, false}
+use mathlib.Core.Bool.{true, false}
 use mathlib.Core.List.{List, [], _∷_}
-use Prim.Native.Nat.{ℕ, suc, _+_, _-_, _*_, _/_, _^_, _≤_, _<_}
+use Prim.Native.Nat.{ℕ, suc, _+_, _-_, _*_, _^_, _≤_, _<_}
 use native.Mathlib.Nat.{lt-of-le-of-lt}
 use native.Mathlib.Numerals.{add-one}
 use native.Mathlib.Omega.{arith}
 use lib.Bits.{bitAnd, bitOr, and-le-l}
-use lib.Dec.{leb}
-use lib.ListN.{length, getD}
+use lib.ListN.{getD}
 use borrow.Author.Tests.{le-leb, lt-leb}
 use Rattle.words.specs.Literal.{atom, wordOf}
 use Rattle.words.specs.Region.{Region, maxAtoms}
 use Rattle.meter.specs.declared.Meter.{Meter}
-use Rattle.meter.specs.declared.Tick.{Tick}
 use Rattle.meter.specs.declared.Tick.the-variants.{Ticked, Stopped}
 use Rattle.meter.specs.Meter.{tickOf}
 use Rattle.model.specs.declared.OutputCursor.{OutputCursor}
-use Rattle.model.specs.declared.NextAnswer.{NextAnswer}
 use Rattle.model.specs.declared.NextAnswer.the-variants as next-answer
-use Rattle.model.specs.declared.NextResult.{NextResult}
 use Rattle.model.specs.Slots.{codesOf, indexOf, bitsOf}
-use Rattle.model.specs.Deduction.{Published, published, Next, output, stopped, end, failing, pending, loaded, give, givenOut, packedNext}
+use Rattle.model.specs.Deduction.{Published, published, output, stopped, end, failing, pending, loaded, give, givenOut, packedNext}
 use Rattle.model.specs.Operations.{nextAnswer}
 use Rattle.model.proofs.Packing.{OneWord}
 use Rattle.slots.specs.declared.Side.{Side}

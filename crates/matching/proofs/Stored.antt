@@ -2,20 +2,18 @@
 use mathlib.Core.Path.{_≡_, refl, sym, ap, ap₂, _∙_, subst}
 use mathlib.Core.Bool.{Bool, true, false}
 use mathlib.Core.List.{List, [], _∷_, map}
-use Prim.Native.Nat.{ℕ, zero, suc, _+_, _*_, _≤_, _<_}
+use Prim.Native.Nat.{ℕ, zero, suc, _+_, _<_}
 use native.Mathlib.Nat.{zero-add, add-zero, add-suc, suc-add, zero-lt-suc}
 use native.Mathlib.Omega.{arith}
 use lib.ListN.{length, getD}
-use Rattle.words.specs.Region.{region, isRegion, wordsFor, maxAtoms}
+use Rattle.words.specs.Region.{region}
 use Rattle.words.proofs.Regions.{Sound, sound-of}
-use Rattle.model.specs.Records.{Row}
 use Rattle.model.specs.Rows.{groups, packed}
 use Rattle.model.specs.Slots.{rowIn}
 use Rattle.model.specs.Deduction.{chunks}
 use Rattle.slots.specs.declared.Side.{Side}
-use Rattle.slots.specs.Cursor.{listOf, maxWords}
 use Rattle.slots.specs.Cursor as cursor
-use Rattle.slots.specs.Layout.{conditionSide, outputSide, Laid, Stored}
+use Rattle.slots.specs.Layout.{conditionSide, outputSide, Stored}
 use Rattle.slots.proofs.Groups.{words-for-le}
 use Rattle.slots.proofs.Storing.{Grouped, Singles, singles, laid-stored, form-stored, grouped-stored, conditions-apart}
 use Rattle.matching.specs.Chunks.{chunkAt, chunksFrom, chunksOf, Readable, OneSigned, Matched}

@@ -1,12 +1,12 @@
 -- The walks of a deduction are its answer and its ticks. Assumes nothing.
-use mathlib.Core.Path.{_≡_, refl, sym, ap, ap₂, _∙_, subst}
-use mathlib.Core.Bool.{Bool, true, false, not, _&&_, _||_, true≢false, false≢true, or-true}
+use mathlib.Core.Path.{_≡_, refl, sym, ap, ap₂, _∙_}
+use mathlib.Core.Bool.{Bool, true, false, not, _&&_, _||_, false≢true, or-true}
 use mathlib.Core.List.{List, [], _∷_, _++_, map, append-assoc, append-nil}
-use Prim.Native.Nat.{ℕ, zero, suc, _+_, _≤_, _<_}
+use Prim.Native.Nat.{ℕ, suc, _+_, _<_}
 use native.Mathlib.Omega.{arith}
-use lib.Dec.{eqb, leb}
-use lib.ListN.{length, length-append}
-use borrow.Author.Tests.{eq-eqb, ne-eqb, le-leb, lt-leb}
+use lib.Dec.{leb}
+use lib.ListN.{length}
+use borrow.Author.Tests.{ne-eqb, le-leb}
 use Rattle.lists.specs.Lists.{any, select, concat}
 use Rattle.lists.proofs.Selects.{select-append}
 use Rattle.lists.proofs.Tests.{any-append}
@@ -19,10 +19,9 @@ use Rattle.meter.specs.Meter.{tickOf, onTick, ticks, ticks-add}
 use Rattle.model.specs.declared.Deduction.{Deduction}
 use Rattle.model.specs.declared.Deduction.the-variants.{Nothing, Force, Require}
 use Rattle.model.specs.declared.DeduceResult.{DeduceResult}
-use Rattle.model.specs.declared.DeduceAnswer.{DeduceAnswer}
 use Rattle.model.specs.declared.DeduceAnswer.the-variants as deduce-answer
 use Rattle.model.specs.Records.{Row}
-use Rattle.model.specs.Rows.{groups, packed}
+use Rattle.model.specs.Rows.{packed}
 use Rattle.model.specs.Deduction.{failing, contradicted, idle, deduceFrom, deduction, chunks, conditionLooks, outputLooks, looksOn, deductionTicks}
 use Rattle.model.proofs.Packing.{Under, concat-groups}
 use Rattle.matching.specs.declared.Look.{Look}
@@ -31,7 +30,29 @@ use Rattle.matching.specs.declared.Looked.{Looked}
 use Rattle.matching.specs.declared.Clash.{Clash}
 use Rattle.matching.specs.declared.Clash.the-variants as clash
 use Rattle.matching.specs.declared.Clashed.{Clashed}
-use Rattle.matching.specs.Walks.{lookOf, looked, looking, clashed, clashing, ended, concluded, deduced}
+use Rattle.matching.specs.Walks.{literal, lookOf, looked, looking, clashed, clashing, ended, concluded, deduced}
+
+-- ---- a walk that ends with its ticks made, or stopped
+abbrev lookedBy : Look → Tick → Looked
+lookedBy l (Ticked n) = looked l n
+lookedBy l (Stopped n) = looked look.Stopped n
+
+abbrev clashedBy : Bool → Tick → Clashed
+clashedBy b (Ticked n) = clashed (elim b [ true ↦ clash.Contradicted | false ↦ clash.Clear ]) n
+clashedBy b (Stopped n) = clashed clash.Stopped n
+
+-- what a look says, given whether an output is contradicted; whether it leaves one condition undecided
+abbrev says : Look → Bool → Deduction
+says look.Stopped b = Nothing
+says look.Idle b = Nothing
+says look.Holds b = Force
+says (look.Undecided c) b = elim b [ true ↦ Require (literal (opposite c)) | false ↦ Nothing ]
+
+abbrev isOpen : Look → Bool
+isOpen look.Stopped = false
+isOpen look.Idle = false
+isOpen look.Holds = false
+isOpen (look.Undecided c) = true
 
 -- ---- chunks that are joined
 module _ (r : Region) where
@@ -112,14 +133,6 @@ module _ (r : Region) where
   clashing-end m = refl
 
   -- ---- the walks by their ticks
-  abbrev lookedBy : Look → Tick → Looked
-  lookedBy l (Ticked n) = looked l n
-  lookedBy l (Stopped n) = looked look.Stopped n
-
-  abbrev clashedBy : Bool → Tick → Clashed
-  clashedBy b (Ticked n) = clashed (elim b [ true ↦ clash.Contradicted | false ↦ clash.Clear ]) n
-  clashedBy b (Stopped n) = clashed clash.Stopped n
-
   looking-is : (fs : List ℕ) (ks : List (List ℕ)) (m : Meter)
       → looking r fs ks m ≡ lookedBy (lookOf r (fs ++ failing r (concat ks))) (ticks (conditionLooks r fs ks) m)
   unfolding looking ticks conditionLooks concat failing select
@@ -175,24 +188,12 @@ module _ (r : Region) where
   looked-ticked l fs (Stopped n) k f e = absurd (f (ap (λ (x : Looked). x .look) e))
 
   -- ---- the deduction by the look, and whether outputs are looked at
-  abbrev says : Look → Bool → Deduction
-  says look.Stopped b = Nothing
-  says look.Idle b = Nothing
-  says look.Holds b = Force
-  says (look.Undecided c) b = elim b [ true ↦ Require (record { 0 = opposite c }) | false ↦ Nothing ]
-
-  abbrev isOpen : Look → Bool
-  isOpen look.Stopped = false
-  isOpen look.Idle = false
-  isOpen look.Holds = false
-  isOpen (look.Undecided c) = true
-
   says-look : (s : Row) (fs : List ℕ) → deduceFrom r s fs ≡ says (lookOf r fs) (contradicted r (s .outputs))
   unfolding deduceFrom lookOf
   says-look s [] = refl
   says-look s (c ∷ cs) = go (idle r (c ∷ cs)) (contradicted r (s .outputs))
     where
-      go : (b d : Bool) → (elim (not b && d) as (λ z. Deduction) [ true ↦ Require (record { 0 = opposite c }) | false ↦ Nothing ])
+      go : (b d : Bool) → (elim (not b && d) as (λ z. Deduction) [ true ↦ Require (literal (opposite c)) | false ↦ Nothing ])
           ≡ says (elim b as (λ z. Look) [ true ↦ look.Idle | false ↦ look.Undecided c ]) d
       go true d = refl
       go false d = refl
@@ -244,10 +245,10 @@ module _ (r : Region) (s : Row) (m : Meter) where
     both = ap (λ (t : Tick). onTick t (ticks (conditionLooks r [] conditionsOf + (elim (looksOn r fails) as (λ z. ℕ) [ true ↦ outputLooks r outputsOf | false ↦ 0 ])))) (sym first)
         ∙ ticks-add (conditionLooks r [] conditionsOf) (elim (looksOn r fails) as (λ z. ℕ) [ true ↦ outputLooks r outputsOf | false ↦ 0 ]) n
 
-    walk : looking r [] conditionsOf n ≡ lookedBy r (lookOf r fails) (ticks (conditionLooks r [] conditionsOf) n)
+    walk : looking r [] conditionsOf n ≡ lookedBy (lookOf r fails) (ticks (conditionLooks r [] conditionsOf) n)
     walk =
         looking-is r [] conditionsOf n
-        ∙ ap (λ (l : List ℕ). lookedBy r (lookOf r (failing r l)) (ticks (conditionLooks r [] conditionsOf) n)) (concat-chunks (packed s) (s .conditions))
+        ∙ ap (λ (l : List ℕ). lookedBy (lookOf r (failing r l)) (ticks (conditionLooks r [] conditionsOf) n)) (concat-chunks (packed s) (s .conditions))
 
     -- the conditions' ticks were not all made
     pub deduced-halted : {k : Meter} → looked look.Stopped k ≡ looking r [] (chunks (packed s) (s .conditions)) n
@@ -262,15 +263,15 @@ module _ (r : Region) (s : Row) (m : Meter) where
       seen : (ticks (conditionLooks r [] conditionsOf) n ≡ Ticked k) × (lookOf r fails ≡ l)
       seen = looked-ticked r l fails (ticks (conditionLooks r [] conditionsOf) n) k real (e ∙ walk)
 
-      rest : ticks (deductionTicks r s) m ≡ ticks (elim (isOpen r l) as (λ z. ℕ) [ true ↦ outputLooks r outputsOf | false ↦ 0 ]) k
+      rest : ticks (deductionTicks r s) m ≡ ticks (elim (isOpen l) as (λ z. ℕ) [ true ↦ outputLooks r outputsOf | false ↦ 0 ]) k
       rest =
           both
           ∙ ap₂ (λ (t : Tick) (b : Bool). onTick t (ticks (elim b as (λ z. ℕ) [ true ↦ outputLooks r outputsOf | false ↦ 0 ])))
-          (seen .0) (looks-look r fails ∙ ap (isOpen r) (seen .1))
+          (seen .0) (looks-look r fails ∙ ap isOpen (seen .1))
 
-      said : deduction r s ≡ says r l (contradicted r (s .outputs))
+      said : deduction r s ≡ says l (contradicted r (s .outputs))
       unfolding deduction
-      said = says-look r s fails ∙ ap (λ (x : Look). says r x (contradicted r (s .outputs))) (seen .1)
+      said = says-look r s fails ∙ ap (λ (x : Look). says x (contradicted r (s .outputs))) (seen .1)
 
     pub deduced-idle : {k : Meter} → looked look.Idle k ≡ looking r [] (chunks (packed s) (s .conditions)) n
         → ended (deduce-answer.Deduced Nothing) m k ≡ deduced (deduction r s) m (ticks (deductionTicks r s) m)
@@ -294,12 +295,12 @@ module _ (r : Region) (s : Row) (m : Meter) where
       open-is : lookOf r fails ≡ look.Undecided c
       open-is = seen (look.Undecided c) k real e .1
 
-      clashes : clashing r outputsOf k ≡ clashedBy r (contradicted r (s .outputs)) (ticks (deductionTicks r s) m)
+      clashes : clashing r outputsOf k ≡ clashedBy (contradicted r (s .outputs)) (ticks (deductionTicks r s) m)
       clashes =
           clashing-is r outputsOf k
-          ∙ ap₂ (λ (l : List ℕ) (t : Tick). clashedBy r (contradicted r l) t) (concat-chunks (packed s) (s .outputs)) (sym (rest (look.Undecided c) k real e))
+          ∙ ap₂ (λ (l : List ℕ) (t : Tick). clashedBy (contradicted r l) t) (concat-chunks (packed s) (s .outputs)) (sym (rest (look.Undecided c) k real e))
 
-      ending : (b : Bool) (t : Tick) (x : Clashed) → x ≡ clashedBy r b t → concluded c m x ≡ deduced (says r (look.Undecided c) b) m t
+      ending : (b : Bool) (t : Tick) (x : Clashed) → x ≡ clashedBy b t → concluded c m x ≡ deduced (says (look.Undecided c) b) m t
       ending true (Ticked i) x q = ap (concluded c m) q
       ending false (Ticked i) x q = ap (concluded c m) q
       ending b (Stopped i) x q = ap (concluded c m) q
@@ -337,4 +338,4 @@ module _ (r : Region) where
       (looked-ticked r (look.Undecided c) (failing r (s .conditions)) (ticks (conditionLooks r [] (chunks (packed s) (s .conditions))) n) k
       (λ q. let z : _≡_ {A = ℕ} 0 1 = cc in omega arith)
       (e ∙ looking-is r [] (chunks (packed s) (s .conditions)) n
-      ∙ ap (λ (l : List ℕ). lookedBy r (lookOf r (failing r l)) (ticks (conditionLooks r [] (chunks (packed s) (s .conditions))) n)) (concat-chunks (packed s) (s .conditions))) .1)
+      ∙ ap (λ (l : List ℕ). lookedBy (lookOf r (failing r l)) (ticks (conditionLooks r [] (chunks (packed s) (s .conditions))) n)) (concat-chunks (packed s) (s .conditions))) .1)

@@ -1,5 +1,5 @@
 -- 01, module 4: "Ticks: 1, then one a literal or group looked at." The walks of a deduction, each tick before its look. Assumes nothing.
-use mathlib.Core.Bool.{Bool, true, false}
+use mathlib.Core.Bool.{true, false}
 use mathlib.Core.List.{List, [], _∷_, _++_}
 use Prim.Native.Nat.{ℕ, _+_, _*_}
 use lib.Bits.{bitAnd}

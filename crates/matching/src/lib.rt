@@ -26,6 +26,7 @@ use model::NextAnswer;
 use model::NextResult;
 use model::OutputCursor;
 use slots::Side;
+use words::WORD_BITS;
 
 // How the conditions of a row stand: all hold, one is undecided and the others hold, or nothing follows.
 pub enum Look {
@@ -78,11 +79,11 @@ fn undecided(index: u64, absent: u64, unknown: u64) -> u64
     requires { ⌜ index < maxWords ⌝ ∗ ⌜ 0 < unknown ⌝ }
     ensures { λ r. ⌜ r ≡ codeIn index absent unknown ⌝ }
 {
-    let t = u64::trailing_zeros(unknown) as u64;
+    let atom = WORD_BITS * index + words::first_bit(unknown);
     if absent & unknown != 0 {
-        2 * (64 * index + t)
+        2 * atom
     } else {
-        2 * (64 * index + t) + 1
+        2 * atom + 1
     }
 }
 

@@ -1,53 +1,38 @@
-use mathlib.Core.Path.{_≡_, sym, ap, ap₂, _∙_}
+-- `matching::concluded`: one answer for each end of the walk over the outputs. Assumes nothing.
+use mathlib.Core.Path.{sym, ap, _∙_}
 use borrow.Author.Needs.{needs}
-use Rattle.model.specs.declared.DeduceAnswer.{DeduceAnswer}
 use Rattle.model.specs.declared.DeduceAnswer.the-variants as deduce-answer
 use Rattle.model.specs.declared.Deduction.the-variants.{Require}
 use Rattle.model.specs.declared.Literal.{Literal}
 use Rattle.matching.specs.declared.Clash.{Clash}
-use Rattle.matching.specs.declared.Clashed.{Clashed}
 use Rattle.matching.specs.Walks.{ended, clashAnswer, concluded}
 use Rattle.matching.proofs.concluded.Statement.{statement}
 use Rattle.matching.proofs.concluded.Tie as tie
-use Rattle.matching.proofs.concluded.Reads as reads
-use Rattle.matching.proofs.concluded.Lts as lts
-use Rattle.matching.proofs.ended.Reads as ended-reads
-use Rattle.matching.proofs.negation.Reads as negation-reads
-use Rattle.matching.proofs.outputs.Reads as outputs-reads
 
--- src/lib.rt:306:9
 outputs-requires : tie.Need-outputs-requires
 outputs-requires c κs = search needs
 
--- src/lib.rt:309:33
 enum-told : tie.Need-enum-told
 enum-told c = search needs
 
--- src/lib.rt:309:27
 ended-requires : tie.Need-ended-requires
 ended-requires c κs = search needs
 
--- src/lib.rt:310:53
 enum-told-2 : tie.Need-enum-told-2
 enum-told-2 c = search needs
 
--- src/lib.rt:310:25
 ended-requires-2 : tie.Need-ended-requires-2
 ended-requires-2 c κs = search needs
 
--- src/lib.rt:312:54
 enum-told-3 : tie.Need-enum-told-3
 enum-told-3 c = search needs
 
--- src/lib.rt:312:54
 negation-requires : tie.Need-negation-requires
 negation-requires c κs = search needs
 
--- src/lib.rt:311:32
 ended-requires-3 : tie.Need-ended-requires-3
 ended-requires-3 c κs = search needs
 
--- src/lib.rt:300:1
 returns : tie.Need-returns
 returns c =
     let k = c .before .before .before in
@@ -56,7 +41,6 @@ returns c =
     ∙ ap (λ (x : Clash). ended (clashAnswer (a .code) x) (a .before) (k .outputs .result .meter)) (sym (c .before .enum-told .given .1))
     ∙ ap (concluded (a .code) (a .before)) (k .outputs .ensures)
 
--- src/lib.rt:300:1
 returns-2 : tie.Need-returns-2
 returns-2 c =
     let k = c .before .before .before in
@@ -65,7 +49,6 @@ returns-2 c =
     ∙ ap (λ (x : Clash). ended (clashAnswer (a .code) x) (a .before) (k .outputs .result .meter)) (sym (c .before .enum-told2 .given .1))
     ∙ ap (concluded (a .code) (a .before)) (k .outputs .ensures)
 
--- src/lib.rt:300:1
 returns-3 : tie.Need-returns-3
 returns-3 c =
     let k = c .before .before .before .before in

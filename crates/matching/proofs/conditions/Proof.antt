@@ -1,5 +1,5 @@
+-- `matching::conditions`: the side that is read has the chunks of the row's conditions. Assumes nothing.
 use mathlib.Core.Path.{_≡_, sym, ap, _∙_, subst}
-use mathlib.Core.Bool.{true, false}
 use mathlib.Core.List.{List, []}
 use Prim.Native.Nat.{ℕ, _+_, _≤_}
 use native.Mathlib.Omega.{arith}
@@ -15,14 +15,8 @@ use Rattle.matching.specs.Chunks.{chunksOf, Readable, OneSigned}
 use Rattle.matching.specs.declared.Looked.{Looked}
 use Rattle.matching.specs.Walks.{looking}
 use Rattle.matching.proofs.Stored.{condition-chunks, conditions-readable}
-use borrow.Author.Needs.{needs}
 use Rattle.matching.proofs.conditions.Statement.{statement}
 use Rattle.matching.proofs.conditions.Tie as tie
-use Rattle.matching.proofs.conditions.Reads as reads
-use Rattle.matching.proofs.conditions.Lts as lts
-use Rattle.matching.proofs.packed_conditions.Reads as packed-conditions-reads
-use Rattle.matching.proofs.scalar_conditions.Reads as scalar-conditions-reads
-use Rattle.slots.proofs.conditions.Reads as conditions-reads
 
 laid : (c : tie.Start) → Laid (c .args .slot .now)
 laid c = laid-stored (c .pre .atoms) (c .args .slot .now) (c .pre .row)
@@ -42,11 +36,9 @@ module _ (c : tie.After-conditions) where
       ∙ ap (λ (x : Side). looking (region (start .args .held .now) (start .args .cut .now)) [] (chunksOf (start .args .slot .now) x) (start .args .work)) (c .conditions .ensures)
       ∙ ap (λ (ks : List (List ℕ)). looking (region (start .args .held .now) (start .args .cut .now)) [] ks (start .args .work)) (condition-chunks (start .pre .atoms) (start .args .slot .now) (start .pre .row))
 
--- src/lib.rt:253:9
 conditions-requires : tie.Need-conditions-requires
 conditions-requires c κs = (let l = laid (c .before .before .before) .long in omega arith)
 
--- src/lib.rt:255:9
 packed-conditions-requires : tie.Need-packed-conditions-requires
 packed-conditions-requires c κs =
     let k = c .before in
@@ -54,7 +46,6 @@ packed-conditions-requires c κs =
     subst (λ (x : Side). Readable (a .slot .now) x (a .held .now) (a .cut .now) × OneSigned (a .slot .now) x) (sym (k .conditions .ensures))
     (conditions-readable (a .slot .now) (a .held .now) (a .cut .now) (start k .pre) (form k ∙ c .if1 .taken))
 
--- src/lib.rt:257:9
 scalar-conditions-requires : tie.Need-scalar-conditions-requires
 scalar-conditions-requires c κs =
     let k = c .before in (
@@ -62,11 +53,9 @@ scalar-conditions-requires c κs =
       subst (λ (x : Side). x .base + x .count ≤ length (start k .args .slot .now)) (sym (k .conditions .ensures)) (laid (start k) .first .single (form k ∙ c .if1 .left)),
     )
 
--- src/lib.rt:247:1
 returns : tie.Need-returns
 returns c = whole (c .before .before) (c .packed-conditions .result) (c .packed-conditions .ensures)
 
--- src/lib.rt:247:1
 returns-2 : tie.Need-returns-2
 returns-2 c = whole (c .before .before) (c .scalar-conditions .result) (c .scalar-conditions .ensures)
 

@@ -1,7 +1,7 @@
+-- `matching::cursor_ok`: by the form of the row and the place of the cursor. Assumes nothing.
 use mathlib.Core.Path.{_≡_, sym, ap, _∙_, subst}
-use mathlib.Core.Bool.{true, false}
 use mathlib.Core.Logic.{⊎-elim}
-use Prim.Native.Nat.{ℕ, _+_, _-_, _*_, _≤_, _<_}
+use Prim.Native.Nat.{_+_, _-_, _*_, _≤_}
 use native.Mathlib.Omega.{arith}
 use lib.ListN.{length}
 use borrow.Author.Needs.{needs}
@@ -9,18 +9,11 @@ use borrow.Author.Tests.{not-true, not-false, eqb-true, eqb-false}
 use Rattle.slots.specs.declared.Side.{Side}
 use Rattle.slots.specs.Layout.{outputSide, Laid}
 use Rattle.slots.proofs.Storing.{laid-stored}
-use Rattle.matching.specs.declared.Group.{Group}
 use Rattle.matching.specs.Chunks.{groupAt}
 use Rattle.matching.specs.Publication.{ofWords}
 use Rattle.matching.proofs.Cursors.{cursor-past, cursor-scalar, cursor-start, cursor-loaded}
 use Rattle.matching.proofs.cursor_ok.Statement.{statement}
 use Rattle.matching.proofs.cursor_ok.Tie as tie
-use Rattle.matching.proofs.cursor_ok.Reads as reads
-use Rattle.matching.proofs.cursor_ok.Lts as lts
-use Rattle.matching.proofs.group_at.Reads as group-at-reads
-use Rattle.matching.proofs.is_of_group.Reads as is-of-group-reads
-use Rattle.matching.proofs.is_unloaded.Reads as is-unloaded-reads
-use Rattle.slots.proofs.outputs.Reads as outputs-reads
 
 laid : (c : tie.Start) → Laid (c .args .slot .now)
 laid c = laid-stored (c .pre .atoms) (c .args .slot .now) (c .pre .row)
@@ -36,21 +29,17 @@ module _ (c : tie.After-outputs) where
   count : outputSide (start .args .slot .now) .count ≡ c .outputs .result .count
   count = ap (λ (x : Side). x .count) (sym (c .outputs .ensures))
 
--- src/lib.rt:487:9
 outputs-requires : tie.Need-outputs-requires
 outputs-requires c κs = (let l = laid (c .before) .long in omega arith, laid (c .before) .counted)
 
--- src/lib.rt:490:9
 returns : tie.Need-returns
 returns c =
     let k = c .before .before in
     cursor-past (start k .pre .atoms) (start k .args .slot .now) (start k .pre .row) (start k .args .cursor) (let e = count k in let h = c .if1 .taken in omega arith)
 
--- src/lib.rt:493:9
 is-unloaded-requires : tie.Need-is-unloaded-requires
 is-unloaded-requires c κs = search needs
 
--- src/lib.rt:493:9
 returns-2 : tie.Need-returns-2
 returns-2 c =
     let k = c .before .before .before .before .before in
@@ -61,11 +50,9 @@ returns-2 c =
     (λ w. cursor-start (start k .pre .atoms) (start k .args .slot .now) (start k .pre .row) (start k .args .cursor) (eqb-true (start k .args .cursor .next) 0 (w .1 .taken)))
     (c .before .if2 .came)
 
--- src/lib.rt:495:46
 sub-group-at : tie.Need-sub-group-at
 sub-group-at c = omega (arith, eqb-false (c .before .before .before .before .before .before .before .args .cursor .next) 0 (c .if3 .left))
 
--- src/lib.rt:495:25
 group-at-requires : tie.Need-group-at-requires
 group-at-requires c κs =
     let k = c .before .before .before .before .before in
@@ -74,11 +61,9 @@ group-at-requires c κs =
       (let f = eqb-false (start k .args .cursor .next) 0 (c .if3 .left) in let h = c .before .before .before .if1 .left in omega arith),
     )
 
--- src/lib.rt:495:5
 is-of-group-requires : tie.Need-is-of-group-requires
 is-of-group-requires c κs = search needs
 
--- src/lib.rt:483:1
 returns-3 : tie.Need-returns-3
 returns-3 c =
     let k = c .before .before .before .before .before .before .before in

@@ -1,6 +1,7 @@
+-- `matching::deduction`: one law for each end of the walks. Assumes nothing.
 use mathlib.Core.Path.{_≡_, refl, sym, ap, _∙_}
 use mathlib.Core.List.{[]}
-use Prim.Native.Nat.{ℕ, _*_, _≤_, _<_}
+use Prim.Native.Nat.{_*_, _≤_, _<_}
 use native.Mathlib.Omega.{arith}
 use borrow.Author.Needs.{needs}
 use Rattle.words.specs.Region.{Region, region, maxAtoms}
@@ -18,12 +19,6 @@ use Rattle.matching.specs.Walks.{looked, looking}
 use Rattle.matching.proofs.Walks.{deduced-stopped, deduced-halted, deduced-idle, deduced-force, deduced-open, undecided-under}
 use Rattle.matching.proofs.deduction.Statement.{statement}
 use Rattle.matching.proofs.deduction.Tie as tie
-use Rattle.matching.proofs.deduction.Reads as reads
-use Rattle.matching.proofs.deduction.Lts as lts
-use Rattle.matching.proofs.concluded.Reads as concluded-reads
-use Rattle.matching.proofs.conditions.Reads as conditions-reads
-use Rattle.matching.proofs.ended.Reads as ended-reads
-use Rattle.meter.proofs.Meter.tick.Reads as tick-reads
 
 -- the conditions were looked at
 module _ (c : tie.After-conditions) where
@@ -46,55 +41,42 @@ module _ (c : tie.After-conditions) where
   seen : (l : Look) → c .conditions .result .look ≡ l → looked l (c .conditions .result .meter) ≡ looking r [] (chunks (packed row) (row .conditions)) first
   seen l e = ap (λ (x : Look). looked x (c .conditions .result .meter)) (sym e) ∙ c .conditions .ensures
 
--- src/lib.rt:328:11
 tick-requires : tie.Need-tick-requires
 tick-requires c κs = search needs
 
--- src/lib.rt:329:23
 enum-known-m : tie.Need-enum-known-m
 enum-known-m c = search needs
 
--- src/lib.rt:329:29
 ended-requires : tie.Need-ended-requires
 ended-requires c κs = search needs
 
--- src/lib.rt:330:22
 enum-known-m-2 : tie.Need-enum-known-m-2
 enum-known-m-2 c = search needs
 
--- src/lib.rt:331:17
 conditions-requires : tie.Need-conditions-requires
 conditions-requires c κs = search needs
 
--- src/lib.rt:334:40
 enum-told : tie.Need-enum-told
 enum-told c = search needs
 
--- src/lib.rt:334:34
 ended-requires-2 : tie.Need-ended-requires-2
 ended-requires-2 c κs = search needs
 
--- src/lib.rt:335:59
 enum-told-2 : tie.Need-enum-told-2
 enum-told-2 c = search needs
 
--- src/lib.rt:335:31
 ended-requires-3 : tie.Need-ended-requires-3
 ended-requires-3 c κs = search needs
 
--- src/lib.rt:336:60
 enum-told-3 : tie.Need-enum-told-3
 enum-told-3 c = search needs
 
--- src/lib.rt:336:32
 ended-requires-4 : tie.Need-ended-requires-4
 ended-requires-4 c κs = search needs
 
--- src/lib.rt:337:33
 enum-known-look : tie.Need-enum-known-look
 enum-known-look c = search needs
 
--- src/lib.rt:337:42
 concluded-requires : tie.Need-concluded-requires
 concluded-requires c κs =
     let k = c .before .before .before in
@@ -105,7 +87,6 @@ concluded-requires c κs =
     let most : start k .pre .atoms ≤ maxAtoms = start k .pre .row .atoms in
     (start k .pre, omega arith)
 
--- src/lib.rt:321:1
 returns : tie.Need-returns
 returns c =
     let s = c .before .before .before .before .before .before .before .before in
@@ -113,25 +94,21 @@ returns c =
     ∙ deduced-stopped (region (s .args .held .now) (s .args .cut .now)) (rowIn (s .args .slot .now)) (s .args .work)
     (sym (c .before .before .m .given .1) ∙ c .before .before .before .before .tick .ensures)
 
--- src/lib.rt:321:1
 returns-2 : tie.Need-returns-2
 returns-2 c =
     let k = c .before .before .before in
     c .ended2 .ensures ∙ deduced-halted (r k) (row k) (start k .args .work) (first k) (made k) (seen k look.Stopped (c .before .enum-told .given .1))
 
--- src/lib.rt:321:1
 returns-3 : tie.Need-returns-3
 returns-3 c =
     let k = c .before .before .before in
     c .ended3 .ensures ∙ deduced-idle (r k) (row k) (start k .args .work) (first k) (made k) (seen k look.Idle (c .before .enum-told2 .given .1))
 
--- src/lib.rt:321:1
 returns-4 : tie.Need-returns-4
 returns-4 c =
     let k = c .before .before .before in
     c .ended4 .ensures ∙ deduced-force (r k) (row k) (start k .args .work) (first k) (made k) (seen k look.Holds (c .before .enum-told3 .given .1))
 
--- src/lib.rt:321:1
 returns-5 : tie.Need-returns-5
 returns-5 c =
     let k = c .before .before .before .before in

@@ -1,47 +1,35 @@
+-- `matching::given`: the first pending output, and the masks without it. Assumes nothing.
 use mathlib.Core.Path.{sym, _∙_}
 use native.Mathlib.Omega.{arith}
 use Rattle.matching.proofs.Publishing.{given-stopped, given-ticked, code-lt}
 use borrow.Author.Needs.{needs}
 use Rattle.matching.proofs.given.Statement.{statement}
 use Rattle.matching.proofs.given.Tie as tie
-use Rattle.matching.proofs.given.Reads as reads
-use Rattle.matching.proofs.given.Lts as lts
-use Rattle.matching.proofs.published.Reads as published-reads
-use Rattle.meter.proofs.Meter.tick.Reads as tick-reads
-use Rattle.slots.proofs.take.Reads as take-reads
 
--- src/lib.rt:384:9
 take-requires : tie.Need-take-requires
 take-requires c κs = search needs
 
--- src/lib.rt:385:11
 tick-requires : tie.Need-tick-requires
 tick-requires c κs = search needs
 
--- src/lib.rt:386:23
 enum-known-m : tie.Need-enum-known-m
 enum-known-m c = search needs
 
--- src/lib.rt:386:29
 published-requires : tie.Need-published-requires
 published-requires c κs = search needs
 
--- src/lib.rt:387:22
 enum-known-m-2 : tie.Need-enum-known-m-2
 enum-known-m-2 c = search needs
 
--- src/lib.rt:394:50
 cast-t11 : tie.Need-cast-t11
 cast-t11 c =
     let t = c .before .before .before .before .before in
     let a = t .before .args in
     omega (arith, code-lt (a .cursor) (a .work) (t .take .result .code) (t .take .result .present) (t .take .result .absent) (t .take .ensures) (t .before .pre .0))
 
--- src/lib.rt:394:13
 published-requires-2 : tie.Need-published-requires-2
 published-requires-2 c κs = search needs
 
--- src/lib.rt:380:1
 returns : tie.Need-returns
 returns c =
     let t = c .before .before .before .before .before in
@@ -50,7 +38,6 @@ returns c =
     ∙ given-stopped (a .cursor) (a .work) (t .take .result .code) (t .take .result .present) (t .take .result .absent) (t .take .ensures) (a .before)
     (sym (c .before .before .m .given .1) ∙ c .before .before .before .before .tick .ensures)
 
--- src/lib.rt:380:1
 returns-2 : tie.Need-returns-2
 returns-2 c =
     let t = c .before .before .before .before .before .before in

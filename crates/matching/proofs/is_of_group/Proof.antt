@@ -1,24 +1,18 @@
-use mathlib.Core.Path.{_≡_, sym}
-use lib.Bits.{bitAnd}
+-- `matching::is_of_group`: one test for each part. Assumes nothing.
+use mathlib.Core.Path.{sym}
 use borrow.Author.Tests.{eq-eqb, ne-eqb}
 use Rattle.model.specs.Operations.{among}
-use borrow.Author.Needs.{needs}
 use Rattle.matching.proofs.is_of_group.Statement.{statement}
 use Rattle.matching.proofs.is_of_group.Tie as tie
-use Rattle.matching.proofs.is_of_group.Reads as reads
-use Rattle.matching.proofs.is_of_group.Lts as lts
 
--- src/lib.rt:474:9
 returns : tie.Need-returns
 unfolding among
 returns c = sym (rw (ne-eqb _ _ (c .if1 .taken)))
 
--- src/lib.rt:477:9
 returns-2 : tie.Need-returns-2
 unfolding among
 returns-2 c = sym (rw (eq-eqb _ _ (c .before .before .before .before .if1 .left), ne-eqb _ _ (c .if2 .taken)))
 
--- src/lib.rt:470:1
 returns-3 : tie.Need-returns-3
 unfolding among
 returns-3 c = sym (rw (eq-eqb _ _ (c .before .before .before .before .before .before .before .if1 .left), eq-eqb _ _ (c .before .before .before .if2 .left)))

@@ -1,16 +1,13 @@
+-- `matching::is_unloaded`: three numbers are zero where their bits together are none. Assumes nothing.
 use mathlib.Core.Path.{ap, _∙_}
 use mathlib.Core.Bool.{Bool, _&&_}
 use lib.Bits.{bitOr}
 use lib.Dec.{eqb}
 use Rattle.words.proofs.Masks.{eqb-or}
 use Rattle.model.specs.Operations.{unloaded}
-use borrow.Author.Needs.{needs}
 use Rattle.matching.proofs.is_unloaded.Statement.{statement}
 use Rattle.matching.proofs.is_unloaded.Tie as tie
-use Rattle.matching.proofs.is_unloaded.Reads as reads
-use Rattle.matching.proofs.is_unloaded.Lts as lts
 
--- src/lib.rt:463:1
 returns : tie.Need-returns
 unfolding unloaded
 returns c =

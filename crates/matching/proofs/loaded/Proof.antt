@@ -1,5 +1,6 @@
-use mathlib.Core.Path.{_≡_, sym, subst}
-use Prim.Native.Nat.{ℕ, _<_, _^_}
+-- `matching::loaded`: the masks of what does not hold yet. Assumes nothing.
+use mathlib.Core.Path.{sym, subst}
+use Prim.Native.Nat.{_<_, _^_}
 use native.Mathlib.Omega.{arith}
 use lib.Bits.{bitOr}
 use lib.ListN.{length}
@@ -9,9 +10,6 @@ use Rattle.matching.proofs.Publishing.{loaded-is}
 use borrow.Author.Needs.{needs}
 use Rattle.matching.proofs.loaded.Statement.{statement}
 use Rattle.matching.proofs.loaded.Tie as tie
-use Rattle.matching.proofs.loaded.Reads as reads
-use Rattle.matching.proofs.loaded.Lts as lts
-use Rattle.matching.proofs.group_at.Reads as group-at-reads
 
 -- the group that was read
 module _ (c : tie.After-group-at) where
@@ -23,31 +21,24 @@ module _ (c : tie.After-group-at) where
       subst (λ (k : Group). k .index < length (start .args .held .now)) (sym (c .group-at .ensures))
       (start .pre .0 .readable .index (start .args .next) (start .pre .1))
 
--- src/lib.rt:355:9
 group-at-requires : tie.Need-group-at-requires
 group-at-requires c κs = (c .before .before .before .pre .0 .readable .whole, c .before .before .before .pre .1)
 
--- src/lib.rt:357:13
 mul-h : tie.Need-mul-h
 mul-h c = omega (arith, index-lt c)
 
--- src/lib.rt:357:13
 shared-slice-read-h : tie.Need-shared-slice-read-h
 shared-slice-read-h c = index-lt (c .before)
 
--- src/lib.rt:358:13
 mul-c : tie.Need-mul-c
 mul-c c = omega (arith, index-lt (c .before))
 
--- src/lib.rt:358:13
 shared-slice-read-c : tie.Need-shared-slice-read-c
 shared-slice-read-c c = omega (arith, index-lt (c .before .before), start (c .before .before) .pre .0 .readable .same)
 
--- src/lib.rt:360:15
 add-t12 : tie.Need-add-t12
 add-t12 c = search needs
 
--- src/lib.rt:349:1
 returns : tie.Need-returns
 returns c =
     let k = c .before .before .before .before in

@@ -1,26 +1,21 @@
+-- `matching::next_publication_output`: by the form of the row. Assumes nothing.
 use mathlib.Core.Path.{_≡_, sym, ap, _∙_, subst}
-use mathlib.Core.Bool.{true, false}
-use Prim.Native.Nat.{ℕ, _+_, _-_, _*_, _≤_, _<_}
+use mathlib.Core.Bool.{true}
+use Prim.Native.Nat.{_+_, _-_, _≤_}
 use native.Mathlib.Omega.{arith}
 use lib.ListN.{length}
 use Rattle.words.specs.Region.{region}
 use Rattle.model.specs.Rows.{packed}
 use Rattle.model.specs.Slots.{rowIn}
-use Rattle.model.specs.Deduction.{Published, packedNext}
+use Rattle.model.specs.Deduction.{packedNext}
 use Rattle.slots.specs.declared.Side.{Side}
 use Rattle.slots.specs.Layout.{outputSide, Laid}
 use Rattle.slots.proofs.Storing.{laid-stored, form-stored, grouped-stored}
 use Rattle.matching.specs.Chunks.{chunksFrom, Publishable, SmallCodes}
 use Rattle.matching.specs.Publication.{nextEnd, singleNext}
 use Rattle.matching.proofs.Cursors.{outputs-publishable, output-small, next-packed, next-scalar}
-use borrow.Author.Needs.{needs}
 use Rattle.matching.proofs.next_publication_output.Statement.{statement}
 use Rattle.matching.proofs.next_publication_output.Tie as tie
-use Rattle.matching.proofs.next_publication_output.Reads as reads
-use Rattle.matching.proofs.next_publication_output.Lts as lts
-use Rattle.matching.proofs.packed_next.Reads as packed-next-reads
-use Rattle.matching.proofs.scalar_next.Reads as scalar-next-reads
-use Rattle.slots.proofs.outputs.Reads as outputs-reads
 
 laid : (c : tie.Start) → Laid (c .args .slot .now)
 laid c = laid-stored (c .pre .0 .atoms) (c .args .slot .now) (c .pre .0 .row)
@@ -42,11 +37,9 @@ module _ (c : tie.After-outputs) where
       let e = grouped-stored (start .pre .0 .atoms) (start .args .slot .now) (start .pre .0 .row) (packs p) .1 .count in
       omega arith
 
--- src/lib.rt:454:9
 outputs-requires : tie.Need-outputs-requires
 outputs-requires c κs = (let l = laid (c .before .before .before) .long in omega arith, laid (c .before .before .before) .counted)
 
--- src/lib.rt:456:9
 packed-next-requires : tie.Need-packed-next-requires
 packed-next-requires c κs =
     let k = c .before in
@@ -57,7 +50,6 @@ packed-next-requires c κs =
       (subst (λ (x : Side). a .cursor .next ≤ x .count) (sym (k .outputs .ensures)) (within k p), start k .pre .1 .word (packs k p)),
     )
 
--- src/lib.rt:458:9
 scalar-next-requires : tie.Need-scalar-next-requires
 scalar-next-requires c κs =
     let k = c .before in
@@ -69,7 +61,6 @@ scalar-next-requires c κs =
       ),
     )
 
--- src/lib.rt:450:1
 returns : tie.Need-returns
 returns c =
     let k = c .before .before in
@@ -79,7 +70,6 @@ returns c =
     ∙ ap (λ (x : Side). nextEnd (a .work) (packedNext (region (a .held .now) (a .cut .now)) (chunksFrom (a .slot .now) x (x .count - a .cursor .next) (a .cursor .next)) (a .cursor) (a .work))) (k .outputs .ensures)
     ∙ ap (nextEnd (a .work)) (next-packed (start k .pre .0 .atoms) (a .slot .now) (start k .pre .0 .row) (region (a .held .now) (a .cut .now)) (a .cursor) (a .work) p (within k p))
 
--- src/lib.rt:450:1
 returns-2 : tie.Need-returns-2
 returns-2 c =
     let k = c .before .before in

@@ -1,6 +1,6 @@
+-- `matching::outputs`: the side that is read has the chunks of the row's outputs. Assumes nothing.
 use mathlib.Core.Path.{_≡_, sym, ap, _∙_, subst}
-use mathlib.Core.Bool.{true, false}
-use mathlib.Core.List.{List, []}
+use mathlib.Core.List.{List}
 use Prim.Native.Nat.{ℕ, _+_, _≤_}
 use native.Mathlib.Omega.{arith}
 use lib.ListN.{length}
@@ -11,18 +11,12 @@ use Rattle.model.specs.Deduction.{chunks}
 use Rattle.slots.specs.declared.Side.{Side}
 use Rattle.slots.specs.Layout.{outputSide, Laid}
 use Rattle.slots.proofs.Storing.{laid-stored}
-use Rattle.matching.specs.Chunks.{chunksOf, Readable, OneSigned}
+use Rattle.matching.specs.Chunks.{chunksOf, Readable}
 use Rattle.matching.specs.declared.Clashed.{Clashed}
 use Rattle.matching.specs.Walks.{clashing}
 use Rattle.matching.proofs.Stored.{output-chunks, outputs-readable}
-use borrow.Author.Needs.{needs}
 use Rattle.matching.proofs.outputs.Statement.{statement}
 use Rattle.matching.proofs.outputs.Tie as tie
-use Rattle.matching.proofs.outputs.Reads as reads
-use Rattle.matching.proofs.outputs.Lts as lts
-use Rattle.matching.proofs.packed_outputs.Reads as packed-outputs-reads
-use Rattle.matching.proofs.scalar_outputs.Reads as scalar-outputs-reads
-use Rattle.slots.proofs.outputs.Reads as outputs-reads
 
 laid : (c : tie.Start) → Laid (c .args .slot .now)
 laid c = laid-stored (c .pre .atoms) (c .args .slot .now) (c .pre .row)
@@ -42,11 +36,9 @@ module _ (c : tie.After-outputs) where
       ∙ ap (λ (x : Side). clashing (region (start .args .held .now) (start .args .cut .now)) (chunksOf (start .args .slot .now) x) (start .args .work)) (c .outputs .ensures)
       ∙ ap (λ (ks : List (List ℕ)). clashing (region (start .args .held .now) (start .args .cut .now)) ks (start .args .work)) (output-chunks (start .pre .atoms) (start .args .slot .now) (start .pre .row))
 
--- src/lib.rt:268:9
 outputs-requires : tie.Need-outputs-requires
 outputs-requires c κs = (let l = laid (c .before .before .before) .long in omega arith, laid (c .before .before .before) .counted)
 
--- src/lib.rt:270:9
 packed-outputs-requires : tie.Need-packed-outputs-requires
 packed-outputs-requires c κs =
     let k = c .before in
@@ -54,7 +46,6 @@ packed-outputs-requires c κs =
     subst (λ (x : Side). Readable (a .slot .now) x (a .held .now) (a .cut .now)) (sym (k .outputs .ensures))
     (outputs-readable (a .slot .now) (a .held .now) (a .cut .now) (start k .pre) (form k ∙ c .if1 .taken))
 
--- src/lib.rt:272:9
 scalar-outputs-requires : tie.Need-scalar-outputs-requires
 scalar-outputs-requires c κs =
     let k = c .before in (
@@ -62,11 +53,9 @@ scalar-outputs-requires c κs =
       subst (λ (x : Side). x .base + x .count ≤ length (start k .args .slot .now)) (sym (k .outputs .ensures)) (laid (start k) .second .single (form k ∙ c .if1 .left)),
     )
 
--- src/lib.rt:262:1
 returns : tie.Need-returns
 returns c = whole (c .before .before) (c .packed-outputs .result) (c .packed-outputs .ensures)
 
--- src/lib.rt:262:1
 returns-2 : tie.Need-returns-2
 returns-2 c = whole (c .before .before) (c .scalar-outputs .result) (c .scalar-outputs .ensures)
 

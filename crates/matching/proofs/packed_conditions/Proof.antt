@@ -1,27 +1,20 @@
-use mathlib.Core.Path.{_≡_, refl, sym, ap, _∙_, subst}
-use mathlib.Core.Bool.{true, false}
-use mathlib.Core.List.{List, [], _∷_}
+-- `matching::packed_conditions`: the walk from here on is the walk from the start, group by group. Assumes nothing.
+use mathlib.Core.Path.{_≡_, sym, _∙_, subst}
 use mathlib.Core.Logic.{⊎-elim}
-use Prim.Native.Nat.{ℕ, _+_, _-_, _*_, _^_, _≤_, _<_}
+use Prim.Native.Nat.{_-_, _^_, _≤_, _<_}
 use lib.Bits.{bitAnd}
 use Rattle.words.specs.Region.{Region, region}
 use native.Mathlib.Omega.{arith}
-use lib.ListN.{length, getD}
+use lib.ListN.{length}
 use borrow.Author.Needs.{needs}
-use Rattle.meter.specs.declared.Tick.the-variants.{Ticked, Stopped}
+use Rattle.meter.specs.declared.Tick.the-variants.{Ticked}
 use Rattle.meter.specs.Meter.{tickOf}
 use Rattle.matching.specs.declared.Group.{Group}
-use Rattle.matching.specs.Chunks.{chunkAt, chunksFrom, chunksOf, groupAt}
-use Rattle.matching.specs.Walks.{looked, looking}
+use Rattle.matching.specs.Chunks.{chunkAt, chunksOf}
 use Rattle.matching.proofs.Turns.{At, at-start, at-next, at-open, at-all, turn-stopped}
 use Rattle.matching.proofs.Packed.{Fitting, packed-holds, packed-opens, packed-second, packed-clash, packed-two}
 use Rattle.matching.proofs.packed_conditions.Statement.{statement}
 use Rattle.matching.proofs.packed_conditions.Tie as tie
-use Rattle.matching.proofs.packed_conditions.Reads as reads
-use Rattle.matching.proofs.packed_conditions.Lts as lts
-use Rattle.matching.proofs.group_at.Reads as group-at-reads
-use Rattle.matching.proofs.undecided.Reads as undecided-reads
-use Rattle.meter.proofs.Meter.tick.Reads as tick-reads
 
 abbrev Inv-loop : tie.InvT-loop
 Inv-loop slot side held cut meter₀ opened₀ code₀ g₀ meter opened code g =
@@ -74,25 +67,20 @@ module _ (c : tie.After-group-at Inv-loop μ-loop) where
     apart = subst (λ (k : Group). bitAnd (k .present) (k .absent) ≡ 0) (sym (c .group-at .ensures)) (s .pre .1 (l .loop .g) (more (c .before)));
   }
 
--- src/lib.rt:89:5
 loop-holds : tie.Need-loop-holds Inv-loop μ-loop
 loop-holds c =
     let s = c .before .before .before in
     (omega arith, at-start (region (s .args .held .now) (s .args .cut .now)) (s .args .slot .now) (s .args .side) (s .args .work) 0)
 
--- src/lib.rt:90:15
 tick-requires : tie.Need-tick-requires Inv-loop μ-loop
 tick-requires c κs = search needs
 
--- src/lib.rt:91:26
 enum-known-m : tie.Need-enum-known-m Inv-loop μ-loop
 enum-known-m c = search needs
 
--- src/lib.rt:92:27
 enum-known-m-2 : tie.Need-enum-known-m-2 Inv-loop μ-loop
 enum-known-m-2 c = search needs
 
--- src/lib.rt:93:17
 returns : tie.Need-returns Inv-loop μ-loop
 returns c =
     let s = c .before .before .before .before .before .before .before .before .before .before in
@@ -102,31 +90,24 @@ returns c =
     (at-next r (s .args .slot .now) (s .args .side) (s .args .work) (l .opened) (l .code) (l .g) (l .meter) (l .inv .1) (c .before .before .before .before .if1 .taken))
     (sym (c .before .m2 .given .1) ∙ c .before .before .before .tick .ensures)
 
--- src/lib.rt:99:13
 group-at-requires : tie.Need-group-at-requires Inv-loop μ-loop
 group-at-requires c κs = (start c .pre .0 .whole, more c)
 
--- src/lib.rt:101:17
 mul-h : tie.Need-mul-h Inv-loop μ-loop
 mul-h c = omega (arith, index-lt c)
 
--- src/lib.rt:101:17
 shared-slice-read-h : tie.Need-shared-slice-read-h Inv-loop μ-loop
 shared-slice-read-h c = index-lt (c .before)
 
--- src/lib.rt:102:17
 mul-c : tie.Need-mul-c Inv-loop μ-loop
 mul-c c = omega (arith, index-lt (c .before))
 
--- src/lib.rt:102:17
 shared-slice-read-c : tie.Need-shared-slice-read-c Inv-loop μ-loop
 shared-slice-read-c c = omega (arith, index-lt (c .before .before), s (c .before .before) .pre .0 .same)
 
--- src/lib.rt:105:63
 sub-if5 : tie.Need-sub-if5 Inv-loop μ-loop
 sub-if5 c = search needs
 
--- src/lib.rt:106:17
 returns-2 : tie.Need-returns-2 Inv-loop μ-loop
 returns-2 c =
     let k = c .before .before .before .before .before .before .before in
@@ -139,19 +120,15 @@ returns-2 c =
     (λ w. packed-two (r (k .before)) (a .slot .now) (a .side) (a .work) (b .opened) (b .code) (b .g) (b .meter) (b .inv .1) (more (k .before)) (k .group-at .result) (fitting k) _ (made (k .before)) (c .before .if2 .taken) (w .2 .taken)))
     (c .if3 .came)
 
--- src/lib.rt:112:13
 undecided-requires : tie.Need-undecided-requires Inv-loop μ-loop
 undecided-requires c κs = (omega (arith, index-lt (c .before .before .before .before .before .before .before .before .before), s (c .before .before .before .before .before .before .before .before .before) .pre .0 .few), let f = c .before .before .before .if2 .taken in omega arith)
 
--- src/lib.rt:114:9
 add-g : tie.Need-add-g Inv-loop μ-loop
 add-g c = search needs
 
--- src/lib.rt:89:5
 loop-less : tie.Need-loop-less Inv-loop μ-loop
 loop-less c = search needs
 
--- src/lib.rt:89:5
 loop-again : tie.Need-loop-again Inv-loop μ-loop
 loop-again c =
     let k = c .before .before .before .before .before .before in
@@ -166,7 +143,6 @@ loop-again c =
           (c .if2 .came),
     )
 
--- src/lib.rt:79:1
 returns-3 : tie.Need-returns-3 Inv-loop μ-loop
 returns-3 c =
     let s = c .before .before .before .before .before .before .before in

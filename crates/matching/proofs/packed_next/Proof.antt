@@ -1,5 +1,6 @@
+-- `matching::packed_next`: what is published from here on is what is published from the start. Assumes nothing.
 use mathlib.Core.Path.{_≡_, refl, sym, ap, _∙_}
-use Prim.Native.Nat.{ℕ, suc, _+_, _-_, _*_, _≤_, _<_}
+use Prim.Native.Nat.{ℕ, _+_, _-_, _*_, _<_}
 use native.Mathlib.Omega.{arith}
 use lib.ListN.{getD}
 use Rattle.words.specs.Region.{region}
@@ -12,12 +13,6 @@ use Rattle.matching.proofs.Publishing.{Loading, chunk-index, load-given
 use borrow.Author.Needs.{needs}
 use Rattle.matching.proofs.packed_next.Statement.{statement}
 use Rattle.matching.proofs.packed_next.Tie as tie
-use Rattle.matching.proofs.packed_next.Reads as reads
-use Rattle.matching.proofs.packed_next.Lts as lts
-use Rattle.matching.proofs.given.Reads as given-reads
-use Rattle.matching.proofs.loaded.Reads as loaded-reads
-use Rattle.matching.proofs.published.Reads as published-reads
-use Rattle.meter.proofs.Meter.tick.Reads as tick-reads
 
 abbrev Inv-loop : tie.InvT-loop
 Inv-loop slot side held cut work k₀ meter₀ k meter = Loading (region held cut) slot side k₀ work k meter
@@ -37,15 +32,12 @@ index-lt l g h =
     = chunk-index (a .slot .now) (a .side) g (p .readable .packed) (l .before .before .before .shared-slice-known .given _ .fits) (l .before .before .before .shared-slice-known .given _ .fits) (p .some g h) in
     omega (arith, p .readable .index g h, p .readable .few)
 
--- src/lib.rt:408:5
 loop-holds : tie.Need-loop-holds Inv-loop μ-loop
 loop-holds c = record { within = c .before .before .before .pre .1 .0; small = c .before .before .before .pre .1 .1; same = refl }
 
--- src/lib.rt:410:13
 published-requires : tie.Need-published-requires Inv-loop μ-loop
 published-requires c κs = search needs
 
--- src/lib.rt:410:13
 returns : tie.Need-returns Inv-loop μ-loop
 returns c =
     let l = c .before .before .before .before .before in
@@ -53,23 +45,18 @@ returns c =
     c .published .ensures
     ∙ load-end (region (a .held .now) (a .cut .now)) (a .slot .now) (a .side) (a .cursor) (a .work) (l .loop .k) (l .loop .meter) (l .loop .inv) (c .before .before .before .if1 .taken) (c .before .if2 .taken)
 
--- src/lib.rt:412:15
 tick-requires : tie.Need-tick-requires Inv-loop μ-loop
 tick-requires c κs = search needs
 
--- src/lib.rt:413:26
 enum-known-m : tie.Need-enum-known-m Inv-loop μ-loop
 enum-known-m c = search needs
 
--- src/lib.rt:414:27
 enum-known-m-2 : tie.Need-enum-known-m-2 Inv-loop μ-loop
 enum-known-m-2 c = search needs
 
--- src/lib.rt:414:33
 published-requires-2 : tie.Need-published-requires-2 Inv-loop μ-loop
 published-requires-2 c κs = search needs
 
--- src/lib.rt:414:33
 returns-2 : tie.Need-returns-2 Inv-loop μ-loop
 returns-2 c =
     let l = c .before .before .before .before .before .before .before .before .before in
@@ -78,17 +65,14 @@ returns-2 c =
     ∙ load-stopped (region (a .held .now) (a .cut .now)) (a .slot .now) (a .side) (a .cursor) (a .work) (l .loop .k) (l .loop .meter) (l .loop .inv) (c .before .before .before .before .before .before .before .if1 .taken) (c .before .before .before .before .before .if2 .left)
     (sym (c .before .before .m2 .given .1) ∙ c .before .before .before .before .tick .ensures)
 
--- src/lib.rt:416:9
 loaded-requires : tie.Need-loaded-requires Inv-loop μ-loop
 loaded-requires c κs = (start (c .before .before .before .before .before .before .before .before) .pre .0, c .before .before .before .before .if2 .left)
 
--- src/lib.rt:408:5
 loop-less : tie.Need-loop-less Inv-loop μ-loop
 loop-less c =
     let h = c .before .before .before .before .before .if2 .left in
     omega (arith, ap (λ (x : OutputCursor). x .next) (c .loaded .ensures))
 
--- src/lib.rt:408:5
 loop-again : tie.Need-loop-again Inv-loop μ-loop
 loop-again c =
     let l = c .before .before .before .before .before .before .before .before .before in
@@ -96,11 +80,9 @@ loop-again c =
     load-on (region (a .held .now) (a .cut .now)) (a .slot .now) (a .side) (a .cursor) (a .work) (l .loop .k) (l .loop .meter) (l .loop .inv) (c .before .before .before .before .before .before .before .if1 .taken) (c .before .before .before .before .before .if2 .left)
     (c .loaded .result) (sym (c .before .before .m .given .1) ∙ c .before .before .before .before .tick .ensures) (c .loaded .ensures) (index-lt l (l .loop .k .next) (c .before .before .before .before .before .if2 .left))
 
--- src/lib.rt:418:5
 given-requires : tie.Need-given-requires Inv-loop μ-loop
 given-requires c κs = (c .before .before .loop .inv .small, let f = c .if1 .left in omega arith)
 
--- src/lib.rt:400:1
 returns-3 : tie.Need-returns-3 Inv-loop μ-loop
 returns-3 c =
     let l = c .before .before .before in

@@ -1,5 +1,6 @@
+-- `matching::packed_outputs`: the walk from here on is the walk from the start, group by group. Assumes nothing.
 use mathlib.Core.Path.{_≡_, sym, _∙_, subst}
-use Prim.Native.Nat.{ℕ, _+_, _-_, _*_, _^_, _≤_, _<_}
+use Prim.Native.Nat.{_-_, _^_, _≤_, _<_}
 use native.Mathlib.Omega.{arith}
 use lib.ListN.{length}
 use borrow.Author.Needs.{needs}
@@ -11,10 +12,6 @@ use Rattle.matching.proofs.Turns.{Passing, pass-start, pass-end, pass-s
 use Rattle.matching.proofs.Packed.{packed-hit, packed-miss}
 use Rattle.matching.proofs.packed_outputs.Statement.{statement}
 use Rattle.matching.proofs.packed_outputs.Tie as tie
-use Rattle.matching.proofs.packed_outputs.Reads as reads
-use Rattle.matching.proofs.packed_outputs.Lts as lts
-use Rattle.matching.proofs.group_at.Reads as group-at-reads
-use Rattle.meter.proofs.Meter.tick.Reads as tick-reads
 
 abbrev Inv-loop : tie.InvT-loop
 Inv-loop slot side held cut meter₀ g₀ meter g =
@@ -62,25 +59,20 @@ module _ (c : tie.After-group-at Inv-loop μ-loop) where
   absent-lt : c .group-at .result .absent < 2 ^ 64
   absent-lt = subst (λ (k : Group). k .absent < 2 ^ 64) (sym (c .group-at .ensures)) (l .before .before .before .shared-slice-known .given _ .fits)
 
--- src/lib.rt:182:5
 loop-holds : tie.Need-loop-holds Inv-loop μ-loop
 loop-holds c =
     let a = c .before .before .before .args in
     (omega arith, pass-start (region (a .held .now) (a .cut .now)) (a .slot .now) (a .side) (a .work))
 
--- src/lib.rt:183:15
 tick-requires : tie.Need-tick-requires Inv-loop μ-loop
 tick-requires c κs = search needs
 
--- src/lib.rt:184:26
 enum-known-m : tie.Need-enum-known-m Inv-loop μ-loop
 enum-known-m c = search needs
 
--- src/lib.rt:185:27
 enum-known-m-2 : tie.Need-enum-known-m-2 Inv-loop μ-loop
 enum-known-m-2 c = search needs
 
--- src/lib.rt:186:17
 returns : tie.Need-returns Inv-loop μ-loop
 returns c =
     let a = c .before .before .before .before .before .before .before .before .before .before .args in
@@ -88,27 +80,21 @@ returns c =
     pass-stopped (region (a .held .now) (a .cut .now)) (a .slot .now) (a .side) (a .work) (b .g) (b .meter) (b .inv .1) (c .before .before .before .before .if1 .taken)
     (sym (c .before .m2 .given .1) ∙ c .before .before .before .tick .ensures)
 
--- src/lib.rt:192:13
 group-at-requires : tie.Need-group-at-requires Inv-loop μ-loop
 group-at-requires c κs = (start c .pre .whole, more c)
 
--- src/lib.rt:194:24
 mul-if2 : tie.Need-mul-if2 Inv-loop μ-loop
 mul-if2 c = omega (arith, index-lt c)
 
--- src/lib.rt:194:24
 shared-slice-read-if2 : tie.Need-shared-slice-read-if2 Inv-loop μ-loop
 shared-slice-read-if2 c = index-lt (c .before)
 
--- src/lib.rt:194:52
 mul-if2-2 : tie.Need-mul-if2-2 Inv-loop μ-loop
 mul-if2-2 c = omega (arith, index-lt (c .before .before))
 
--- src/lib.rt:194:52
 shared-slice-read-if2-2 : tie.Need-shared-slice-read-if2-2 Inv-loop μ-loop
 shared-slice-read-if2-2 c = omega (arith, index-lt (c .before .before .before), s (c .before .before .before) .pre .same)
 
--- src/lib.rt:195:13
 returns-2 : tie.Need-returns-2 Inv-loop μ-loop
 returns-2 c =
     let k = c .before .before .before .before .before in
@@ -117,15 +103,12 @@ returns-2 c =
     pass-hit (r (k .before)) (a .slot .now) (a .side) (a .work) (b .g) (b .meter) (b .inv .1) (more (k .before)) (made (k .before))
     (packed-hit (r (k .before)) (a .slot .now) (a .side) (b .g) (k .group-at .result) (s k .pre .packed) (k .group-at .ensures) (present-lt k) (absent-lt k) (c .if2 .taken))
 
--- src/lib.rt:200:9
 add-g : tie.Need-add-g Inv-loop μ-loop
 add-g c = search needs
 
--- src/lib.rt:182:5
 loop-less : tie.Need-loop-less Inv-loop μ-loop
 loop-less c = search needs
 
--- src/lib.rt:182:5
 loop-again : tie.Need-loop-again Inv-loop μ-loop
 loop-again c =
     let k = c .before .before .before .before .before in
@@ -136,7 +119,6 @@ loop-again c =
           (packed-miss (r (k .before)) (a .slot .now) (a .side) (b .g) (k .group-at .result) (s k .pre .packed) (k .group-at .ensures) (present-lt k) (absent-lt k) (c .if2 .left)),
     )
 
--- src/lib.rt:176:1
 returns-3 : tie.Need-returns-3 Inv-loop μ-loop
 returns-3 c =
     let a = c .before .before .before .before .before .before .args in

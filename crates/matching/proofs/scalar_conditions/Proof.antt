@@ -1,9 +1,9 @@
+-- `matching::scalar_conditions`: the walk from here on is the walk from the start, code by code. Assumes nothing.
 use mathlib.Core.Logic.{⊎-elim}
 use borrow.Author.Tests.{not-true, not-false}
-use mathlib.Core.Path.{_≡_, sym, _∙_, subst}
-use Prim.Native.Nat.{ℕ, _+_, _-_, _*_, _^_, _≤_, _<_}
+use mathlib.Core.Path.{_≡_, sym, _∙_}
+use Prim.Native.Nat.{_-_, _≤_, _<_}
 use native.Mathlib.Omega.{arith}
-use lib.ListN.{length}
 use borrow.Author.Needs.{needs}
 use Rattle.words.specs.Region.{Region, region}
 use Rattle.meter.specs.declared.Tick.the-variants.{Ticked}
@@ -13,11 +13,6 @@ use Rattle.matching.proofs.Turns.{At, at-start, at-next, at-open, at-al
 use Rattle.matching.proofs.Scalar.{scalar-holds, scalar-second, scalar-clash, scalar-opens}
 use Rattle.matching.proofs.scalar_conditions.Statement.{statement}
 use Rattle.matching.proofs.scalar_conditions.Tie as tie
-use Rattle.matching.proofs.scalar_conditions.Reads as reads
-use Rattle.matching.proofs.scalar_conditions.Lts as lts
-use Rattle.meter.proofs.Meter.tick.Reads as tick-reads
-use Rattle.words.proofs.contradicts.Reads as contradicts-reads
-use Rattle.words.proofs.holds.Reads as holds-reads
 
 abbrev Inv-loop : tie.InvT-loop
 Inv-loop slot side held cut meter₀ opened₀ code₀ g₀ meter opened code g =
@@ -46,25 +41,20 @@ module _ (c : tie.After-known-told Inv-loop μ-loop) where
   made : Ticked (c .before .m .given .0 .0) ≡ tickOf (state .loop .meter)
   made = sym (c .before .m .given .1) ∙ c .before .before .before .tick .ensures
 
--- src/lib.rt:138:5
 loop-holds : tie.Need-loop-holds Inv-loop μ-loop
 loop-holds c =
     let a = c .before .before .before .args in
     (omega arith, at-start (region (a .held .now) (a .cut .now)) (a .slot .now) (a .side) (a .work) 0)
 
--- src/lib.rt:139:15
 tick-requires : tie.Need-tick-requires Inv-loop μ-loop
 tick-requires c κs = search needs
 
--- src/lib.rt:140:26
 enum-known-m : tie.Need-enum-known-m Inv-loop μ-loop
 enum-known-m c = search needs
 
--- src/lib.rt:141:27
 enum-known-m-2 : tie.Need-enum-known-m-2 Inv-loop μ-loop
 enum-known-m-2 c = search needs
 
--- src/lib.rt:142:17
 returns : tie.Need-returns Inv-loop μ-loop
 returns c =
     let a = c .before .before .before .before .before .before .before .before .before .before .args in
@@ -74,27 +64,21 @@ returns c =
     (at-next q (a .slot .now) (a .side) (a .work) (b .opened) (b .code) (b .g) (b .meter) (b .inv .1) (c .before .before .before .before .if1 .taken))
     (sym (c .before .m2 .given .1) ∙ c .before .before .before .tick .ensures)
 
--- src/lib.rt:148:18
 add-at : tie.Need-add-at Inv-loop μ-loop
 add-at c = search needs
 
--- src/lib.rt:149:23
 mul-literal : tie.Need-mul-literal Inv-loop μ-loop
 mul-literal c = search needs
 
--- src/lib.rt:149:23
 shared-slice-read-literal : tie.Need-shared-slice-read-literal Inv-loop μ-loop
 shared-slice-read-literal c = search needs
 
--- src/lib.rt:150:13
 holds-requires : tie.Need-holds-requires Inv-loop μ-loop
 holds-requires c κs = search needs
 
--- src/lib.rt:151:26
 contradicts-requires : tie.Need-contradicts-requires Inv-loop μ-loop
 contradicts-requires c κs = search needs
 
--- src/lib.rt:152:17
 returns-2 : tie.Need-returns-2 Inv-loop μ-loop
 returns-2 c =
     let h = c .before .before in
@@ -107,15 +91,12 @@ returns-2 c =
     (λ w. scalar-clash (r k) (a .slot .now) (a .side) (a .work) (b .opened) (b .code) (b .g) (b .meter) (b .inv .1) (more k) (start k .pre .0) _ (made k) e (sym (w .1 .ensures) ∙ w .2 .taken))
     (c .if3 .came)
 
--- src/lib.rt:160:9
 add-g : tie.Need-add-g Inv-loop μ-loop
 add-g c = search needs
 
--- src/lib.rt:138:5
 loop-less : tie.Need-loop-less Inv-loop μ-loop
 loop-less c = search needs
 
--- src/lib.rt:138:5
 loop-again : tie.Need-loop-again Inv-loop μ-loop
 loop-again c =
     let h = c .before in
@@ -131,14 +112,12 @@ loop-again c =
           (c .if2 .came),
     )
 
--- src/lib.rt:130:1
 returns-3 : tie.Need-returns-3 Inv-loop μ-loop
 returns-3 c =
     let a = c .before .before .before .before .before .before .before .args in
     let b = c .before .before .before .loop in
     at-open (region (a .held .now) (a .cut .now)) (a .slot .now) (a .side) (a .work) (b .opened) (b .code) (b .g) (b .meter) (b .inv .1) (c .before .if1 .left) (c .if5 .taken)
 
--- src/lib.rt:130:1
 returns-4 : tie.Need-returns-4 Inv-loop μ-loop
 returns-4 c =
     let a = c .before .before .before .before .before .before .before .args in

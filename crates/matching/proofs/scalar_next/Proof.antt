@@ -1,72 +1,55 @@
+-- `matching::scalar_next`: the code at the cursor, or the end. Assumes nothing.
 use mathlib.Core.Path.{sym, _∙_}
 use native.Mathlib.Omega.{arith}
 use Rattle.matching.proofs.Publishing.{single-end, single-stopped, single-ticked}
 use borrow.Author.Needs.{needs}
 use Rattle.matching.proofs.scalar_next.Statement.{statement}
 use Rattle.matching.proofs.scalar_next.Tie as tie
-use Rattle.matching.proofs.scalar_next.Reads as reads
-use Rattle.matching.proofs.scalar_next.Lts as lts
-use Rattle.matching.proofs.published.Reads as published-reads
-use Rattle.meter.proofs.Meter.tick.Reads as tick-reads
 
--- src/lib.rt:430:9
 published-requires : tie.Need-published-requires
 published-requires c κs = search needs
 
--- src/lib.rt:430:9
 returns : tie.Need-returns
 returns c =
     let a = c .before .before .before .before .args in
     c .published .ensures ∙ single-end (a .slot .now) (a .side) (a .cursor) (a .work) (c .before .if1 .taken)
 
--- src/lib.rt:432:11
 tick-requires : tie.Need-tick-requires
 tick-requires c κs = search needs
 
--- src/lib.rt:433:23
 enum-known-m : tie.Need-enum-known-m
 enum-known-m c = search needs
 
--- src/lib.rt:433:29
 published-requires-2 : tie.Need-published-requires-2
 published-requires-2 c κs = search needs
 
--- src/lib.rt:434:22
 enum-known-m-2 : tie.Need-enum-known-m-2
 enum-known-m-2 c = search needs
 
--- src/lib.rt:435:22
 add-at : tie.Need-add-at
 add-at c = search needs
 
--- src/lib.rt:437:23
 add-t15 : tie.Need-add-t15
 add-t15 c = search needs
 
--- src/lib.rt:442:50
 mul-t16 : tie.Need-mul-t16
 mul-t16 c = search needs
 
--- src/lib.rt:442:50
 shared-slice-read-t15 : tie.Need-shared-slice-read-t15
 shared-slice-read-t15 c = search needs
 
--- src/lib.rt:442:50
 cast-t18 : tie.Need-cast-t18
 cast-t18 c = omega (arith, c .before .before .before .before .before .before .before .before .before .before .pre .1 .1 (c .before .before .before .before .before .before .before .before .before .before .args .cursor .next) (c .before .before .before .before .before .before .before .if1 .left))
 
--- src/lib.rt:442:13
 published-requires-3 : tie.Need-published-requires-3
 published-requires-3 c κs = search needs
 
--- src/lib.rt:422:1
 returns-2 : tie.Need-returns-2
 returns-2 c =
     let a = c .before .before .before .before .before .before .before .before .args in
     c .published2 .ensures
     ∙ single-stopped (a .slot .now) (a .side) (a .cursor) (a .work) (c .before .before .before .before .before .if1 .left) (sym (c .before .before .m .given .1) ∙ c .before .before .before .before .tick .ensures)
 
--- src/lib.rt:422:1
 returns-3 : tie.Need-returns-3
 returns-3 c =
     let a = c .before .before .before .before .before .before .before .before .before .before .before .args in

@@ -1,7 +1,7 @@
-use mathlib.Core.Path.{_≡_, sym, _∙_, subst}
-use Prim.Native.Nat.{ℕ, _+_, _-_, _*_, _^_, _≤_, _<_}
+-- `matching::scalar_outputs`: the walk from here on is the walk from the start, code by code. Assumes nothing.
+use mathlib.Core.Path.{_≡_, sym, _∙_}
+use Prim.Native.Nat.{_-_, _≤_, _<_}
 use native.Mathlib.Omega.{arith}
-use lib.ListN.{length}
 use borrow.Author.Needs.{needs}
 use Rattle.words.specs.Region.{Region, region}
 use Rattle.meter.specs.declared.Tick.the-variants.{Ticked}
@@ -10,10 +10,6 @@ use Rattle.matching.proofs.Turns.{Passing, pass-start, pass-end, pass-s
 use Rattle.matching.proofs.Scalar.{code-clash}
 use Rattle.matching.proofs.scalar_outputs.Statement.{statement}
 use Rattle.matching.proofs.scalar_outputs.Tie as tie
-use Rattle.matching.proofs.scalar_outputs.Reads as reads
-use Rattle.matching.proofs.scalar_outputs.Lts as lts
-use Rattle.meter.proofs.Meter.tick.Reads as tick-reads
-use Rattle.words.proofs.contradicts.Reads as contradicts-reads
 
 abbrev Inv-loop : tie.InvT-loop
 Inv-loop slot side held cut meter₀ g₀ meter g =
@@ -42,25 +38,20 @@ module _ (c : tie.After-known-told Inv-loop μ-loop) where
   made : Ticked (c .before .m .given .0 .0) ≡ tickOf (state .loop .meter)
   made = sym (c .before .m .given .1) ∙ c .before .before .before .tick .ensures
 
--- src/lib.rt:215:5
 loop-holds : tie.Need-loop-holds Inv-loop μ-loop
 loop-holds c =
     let a = c .before .before .before .args in
     (omega arith, pass-start (region (a .held .now) (a .cut .now)) (a .slot .now) (a .side) (a .work))
 
--- src/lib.rt:216:15
 tick-requires : tie.Need-tick-requires Inv-loop μ-loop
 tick-requires c κs = search needs
 
--- src/lib.rt:217:26
 enum-known-m : tie.Need-enum-known-m Inv-loop μ-loop
 enum-known-m c = search needs
 
--- src/lib.rt:218:27
 enum-known-m-2 : tie.Need-enum-known-m-2 Inv-loop μ-loop
 enum-known-m-2 c = search needs
 
--- src/lib.rt:219:17
 returns : tie.Need-returns Inv-loop μ-loop
 returns c =
     let a = c .before .before .before .before .before .before .before .before .before .before .args in
@@ -68,23 +59,18 @@ returns c =
     pass-stopped (region (a .held .now) (a .cut .now)) (a .slot .now) (a .side) (a .work) (b .g) (b .meter) (b .inv .1) (c .before .before .before .before .if1 .taken)
     (sym (c .before .m2 .given .1) ∙ c .before .before .before .tick .ensures)
 
--- src/lib.rt:225:18
 add-at : tie.Need-add-at Inv-loop μ-loop
 add-at c = search needs
 
--- src/lib.rt:226:42
 mul-contradicts : tie.Need-mul-contradicts Inv-loop μ-loop
 mul-contradicts c = search needs
 
--- src/lib.rt:226:42
 shared-slice-read-contradicts : tie.Need-shared-slice-read-contradicts Inv-loop μ-loop
 shared-slice-read-contradicts c = search needs
 
--- src/lib.rt:226:12
 contradicts-requires : tie.Need-contradicts-requires Inv-loop μ-loop
 contradicts-requires c κs = search needs
 
--- src/lib.rt:227:13
 returns-2 : tie.Need-returns-2 Inv-loop μ-loop
 returns-2 c =
     let k = c .before .before .before .before in
@@ -93,15 +79,12 @@ returns-2 c =
     pass-hit (r k) (a .slot .now) (a .side) (a .work) (b .g) (b .meter) (b .inv .1) (more k) (made k)
     (code-clash (r k) (a .slot .now) (a .side) (b .g) (start k .pre .0) ∙ sym (c .before .contradicts .ensures) ∙ c .if2 .taken)
 
--- src/lib.rt:232:9
 add-g : tie.Need-add-g Inv-loop μ-loop
 add-g c = search needs
 
--- src/lib.rt:215:5
 loop-less : tie.Need-loop-less Inv-loop μ-loop
 loop-less c = search needs
 
--- src/lib.rt:215:5
 loop-again : tie.Need-loop-again Inv-loop μ-loop
 loop-again c =
     let k = c .before .before .before .before in
@@ -112,7 +95,6 @@ loop-again c =
           (code-clash (r k) (a .slot .now) (a .side) (b .g) (start k .pre .0) ∙ sym (c .before .contradicts .ensures) ∙ c .if2 .left),
     )
 
--- src/lib.rt:209:1
 returns-3 : tie.Need-returns-3 Inv-loop μ-loop
 returns-3 c =
     let a = c .before .before .before .before .before .before .args in

@@ -1,6 +1,7 @@
+-- `matching::undecided`: the lowest bit of the mask names the atom, and the group's absent bits its sign. Assumes nothing.
+use mathlib.Core.Path.{_≡_, sym, ap, _∙_}
+use Prim.Native.Nat.{ℕ, _+_, _*_, _<_}
 use native.Mathlib.Omega.{arith}
-use mathlib.Core.Path.{sym}
-use Prim.Native.Nat.{_<_}
 use borrow.Author.Needs.{needs}
 use Rattle.words.specs.Bit.{firstBit}
 use Rattle.words.proofs.Masks.{first-bit-lowest}
@@ -8,50 +9,50 @@ use Rattle.matching.proofs.Packed.{code-absent, code-present}
 use Rattle.matching.proofs.undecided.Statement.{statement}
 use Rattle.matching.proofs.undecided.Tie as tie
 
-place : (c : tie.Start) → firstBit (c .args .unknown) < 64
-place c = first-bit-lowest (c .args .unknown) (c .fits .unknown .fits) (c .pre .1) .inside
+place : (c : tie.After-first-bit) → c .first-bit .result < 64
+place c =
+    let s = c .before in
+    let e = c .first-bit .ensures in
+    let l : firstBit (s .args .unknown) < 64 = first-bit-lowest (s .args .unknown) (s .fits .unknown .fits) (s .pre .1) .inside in
+    omega arith
 
-cast-t : tie.Need-cast-t
-cast-t c = omega (arith, place c)
+mul-atom : tie.Need-mul-atom
+mul-atom c = search needs
+
+first-bit-requires : tie.Need-first-bit-requires
+first-bit-requires c κs = search needs
+
+add-atom : tie.Need-add-atom
+add-atom c = omega (arith, place c)
 
 mul-result : tie.Need-mul-result
-mul-result c = search needs
-
-add-result : tie.Need-add-result
-add-result c = omega (arith, place (c .before))
+mul-result c = omega (arith, place (c .before))
 
 mul-result-2 : tie.Need-mul-result-2
 mul-result-2 c = omega (arith, place (c .before))
 
-mul-result-3 : tie.Need-mul-result-3
-mul-result-3 c = search needs
-
-add-result-2 : tie.Need-add-result-2
-add-result-2 c = omega (arith, place (c .before))
-
-mul-result-4 : tie.Need-mul-result-4
-mul-result-4 c = omega (arith, place (c .before))
-
-add-result-3 : tie.Need-add-result-3
-add-result-3 c = omega (arith, place (c .before))
+add-result : tie.Need-add-result
+add-result c = omega (arith, place (c .before))
 
 returns : tie.Need-returns
-returns c = sym (code-absent (c .before .args .index) (c .before .args .absent) (c .before .args .unknown) (c .if1 .taken))
+returns c =
+    let a = c .before .before .args in
+    ap (λ (t : ℕ). 2 * (64 * a .index + t)) (c .before .first-bit .ensures) ∙ sym (code-absent (a .index) (a .absent) (a .unknown) (c .if1 .taken))
 
 returns-2 : tie.Need-returns-2
-returns-2 c = sym (code-present (c .before .args .index) (c .before .args .absent) (c .before .args .unknown) (c .if1 .left))
+returns-2 c =
+    let a = c .before .before .args in
+    ap (λ (t : ℕ). 2 * (64 * a .index + t) + 1) (c .before .first-bit .ensures) ∙ sym (code-present (a .index) (a .absent) (a .unknown) (c .if1 .left))
 
 pub undecided-spec : {M : Type 1} → statement M
 undecided-spec =
     tie.close
     (tie.spec
-    cast-t
+    mul-atom
+    first-bit-requires
+    add-atom
     mul-result
-    add-result
     mul-result-2
-    mul-result-3
-    add-result-2
-    mul-result-4
-    add-result-3
+    add-result
     returns
     returns-2)

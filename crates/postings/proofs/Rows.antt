@@ -1,0 +1,159 @@
+-- The rows of slots as a filling meets them: side by side, then row by row. Assumes nothing.
+use mathlib.Core.Path.{_≡_, refl, sym, ap, ap₂, _∙_}
+use mathlib.Core.List.{List, [], _∷_, _++_}
+use Prim.Native.Nat.{ℕ, zero, suc, _+_, _-_, _*_, _≤_, _<_}
+use native.Mathlib.Numerals.{add-one}
+use native.Mathlib.Nat.{sub-zero}
+use native.Mathlib.Omega.{arith}
+use lib.ListN.{length, getD, take, drop}
+use lib.Seq.{drop-drop}
+use Rattle.meter.specs.declared.Meter.{Meter}
+use Rattle.model.specs.Records.{Row, slotWords, postingWords}
+use Rattle.model.specs.Slots.{rowIn, entryIn, entriesIn}
+use Rattle.model.specs.Postings.{rowPostings, postingsFrom, postingsOf}
+use Rattle.slots.specs.Cursor.{listOf}
+use Rattle.slots.specs.Layout.{conditionSide, outputSide, Laid, Stored}
+use Rattle.slots.proofs.Storing.{laid-stored}
+use Rattle.postings.specs.Steps.{Walk, onward, walk}
+use Rattle.postings.specs.Filling.{Filled, put, filledTo, sidePostings, Postable, RowPostable, RowsPostable, slotAt, rowsIn}
+use Rattle.postings.proofs.Walking.{walk-append}
+use Rattle.postings.proofs.Fills.{fill-next}
+use Rattle.postings.proofs.Posting.{RowFit, row-fit, row-sides, row-short, side-short, AllFit}
+
+-- ---- the two sides of a row
+stored-fit : {n : ℕ} {ws : List ℕ} → Stored n ws → RowFit n (rowIn ws)
+stored-fit {n} {ws} s = row-fit n (rowIn ws) (s .row)
+
+module _ {ws : List ℕ} {p at n : ℕ} where
+  pub row-laid : RowPostable ws p at n → Laid ws
+  row-laid f = laid-stored (f .atoms) ws (f .stored)
+
+  fit : (f : RowPostable ws p at n) → RowFit (f .atoms) (rowIn ws)
+  fit f = stored-fit (f .stored)
+
+  pub first-side : RowPostable ws p at n → Postable ws (conditionSide ws) p at n
+  first-side f =
+      let e = row-laid f .conditions in
+      record {
+        sound = row-laid f .first;
+        low = rw e (λ c h. omega (arith, f .stored .atoms, fit f .conditions .low c h));
+        place = f .place;
+        room = omega (arith, ap length e, fit f .few, f .room);
+      }
+
+  -- after the conditions
+  pub second-side : RowPostable ws p at n → (r : Walk Filled) (b : List ℕ) (m : Meter) →
+      r ≡ walk put (sidePostings p (listOf ws (conditionSide ws))) (filledTo at b) m → Postable ws (outputSide ws) p (r .state .next) n
+  second-side f r b m q =
+      let e = row-laid f .outputs in
+      let cs = listOf ws (conditionSide ws) in
+      record {
+        sound = row-laid f .second;
+        low = rw e (λ c h. omega (arith, f .stored .atoms, fit f .outputs .low c h));
+        place = f .place;
+        room = omega (
+          arith,
+          ap length e,
+          ap length (row-laid f .conditions),
+          fit f .few,
+          fit f .many,
+          f .room,
+          ap (λ (w : Walk Filled). w .state .next) q,
+          fill-next (sidePostings p cs) at b m,
+          side-short p cs,
+        );
+      }
+
+  -- the row, by how its conditions ended
+  pub row-walk : RowPostable ws p at n → (r : Walk Filled) (b : List ℕ) (m : Meter) →
+      r ≡ walk put (sidePostings p (listOf ws (conditionSide ws))) (filledTo at b) m →
+      walk put (rowPostings p (rowIn ws)) (filledTo at b) m
+      ≡ onward (r .end) (r .state) (walk put (sidePostings p (listOf ws (outputSide ws))))
+  row-walk f r b m q =
+      let cs = sidePostings p (listOf ws (conditionSide ws)) in
+      let os = sidePostings p (listOf ws (outputSide ws)) in
+      let e : rowPostings p (rowIn ws) ≡ cs ++ os =
+      row-sides (f .atoms) p (rowIn ws) (fit f)
+      ∙ ap₂ (λ (x y : List ℕ). sidePostings p x ++ sidePostings p y) (sym (row-laid f .conditions)) (sym (row-laid f .outputs)) in
+      ap (λ (l : List ℕ). walk put l (filledTo at b) m) e ∙ walk-append put cs os (filledTo at b) m q
+
+-- ---- the rows of slots
+-- as the code cuts a slot out
+pub slot-code : (ws : List ℕ) (p : ℕ) → take (slotWords * p + slotWords - slotWords * p) (drop (slotWords * p) ws) ≡ slotAt ws p
+slot-code ws p =
+    let e : slotWords * p + slotWords - slotWords * p ≡ slotWords = omega arith in
+    ap (λ (n : ℕ). take n (drop (slotWords * p) ws)) e
+
+-- from position p on
+unfoldable pub rowsFrom : ℕ → List ℕ → ℕ → List Row
+rowsFrom n ws p = rowsIn (n - p) (drop (slotWords * p) ws)
+
+pub rows-start : (n : ℕ) (ws : List ℕ) → postingsFrom 0 (rowsFrom n ws 0) ≡ postingsOf (rowsIn n ws)
+unfolding rowsFrom postingsOf
+rows-start n ws = ap (λ (k : ℕ). postingsFrom 0 (rowsIn k ws)) (sub-zero n)
+
+rows-more : (n : ℕ) (ws : List ℕ) (p : ℕ) → p < n → rowsFrom n ws p ≡ rowIn (slotAt ws p) ∷ rowsFrom n ws (p + 1)
+unfolding rowsFrom rowsIn entriesIn entryIn
+rows-more n ws p l =
+    let e : n - p ≡ suc (n - (p + 1)) = omega arith in
+    let d : slotWords * p + slotWords ≡ slotWords * (p + 1) = omega arith in
+    ap (λ (k : ℕ). rowsIn k (drop (slotWords * p) ws)) e
+    ∙ ap (λ (r : List ℕ). rowIn (slotAt ws p) ∷ rowsIn (n - (p + 1)) r) (drop-drop slotWords (slotWords * p) ws ∙ ap (λ (k : ℕ). drop k ws) d)
+
+pub rows-first : (n : ℕ) (ws : List ℕ) → 0 < n → rowsIn n ws ≡ rowIn (slotAt ws 0) ∷ rowsFrom n ws 1
+unfolding rowsFrom
+rows-first n ws l =
+    let e : 0 + 1 ≡ 1 = omega arith in
+    ap (λ (k : ℕ). rowsIn k ws) (sym (sub-zero n)) ∙ rows-more n ws 0 l ∙ ap (λ (k : ℕ). rowIn (slotAt ws 0) ∷ rowsFrom n ws k) e
+
+pub rows-turn : (n : ℕ) (ws : List ℕ) (p : ℕ) → p < n →
+    postingsFrom p (rowsFrom n ws p) ≡ rowPostings p (rowIn (slotAt ws p)) ++ postingsFrom (p + 1) (rowsFrom n ws (p + 1))
+unfolding postingsFrom
+rows-turn n ws p l =
+    ap (postingsFrom p) (rows-more n ws p l)
+    ∙ ap (λ (k : ℕ). rowPostings p (rowIn (slotAt ws p)) ++ postingsFrom k (rowsFrom n ws (p + 1))) (sym (add-one p))
+
+pub rows-end : (n : ℕ) (ws : List ℕ) (p : ℕ) → n ≤ p → postingsFrom p (rowsFrom n ws p) ≡ []
+unfolding rowsFrom rowsIn entriesIn postingsFrom
+rows-end n ws p l =
+    let e : n - p ≡ 0 = omega arith in ap (λ (k : ℕ). postingsFrom p (rowsIn k (drop (slotWords * p) ws))) e
+
+pub rows-length : (n : ℕ) (ws : List ℕ) → length (rowsIn n ws) ≡ n
+unfolding rowsIn entriesIn
+rows-length zero ws = refl
+rows-length (suc n) ws = ap suc (rows-length n (drop slotWords ws))
+
+pub rows-at : (n : ℕ) (ws : List ℕ) (p : ℕ) (d : Row) → p < n → getD (rowsIn n ws) p d ≡ rowIn (slotAt ws p)
+unfolding rowsIn entriesIn entryIn
+rows-at zero ws p d l = absurd (omega arith)
+rows-at (suc n) ws zero d l = refl
+rows-at (suc n) ws (suc p) d l =
+    let e : slotWords + slotWords * p ≡ slotWords * suc p = omega arith in
+    rows-at n (drop slotWords ws) p d (omega arith)
+    ∙ ap (λ (r : List ℕ). rowIn (take slotWords r)) (drop-drop (slotWords * p) slotWords ws ∙ ap (λ (k : ℕ). drop k ws) e)
+
+-- ---- a filling of all rows
+module _ {rows : ℕ} {ws : List ℕ} {n : ℕ} where
+  pub all-rows : (f : RowsPostable rows ws n) → AllFit (f .atoms) (rowsIn rows ws)
+  all-rows f i d l =
+      let k : i < rows = omega (arith, rows-length rows ws) in rw (rows-at rows ws i d k) (stored-fit (f .stored i k))
+
+  pub row-room : RowsPostable rows ws n → (p at : ℕ) → p < rows → at ≤ postingWords * p → RowPostable (slotAt ws p) p at n
+  row-room f p at l h =
+      record { atoms = f .atoms; stored = f .stored p l; place = omega (arith, f .few); room = omega (arith, f .room) }
+
+  -- where the next row begins
+  pub row-next : RowsPostable rows ws n → (p at : ℕ) (b : List ℕ) (m : Meter) (r : Walk Filled) → p < rows → at ≤ postingWords * p →
+      r ≡ walk put (rowPostings p (rowIn (slotAt ws p))) (filledTo at b) m → r .state .next ≤ postingWords * (p + 1)
+  row-next f p at b m r l h q =
+      let t = rowIn (slotAt ws p) in
+      omega (arith, ap (λ (w : Walk Filled). w .state .next) q, fill-next (rowPostings p t) at b m, row-short (f .atoms) p t (stored-fit (f .stored p l)))
+
+-- the rows from position p on, by how the row there ended
+pub rows-walk : (rows : ℕ) (ws : List ℕ) (p at : ℕ) (b : List ℕ) (m : Meter) (r : Walk Filled) → p < rows →
+    r ≡ walk put (rowPostings p (rowIn (slotAt ws p))) (filledTo at b) m →
+    walk put (postingsFrom p (rowsFrom rows ws p)) (filledTo at b) m
+    ≡ onward (r .end) (r .state) (walk put (postingsFrom (p + 1) (rowsFrom rows ws (p + 1))))
+rows-walk rows ws p at b m r l q =
+    ap (λ (k : List ℕ). walk put k (filledTo at b) m) (rows-turn rows ws p l)
+    ∙ walk-append put (rowPostings p (rowIn (slotAt ws p))) (postingsFrom (p + 1) (rowsFrom rows ws (p + 1))) (filledTo at b) m q
