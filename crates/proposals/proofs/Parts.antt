@@ -5,7 +5,7 @@ use mathlib.Core.List.{List, [], _∷_, _++_, append-assoc, append-nil}
 use Prim.Native.Nat.{ℕ, zero, suc, _+_, _-_, _≤_, _<_}
 use native.Mathlib.Numerals.{add-one}
 use native.Mathlib.Omega.{arith}
-use lib.ListN.{length, getD, take, drop, set, replicate, length-append, length-drop, take-append-drop}
+use lib.ListN.{length, getD, take, drop, set, replicate, length-append, length-drop, take-append-drop, drop-of-length-le}
 use lib.Seq.{drop-cons, drop-drop, drop-length, drop-set-lt, take-all, take-at, drop-at, take-suc-set, length-take-le}
 use borrow.Rule.Slice.PartMut.{putMid, midOf, post-is}
 use Rattle.lists.specs.Lists.{pad}
@@ -22,6 +22,14 @@ use Rattle.proposals.specs.Parts.{put, blankOf}
 -- ---- a run of words written one by one
 pub put-none : (i : ℕ) (ws : List ℕ) → put i [] ws ≡ ws
 put-none i ws = take-append-drop i ws
+
+pub put-end : (i : ℕ) (xs ws : List ℕ) → length xs ≡ 0 → put i xs ws ≡ ws
+put-end i [] ws e = put-none i ws
+put-end i (x ∷ xs) ws e = absurd (omega arith)
+
+pub put-whole : (xs ws : List ℕ) → length ws ≡ length xs → put 0 xs ws ≡ xs
+put-whole xs ws e =
+    ap (λ (l : List ℕ). xs ++ l) (drop-of-length-le ws {i = length xs} (omega arith)) ∙ append-nil xs
 
 pub put-more : (i x : ℕ) (xs ws : List ℕ) → i < length ws → put (i + 1) xs (set ws i x) ≡ put i (x ∷ xs) ws
 put-more i x xs ws h =

@@ -16,7 +16,7 @@ use Rattle.meter.proofs.Verdict.{the-type}
 use Rattle.meter.specs.declared.Verdict.the-variants as verdict
 use Rattle.meter.specs.declared.Read.{Read}
 use Rattle.meter.specs.declared.Read.the-variants as read
-use Rattle.meter.specs.Meter.{andThen, payOne, pay, judged, pay-add, pay-left, pay-suc}
+use Rattle.meter.specs.Meter.{andThen, payOne, pay, judged, pay-add, pay-left, pay-none, pay-suc}
 use Rattle.rows.specs.declared.Charge.the-variants.{Paid, Ended}
 use Rattle.rows.specs.Charge.{chargeOf, WhereYes}
 
@@ -102,3 +102,7 @@ where-ended a m P {j} e = go (payOne a m) e
     go (read.Paid p q) e = let z : _≡_ {A = ℕ} 0 1 = cc in absurd (omega arith)
     go (read.Declined p q) e = let f : j .verdict ≡ verdict.Declined = cc in subst (λ (v : Verdict). WhereYes v P) (sym f) tt
     go (read.Stopped p q) e = let f : j .verdict ≡ verdict.Stopped = cc in subst (λ (v : Verdict). WhereYes v P) (sym f) tt
+
+pub where-no : (a : Account) (m : Meter) (P : Type 0) {i : Judged} → i ≡ judged false (pay 0 a m) → WhereYes (i .verdict) P
+where-no a m P e =
+    subst (λ (j : Judged). WhereYes (j .verdict) P) (sym (e ∙ ap (judged false) (pay-none a m))) tt

@@ -122,7 +122,7 @@ groups-runs (c ∷ d ∷ ds) =
         ∙ ap suc q ∙ sym (runs-other 7 c d ds f)
 
 -- ---- groups
-drop-three : (ws : List ℕ) (b : ℕ) → b + 3 ≤ length ws → drop b ws ≡ getD ws b 0 ∷ getD ws (b + 1) 0 ∷ getD ws (b + 2) 0 ∷ drop (b + 3) ws
+pub drop-three : (ws : List ℕ) (b : ℕ) → b + 3 ≤ length ws → drop b ws ≡ getD ws b 0 ∷ getD ws (b + 1) 0 ∷ getD ws (b + 2) 0 ∷ drop (b + 3) ws
 drop-three ws b h =
     let e1 : suc b ≡ b + 1 = omega arith in
     let e2 : suc (b + 1) ≡ b + 2 = omega arith in

@@ -1,16 +1,14 @@
-use lib.ListN.{getD}
-use lib.Count.{ones-le}
+-- `slotcheck::code_count`. The loop: what is counted, and what the groups left hold, make the whole. Assumes nothing.
 use mathlib.Core.Path.{_≡_}
-use native.Mathlib.Omega.{arith}
 use Prim.Native.Nat.{_+_, _-_, _*_, _≤_}
-use lib.ListN.{length, drop}
+use native.Mathlib.Omega.{arith}
+use lib.ListN.{getD, length, drop}
+use lib.Count.{ones-le}
+use borrow.Author.Needs.{needs}
 use Rattle.slotcheck.specs.Check.{codeCount}
 use Rattle.slotcheck.proofs.Loops.{count-next, count-end}
-use borrow.Author.Needs.{needs}
 use Rattle.slotcheck.proofs.code_count.Statement.{statement}
 use Rattle.slotcheck.proofs.code_count.Tie as tie
-use Rattle.slotcheck.proofs.code_count.Reads as reads
-use Rattle.slotcheck.proofs.code_count.Lts as lts
 
 abbrev Inv-loop : tie.InvT-loop
 Inv-loop words count₀ at₀ count at = (at ≤ length words) × (count ≤ 64 * at) × (count + codeCount (drop at words) ≡ count₀ + codeCount (drop at₀ words))
@@ -18,39 +16,30 @@ Inv-loop words count₀ at₀ count at = (at ≤ length words) × (count ≤ 64 
 abbrev μ-loop : tie.MeasureT-loop
 μ-loop words count₀ at₀ count at = length words - at
 
--- src/lib.rt:120:5
 loop-holds : tie.Need-loop-holds Inv-loop μ-loop
 loop-holds c = search needs
 
--- src/lib.rt:120:16
 sub-loop : tie.Need-sub-loop Inv-loop μ-loop
 sub-loop c = search needs
 
--- src/lib.rt:121:29
 add-present : tie.Need-add-present Inv-loop μ-loop
 add-present c = search needs
 
--- src/lib.rt:121:23
 mul-present : tie.Need-mul-present Inv-loop μ-loop
 mul-present c = search needs
 
--- src/lib.rt:121:23
 shared-slice-read-present : tie.Need-shared-slice-read-present Inv-loop μ-loop
 shared-slice-read-present c = search needs
 
--- src/lib.rt:122:28
 add-absent : tie.Need-add-absent Inv-loop μ-loop
 add-absent c = search needs
 
--- src/lib.rt:122:22
 mul-absent : tie.Need-mul-absent Inv-loop μ-loop
 mul-absent c = search needs
 
--- src/lib.rt:122:22
 shared-slice-read-absent : tie.Need-shared-slice-read-absent Inv-loop μ-loop
 shared-slice-read-absent c = search needs
 
--- src/lib.rt:123:19
 add-count : tie.Need-add-count Inv-loop μ-loop
 add-count c =
     let w = c .before .before .before .before .args .words .now in
@@ -59,7 +48,6 @@ add-count c =
     let a = ones-le 64 (getD w (l .at + 2) 0) (c .shared-slice-known2 .given (l .at + 2) .fits) in
     search needs
 
--- src/lib.rt:123:18
 cast-count : tie.Need-cast-count Inv-loop μ-loop
 cast-count c =
     let w = c .before .before .before .before .args .words .now in
@@ -68,7 +56,6 @@ cast-count c =
     let a = ones-le 64 (getD w (l .at + 2) 0) (c .shared-slice-known2 .given (l .at + 2) .fits) in
     search needs
 
--- src/lib.rt:123:9
 add-count-2 : tie.Need-add-count-2 Inv-loop μ-loop
 add-count-2 c =
     let w = c .before .before .before .before .args .words .now in
@@ -77,15 +64,12 @@ add-count-2 c =
     let a = ones-le 64 (getD w (l .at + 2) 0) (c .shared-slice-known2 .given (l .at + 2) .fits) in
     search needs
 
--- src/lib.rt:124:9
 add-at : tie.Need-add-at Inv-loop μ-loop
 add-at c = search needs
 
--- src/lib.rt:120:5
 loop-less : tie.Need-loop-less Inv-loop μ-loop
 loop-less c = search needs
 
--- src/lib.rt:120:5
 loop-again : tie.Need-loop-again Inv-loop μ-loop
 loop-again c =
     let w = c .before .before .before .before .args .words .now in
@@ -95,7 +79,6 @@ loop-again c =
     let n = count-next w (l .at) (c .before .before .loop-test .taken) in
     (search needs, omega arith, omega arith)
 
--- src/lib.rt:114:1
 returns : tie.Need-returns Inv-loop μ-loop
 returns c =
     let w = c .before .before .args .words .now in

@@ -1,36 +1,29 @@
+-- `slotcheck::is_group`. One law for each way out. Assumes nothing.
 use mathlib.Core.Path.{sym, _∙_}
 use borrow.Author.Tests.{not-true, not-false}
-use Rattle.slotcheck.proofs.Loops.{group-empty, group-outside, group-apart, group-plain}
 use borrow.Author.Needs.{needs}
+use Rattle.slotcheck.proofs.Loops.{group-empty, group-outside, group-apart, group-plain}
 use Rattle.slotcheck.proofs.is_group.Statement.{statement}
 use Rattle.slotcheck.proofs.is_group.Tie as tie
-use Rattle.slotcheck.proofs.is_group.Reads as reads
-use Rattle.slotcheck.proofs.is_group.Lts as lts
-use Rattle.slotcheck.proofs.is_inside.Reads as is-inside-reads
 
--- src/lib.rt:92:9
 returns : tie.Need-returns
 returns c =
     let a = c .before .args in
     group-empty (a .apart) (a .atoms) (a .x) (a .present) (a .absent) (c .if1 .taken)
 
--- src/lib.rt:94:9
 is-inside-requires : tie.Need-is-inside-requires
 is-inside-requires c κs = search needs
 
--- src/lib.rt:95:9
 returns-2 : tie.Need-returns-2
 returns-2 c =
     let a = c .before .before .before .args in
     group-outside (a .apart) (a .atoms) (a .x) (a .present) (a .absent) (c .before .before .if1 .left) (sym (c .before .is-inside .ensures) ∙ not-true _ (c .if2 .taken))
 
--- src/lib.rt:98:9
 returns-3 : tie.Need-returns-3
 returns-3 c =
     let a = c .before .before .before .before .args in
     group-apart (a .apart) (a .atoms) (a .x) (a .present) (a .absent) (c .before .before .before .if1 .left) (sym (c .before .before .is-inside .ensures) ∙ not-false _ (c .before .if2 .left)) (c .if3 .taken)
 
--- src/lib.rt:87:1
 returns-4 : tie.Need-returns-4
 returns-4 c =
     let a = c .before .before .before .before .args in

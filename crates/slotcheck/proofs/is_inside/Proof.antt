@@ -1,32 +1,27 @@
+-- `slotcheck::is_inside`. By the word: before the last one, after it, or the last one. Assumes nothing.
 use mathlib.Core.Path.{sym, ap, _∙_}
 use Prim.Native.Nat.{ℕ, _^_, _%_}
 use native.Mathlib.Omega.{arith}
 use lib.Dec.{ltb}
+use borrow.Author.Needs.{needs}
 use Rattle.words.proofs.Bits.{shl-one}
 use Rattle.slotcheck.proofs.Loops.{inside-all, inside-none, inside-last}
-use borrow.Author.Needs.{needs}
 use Rattle.slotcheck.proofs.is_inside.Statement.{statement}
 use Rattle.slotcheck.proofs.is_inside.Tie as tie
-use Rattle.slotcheck.proofs.is_inside.Reads as reads
-use Rattle.slotcheck.proofs.is_inside.Lts as lts
 
--- src/lib.rt:78:9
 returns : tie.Need-returns
 returns c =
     let a = c .before .args in
     inside-all (a .atoms) (a .x) (a .bits) (c .if1 .taken) (search needs)
 
--- src/lib.rt:81:9
 returns-2 : tie.Need-returns-2
 returns-2 c =
     let a = c .before .before .args in
     inside-none (a .atoms) (a .x) (a .bits) (c .if2 .taken) (search needs)
 
--- src/lib.rt:83:12
 shl-result : tie.Need-shl-result
 shl-result c = search needs
 
--- src/lib.rt:72:1
 returns-3 : tie.Need-returns-3
 returns-3 c =
     let a = c .before .before .args in

@@ -1,128 +1,96 @@
+-- `slotcheck::is_scalar`. One law for each way out. Assumes nothing.
 use mathlib.Core.Path.{sym, _∙_}
-use native.Mathlib.Omega.{arith}
 use Prim.Native.Nat.{_+_, _-_}
+use native.Mathlib.Omega.{arith}
 use lib.ListN.{getD, take, drop, length-take}
 use borrow.Author.Tests.{not-true, not-false}
+use borrow.Author.Needs.{needs}
 use Rattle.slotcheck.proofs.Loops.{runs-le}
 use Rattle.slotcheck.proofs.Ways.{scalar-groups, scalar-conditions, scalar-outputs, scalar-form, scalar-rest}
-use borrow.Author.Needs.{needs}
 use Rattle.slotcheck.proofs.is_scalar.Statement.{statement}
 use Rattle.slotcheck.proofs.is_scalar.Tie as tie
-use Rattle.slotcheck.proofs.is_scalar.Reads as reads
-use Rattle.slotcheck.proofs.is_scalar.Lts as lts
-use Rattle.lists.proofs.all_zero.Reads as all-zero-reads
-use Rattle.slotcheck.proofs.ascends.Reads as ascends-reads
-use Rattle.slotcheck.proofs.run_count.Reads as run-count-reads
 
--- src/lib.rt:134:8
 shared-slice-read-if1 : tie.Need-shared-slice-read-if1
 shared-slice-read-if1 c = search needs
 
--- src/lib.rt:135:9
 returns : tie.Need-returns
 returns c = scalar-groups (c .before .before .before .args .atoms) (c .before .before .before .args .slot .now) (c .if1 .taken)
 
--- src/lib.rt:137:14
 shared-slice-read-nc : tie.Need-shared-slice-read-nc
 shared-slice-read-nc c = search needs
 
--- src/lib.rt:138:14
 shared-slice-read-no : tie.Need-shared-slice-read-no
 shared-slice-read-no c = search needs
 
--- src/lib.rt:139:16
 add-from : tie.Need-add-from
 add-from c = search needs
 
--- src/lib.rt:140:15
 add-end : tie.Need-add-end
 add-end c = search needs
 
--- src/lib.rt:141:17
 sub-ascends : tie.Need-sub-ascends
 sub-ascends c = search needs
 
--- src/lib.rt:141:17
 part-ascends-start : tie.Need-part-ascends-start
 part-ascends-start c = search needs
 
--- src/lib.rt:141:17
 part-ascends-end : tie.Need-part-ascends-end
 part-ascends-end c = search needs
 
--- src/lib.rt:141:9
 ascends-requires : tie.Need-ascends-requires
 ascends-requires c κs = search needs
 
--- src/lib.rt:142:9
 returns-2 : tie.Need-returns-2
 returns-2 c = scalar-conditions (c .before .before .before .before .before .before .before .before .args .atoms) (c .before .before .before .before .before .before .before .before .args .slot .now) (sym (c .before .ascends .ensures) ∙ not-true _ (c .if2 .taken))
 
--- src/lib.rt:144:17
 mul-ascends : tie.Need-mul-ascends
 mul-ascends c = search needs
 
--- src/lib.rt:144:17
 sub-ascends-2 : tie.Need-sub-ascends-2
 sub-ascends-2 c = search needs
 
--- src/lib.rt:144:17
 part-ascends-start-2 : tie.Need-part-ascends-start-2
 part-ascends-start-2 c = search needs
 
--- src/lib.rt:144:17
 part-ascends-end-2 : tie.Need-part-ascends-end-2
 part-ascends-end-2 c = search needs
 
--- src/lib.rt:144:42
 mul-ascends-2 : tie.Need-mul-ascends-2
 mul-ascends-2 c = search needs
 
--- src/lib.rt:144:9
 ascends-requires-2 : tie.Need-ascends-requires-2
 ascends-requires-2 c κs = search needs
 
--- src/lib.rt:145:9
 returns-3 : tie.Need-returns-3
 returns-3 c = scalar-outputs (c .before .before .before .before .before .before .before .before .before .before .before .args .atoms) (c .before .before .before .before .before .before .before .before .before .before .before .args .slot .now) (sym (c .before .ascends2 .ensures) ∙ not-true _ (c .if3 .taken))
 
--- src/lib.rt:147:23
 sub-run-count : tie.Need-sub-run-count
 sub-run-count c = search needs
 
--- src/lib.rt:147:23
 part-run-count-start : tie.Need-part-run-count-start
 part-run-count-start c = search needs
 
--- src/lib.rt:147:23
 part-run-count-end : tie.Need-part-run-count-end
 part-run-count-end c = search needs
 
--- src/lib.rt:147:13
 run-count-requires : tie.Need-run-count-requires
 run-count-requires c κs = search needs
 
--- src/lib.rt:147:54
 mul-run-count : tie.Need-mul-run-count
 mul-run-count c = search needs
 
--- src/lib.rt:147:54
 sub-run-count-2 : tie.Need-sub-run-count-2
 sub-run-count-2 c = search needs
 
--- src/lib.rt:147:54
 part-run-count-start-2 : tie.Need-part-run-count-start-2
 part-run-count-start-2 c = search needs
 
--- src/lib.rt:147:54
 part-run-count-end-2 : tie.Need-part-run-count-end-2
 part-run-count-end-2 c = search needs
 
--- src/lib.rt:147:44
 run-count-requires-2 : tie.Need-run-count-requires-2
 run-count-requires-2 c κs = search needs
 
--- src/lib.rt:147:13
 add-w : tie.Need-add-w
 add-w c =
     let ws = c .before .before .before .before .before .before .before .before .before .before .before .before .before .before .before .args .slot .now in
@@ -132,7 +100,6 @@ add-w c =
     let y = length-take ((8 + getD ws 0 0 + getD ws 1 0) - (8 + getD ws 0 0)) (drop (8 + getD ws 0 0) ws) in
     omega (arith, c .before .before .before .before .before .before .before .before .before .before .before .before .before .before .before .pre .1 .0, c .before .before .before .before .before .before .before .before .before .before .before .before .before .before .before .pre .1 .1 .0, c .before .before .run-count .ensures, c .run-count2 .ensures)
 
--- src/lib.rt:148:8
 mul-if4 : tie.Need-mul-if4
 mul-if4 c =
     let ws = c .before .before .before .before .before .before .before .before .before .before .before .before .before .before .before .args .slot .now in
@@ -142,39 +109,30 @@ mul-if4 c =
     let y = length-take ((8 + getD ws 0 0 + getD ws 1 0) - (8 + getD ws 0 0)) (drop (8 + getD ws 0 0) ws) in
     omega (arith, c .before .before .before .before .before .before .before .before .before .before .before .before .before .before .before .pre .1 .0, c .before .before .before .before .before .before .before .before .before .before .before .before .before .before .before .pre .1 .1 .0, c .before .before .run-count .ensures, c .run-count2 .ensures)
 
--- src/lib.rt:148:21
 add-if4 : tie.Need-add-if4
 add-if4 c = search needs
 
--- src/lib.rt:148:16
 mul-if4-2 : tie.Need-mul-if4-2
 mul-if4-2 c = search needs
 
--- src/lib.rt:149:9
 returns-4 : tie.Need-returns-4
 returns-4 c = scalar-form (c .before .before .before .before .before .before .before .before .before .before .before .before .before .before .before .before .args .atoms) (c .before .before .before .before .before .before .before .before .before .before .before .before .before .before .before .before .args .slot .now) _ _ (c .before .before .before .run-count .ensures) (c .before .run-count2 .ensures) (c .if4 .taken)
 
--- src/lib.rt:151:14
 mul-all-zero : tie.Need-mul-all-zero
 mul-all-zero c = search needs
 
--- src/lib.rt:151:14
 sub-all-zero : tie.Need-sub-all-zero
 sub-all-zero c = search needs
 
--- src/lib.rt:151:14
 part-all-zero-start : tie.Need-part-all-zero-start
 part-all-zero-start c = search needs
 
--- src/lib.rt:151:14
 part-all-zero-end : tie.Need-part-all-zero-end
 part-all-zero-end c = search needs
 
--- src/lib.rt:151:5
 all-zero-requires : tie.Need-all-zero-requires
 all-zero-requires c κs = search needs
 
--- src/lib.rt:130:1
 returns-5 : tie.Need-returns-5
 returns-5 c =
     scalar-rest (c .before .before .before .before .before .before .before .before .before .before .before .before .before .before .before .before .before .before .args .atoms) (c .before .before .before .before .before .before .before .before .before .before .before .before .before .before .before .before .before .before .args .slot .now) _ _ (c .before .before .before .before .before .run-count .ensures) (c .before .before .before .run-count2 .ensures) _

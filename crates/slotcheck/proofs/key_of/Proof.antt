@@ -1,19 +1,16 @@
+-- `slotcheck::key_of`. By the case. Assumes nothing.
 use mathlib.Core.Path.{sym, ap}
 use mathlib.Core.Bool.{Bool}
+use borrow.Author.Needs.{needs}
 use Rattle.words.specs.Literal.{atom}
 use Rattle.slotcheck.specs.Check.{key}
-use borrow.Author.Needs.{needs}
 use Rattle.slotcheck.proofs.key_of.Statement.{statement}
 use Rattle.slotcheck.proofs.key_of.Tie as tie
-use Rattle.slotcheck.proofs.key_of.Reads as reads
-use Rattle.slotcheck.proofs.key_of.Lts as lts
 
--- src/lib.rt:22:1
 returns : tie.Need-returns
 unfolding atom
 returns c = sym (ap (λ (b : Bool). key b (c .before .args .code)) (c .if1 .taken))
 
--- src/lib.rt:22:1
 returns-2 : tie.Need-returns-2
 returns-2 c = search needs
 

@@ -1,15 +1,14 @@
+-- `slotcheck::run_count`. The loop: the runs counted, and those from the code before on, make one more than the whole. Assumes nothing.
 use mathlib.Core.Path.{_≡_, sym}
 use mathlib.Core.Logic.{⊎-elim}
 use mathlib.Core.List.{List, [], _∷_}
-use native.Mathlib.Omega.{arith}
 use Prim.Native.Nat.{ℕ, _+_, _-_, _≤_}
+use native.Mathlib.Omega.{arith}
 use lib.ListN.{length, drop}
-use Rattle.slotcheck.proofs.Loops.{runs, runs-none, runs-kept, runs-more, runs-end}
 use borrow.Author.Needs.{needs}
+use Rattle.slotcheck.proofs.Loops.{runs, runs-none, runs-kept, runs-more, runs-end}
 use Rattle.slotcheck.proofs.run_count.Statement.{statement}
 use Rattle.slotcheck.proofs.run_count.Tie as tie
-use Rattle.slotcheck.proofs.run_count.Reads as reads
-use Rattle.slotcheck.proofs.run_count.Lts as lts
 
 no-codes : (cs : List ℕ) (bits : ℕ) → length cs ≡ 0 → 0 ≡ runs bits cs
 no-codes [] bits e = sym (runs-none bits)
@@ -21,55 +20,42 @@ Inv-loop codes shift count₀ i₀ count i = (1 ≤ i) × (i ≤ length codes) �
 abbrev μ-loop : tie.MeasureT-loop
 μ-loop codes shift count₀ i₀ count i = length codes - i
 
--- src/lib.rt:48:9
 returns : tie.Need-returns Inv-loop μ-loop
 returns c = no-codes (c .before .args .codes .now) (c .before .args .shift) (c .if1 .taken)
 
--- src/lib.rt:52:5
 loop-holds : tie.Need-loop-holds Inv-loop μ-loop
 loop-holds c = search needs
 
--- src/lib.rt:53:12
 mul-if2 : tie.Need-mul-if2 Inv-loop μ-loop
 mul-if2 c = search needs
 
--- src/lib.rt:53:12
 shared-slice-read-if2 : tie.Need-shared-slice-read-if2 Inv-loop μ-loop
 shared-slice-read-if2 c = search needs
 
--- src/lib.rt:53:12
 shr-if2 : tie.Need-shr-if2 Inv-loop μ-loop
 shr-if2 c = search needs
 
--- src/lib.rt:53:39
 sub-if2 : tie.Need-sub-if2 Inv-loop μ-loop
 sub-if2 c = search needs
 
--- src/lib.rt:53:33
 mul-if2-2 : tie.Need-mul-if2-2 Inv-loop μ-loop
 mul-if2-2 c = search needs
 
--- src/lib.rt:53:33
 shared-slice-read-if2-2 : tie.Need-shared-slice-read-if2-2 Inv-loop μ-loop
 shared-slice-read-if2-2 c = search needs
 
--- src/lib.rt:53:33
 shr-if2-2 : tie.Need-shr-if2-2 Inv-loop μ-loop
 shr-if2-2 c = search needs
 
--- src/lib.rt:54:13
 add-count : tie.Need-add-count Inv-loop μ-loop
 add-count c = search needs
 
--- src/lib.rt:56:9
 add-i : tie.Need-add-i Inv-loop μ-loop
 add-i c = search needs
 
--- src/lib.rt:52:5
 loop-less : tie.Need-loop-less Inv-loop μ-loop
 loop-less c = search needs
 
--- src/lib.rt:52:5
 loop-again : tie.Need-loop-again Inv-loop μ-loop
 loop-again c =
     let cs = c .before .before .before .before .before .before .args .codes .now in
@@ -79,7 +65,6 @@ loop-again c =
     (λ w. let t = runs-kept (c .before .before .before .before .before .before .args .shift) cs (l .i) (l .inv .0) (c .before .before .before .loop-test .taken) (w .0 .left) in (omega arith, omega arith, omega (arith, w .1), omega (arith, w .1)))
     (c .if2 .came)
 
--- src/lib.rt:43:1
 returns-2 : tie.Need-returns-2 Inv-loop μ-loop
 returns-2 c =
     let cs = c .before .before .before .args .codes .now in
