@@ -1,5 +1,10 @@
 //! One call of a leaf function on plain numbers, and its end.
 
+use std::fmt;
+
+/// The words of a slot.
+pub const SLOT_WORDS: usize = 168;
+
 /// The functions compared.
 #[derive(Clone, Copy, Debug, PartialEq, Eq)]
 pub enum Function {
@@ -154,4 +159,78 @@ pub struct End {
     pub account: u64,
     pub charge: u64,
     pub words: Vec<u64>,
+}
+
+fn list(numbers: &[u64]) -> String {
+    let words: Vec<String> = numbers.iter().map(u64::to_string).collect();
+    words.join(",")
+}
+
+/// The atoms of a mask.
+fn atoms(mask: &[u64]) -> Vec<u64> {
+    let bits =
+        (0..mask.len() as u64 * 64).filter(|bit| mask[*bit as usize / 64] >> (bit % 64) & 1 == 1);
+    bits.collect()
+}
+
+impl fmt::Display for Row {
+    fn fmt(&self, f: &mut fmt::Formatter<'_>) -> fmt::Result {
+        write!(f, "{} -> {}", list(&self.conditions), list(&self.outputs))
+    }
+}
+
+/// What the function reads, with masks as lists of atoms.
+impl fmt::Display for Case {
+    fn fmt(&self, f: &mut fmt::Formatter<'_>) -> fmt::Result {
+        let function = self.function;
+        write!(f, "{}", function.name())?;
+        if function.ticks() || function.has_region() {
+            write!(f, ", {} atoms", self.atoms)?;
+        }
+        if function.ticks() {
+            write!(f, ", row {}", self.row)?;
+        }
+        if function.has_other() {
+            write!(f, ", other {}", self.other)?;
+        }
+        if !function.ticks() || function.has_region() {
+            let (held, cut) = (atoms(&self.held), atoms(&self.cut));
+            write!(f, ", held {{{}}} of {} words", list(&held), self.held.len())?;
+            write!(f, ", cut {{{}}} of {}", list(&cut), self.cut.len())?;
+        }
+        if function == Function::NextOutput {
+            write!(f, ", cursor {}", list(&self.cursor))?;
+        }
+        write!(f, ", number {}, value {}", self.number, self.value)?;
+        if function.pays() {
+            let kind = if self.sharing { "sharing" } else { "capture" };
+            write!(f, ", {kind} account {}", self.account)?;
+        }
+        if function.ticks() {
+            write!(f, ", charged {}, limit {}", self.charged, self.limit)?;
+        }
+        Ok(())
+    }
+}
+
+/// The words without the zeros at their end.
+impl fmt::Display for End {
+    fn fmt(&self, f: &mut fmt::Formatter<'_>) -> fmt::Result {
+        let length = self
+            .words
+            .iter()
+            .rposition(|&word| word != 0)
+            .map_or(0, |last| last + 1);
+        write!(
+            f,
+            "{:?}, account {}, charge {}",
+            self.answer, self.account, self.charge
+        )?;
+        write!(
+            f,
+            ", {} words {}",
+            self.words.len(),
+            list(&self.words[..length])
+        )
+    }
 }

@@ -7,6 +7,7 @@
 
 mod case;
 mod generate;
+mod library;
 mod random;
 mod rattle;
 mod rust;
@@ -53,9 +54,9 @@ impl Comparison {
             return;
         }
         let case = shrink::shrink(case.clone(), differs);
-        println!("{} differs: {case:?}", case.function.name());
-        println!("  the Rust: {:?}", rust::run(&case));
-        println!("  verified: {:?}", rattle::run(&case));
+        println!("differs: {case}");
+        println!("  the Rust: {}", rust::run(&case));
+        println!("  verified: {}", rattle::run(&case));
     }
 
     /// A case on every meter and account up to its charge. Gives its end where nothing runs out.
@@ -84,11 +85,10 @@ impl Comparison {
             self.compare(&case, shapes);
         }
         for account in 0..=full.charge {
-            let together = [account.saturating_sub(1), account, account + 1];
             let limits = if full.charge <= ALL_PAIRS {
                 0..=full.charge
             } else {
-                together[0]..=together[2]
+                account.saturating_sub(1)..=account + 1
             };
             for limit in limits {
                 (case.account, case.limit) = (account, limit);
@@ -132,7 +132,9 @@ impl Comparison {
                 let mut case = Case::new(function, 32_768);
                 case.row = row.clone();
                 case.other = row.clone();
-                (case.held, case.cut) = (vec![0; 512], vec![0; 512]);
+                if function.has_region() {
+                    (case.held, case.cut) = (vec![0; 512], vec![0; 512]);
+                }
                 if function == Function::Includes {
                     case.row.conditions.clear();
                     case.other.conditions.clear();

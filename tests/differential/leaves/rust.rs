@@ -4,10 +4,8 @@ use oracle::leaves::{self, Codes, Paid, Verdict};
 use oracle::literals::{MOST_ATOMS, is_region, is_row};
 use oracle::{Cursor, Masks};
 
-use crate::case::{Answer, Case, End, Function, Row};
+use crate::case::{Answer, Case, End, Function, Row, SLOT_WORDS};
 
-/// The words of a slot.
-pub const SLOT_WORDS: usize = 168;
 /// The most conditions, and the most outputs, of a row.
 pub const MOST: (u64, u64) = (16, 64);
 

@@ -21,6 +21,36 @@ fn smaller_rows(row: &Row) -> Vec<Row> {
     conditions.chain(outputs).collect()
 }
 
+/// Both rows without a literal that both have.
+fn smaller_pairs(row: &Row, other: &Row) -> Vec<(Row, Row)> {
+    let less = |list: &[u64], code: u64| -> Vec<u64> {
+        list.iter().copied().filter(|&kept| kept != code).collect()
+    };
+    let both = |left: &[u64], right: &[u64]| -> Vec<u64> {
+        left.iter()
+            .copied()
+            .filter(|code| right.contains(code))
+            .collect()
+    };
+    let conditions = both(&row.conditions, &other.conditions)
+        .into_iter()
+        .map(|code| {
+            let with = |row: &Row| Row {
+                conditions: less(&row.conditions, code),
+                outputs: row.outputs.clone(),
+            };
+            (with(row), with(other))
+        });
+    let outputs = both(&row.outputs, &other.outputs).into_iter().map(|code| {
+        let with = |row: &Row| Row {
+            conditions: row.conditions.clone(),
+            outputs: less(&row.outputs, code),
+        };
+        (with(row), with(other))
+    });
+    conditions.chain(outputs).collect()
+}
+
 /// Masks with an atom less.
 fn smaller_masks(words: &[u64]) -> Vec<Vec<u64>> {
     let bits = (0..words.len() * 64).filter(|&bit| words[bit / 64] >> (bit % 64) & 1 == 1);
@@ -66,6 +96,9 @@ fn smaller(case: &Case) -> Vec<Case> {
             .into_iter()
             .map(|mask| with(&|c| c.cut = mask.clone())),
     );
+    for pair in smaller_pairs(&case.row, &case.other) {
+        cases.push(with(&|c| (c.row, c.other) = pair.clone()));
+    }
     if case.charged != 0 {
         cases.push(with(&|c| (c.charged, c.limit) = (0, c.room())));
     }

@@ -1,0 +1,105 @@
+-- A proposal that grows, and one that stays as it was. Assumes nothing.
+use mathlib.Core.Path.{_≡_, refl, sym, _∙_, ap, ap₂}
+use mathlib.Core.Logic.{inl, inr}
+use mathlib.Core.Bool.{false}
+use mathlib.Core.List.{List, [], _∷_, _++_}
+use Prim.Native.Nat.{ℕ, _+_, _-_, _≤_}
+use native.Mathlib.Omega.{arith}
+use lib.ListN.{length, getD, take, drop, set, length-set}
+use lib.Seq.{take-at, drop-at, drop-append-add, drop-drop, length-take-le}
+use types.Run.{OneOf}
+use denote.Enum.Declared.{tagOf}
+use borrow.Rule.Slice.PartMut.{putMid, midOf}
+use Rattle.meter.specs.declared.Meter.{Meter}
+use Rattle.meter.specs.declared.Account.{Account}
+use Rattle.meter.specs.declared.Judged.{Judged}
+use Rattle.meter.specs.declared.Verdict.{Verdict}
+use Rattle.meter.specs.declared.Verdict.the-variants as verdict
+use Rattle.meter.specs.Meter.{pay, judged, pay-none}
+use Rattle.meter.proofs.Verdict.{the-type}
+use Rattle.model.specs.Records.{Row}
+use Rattle.model.specs.Union.{union, grown}
+use Rattle.model.specs.Slots.{rowIn}
+use Rattle.slots.specs.Layout.{proposal}
+use Rattle.proposals.specs.Offered.{rowOf}
+use Rattle.proposals.specs.Parts.{put, blankOf}
+use Rattle.proposals.specs.Proposed.{Proposed}
+use Rattle.proposals.proofs.Parts.{put-part, put-next, length-put, put-proposal}
+use Rattle.proposals.proofs.Proposing.{proposed-long, proposed-conditions}
+use Rattle.merge.specs.Merge.{ifYes}
+use Rattle.merge.proofs.Union.{union-same}
+
+-- ---- where the words change
+pub kept-no : (a : Account) (m : Meter) (new old : List ℕ) {i : Judged} → i ≡ judged false (pay 0 a m) → old ≡ ifYes (i .verdict) new old
+kept-no a m new old e = sym (ap (λ (j : Judged). ifYes (j .verdict) new old) (e ∙ ap (judged false) (pay-none a m)))
+
+pub kept-not : (v : Verdict) (new old : List ℕ) → OneOf (1 ∷ 2 ∷ 3 ∷ []) (tagOf the-type v) → old ≡ ifYes v new old
+kept-not verdict.Yes new old (inl e) = absurd (omega arith)
+kept-not verdict.Yes new old (inr (inl e)) = absurd (omega arith)
+kept-not verdict.Yes new old (inr (inr e)) = absurd (omega arith)
+kept-not verdict.No new old t = refl
+kept-not verdict.Declined new old t = refl
+kept-not verdict.Stopped new old t = refl
+
+pub changed-yes : (v : Verdict) (new old : List ℕ) → v ≡ verdict.Yes → new ≡ ifYes v new old
+changed-yes v new old e = sym (ap (λ (w : Verdict). ifYes w new old) e)
+
+-- ---- the outputs of a proposal written over by at least as many
+put-over : (i : ℕ) (xs ys ws : List ℕ) → i ≤ length ws → length xs ≤ length ys → put i ys (put i xs ws) ≡ put i ys ws
+put-over i xs ys ws h l =
+    let n : length (take i ws) ≡ i = length-take-le i ws h in
+    let s : length ys ≡ length xs + (length ys - length xs) = omega arith in
+    let d : drop (length ys) (xs ++ drop (length xs) (drop i ws)) ≡ drop (length ys) (drop i ws)
+          = ap (λ (k : ℕ). drop k (xs ++ drop (length xs) (drop i ws))) s
+            ∙ drop-append-add xs (drop (length xs) (drop i ws)) (length ys - length xs)
+            ∙ drop-drop (length ys - length xs) (length xs) (drop i ws) ∙ ap (λ (k : ℕ). drop k (drop i ws)) (sym s) in
+    ap₂ (λ (p q : List ℕ). p ++ (ys ++ drop (length ys) q)) (take-at (take i ws) (xs ++ drop (length xs) (drop i ws)) i n)
+    (drop-at (take i ws) (xs ++ drop (length xs) (drop i ws)) i n)
+    ∙ ap (λ (q : List ℕ). take i ws ++ (ys ++ q)) d
+
+module _ (ws us : List ℕ) (p : Proposed ws) (more : length (rowIn ws .outputs) ≤ length us) where
+  abbrev cs : List ℕ
+  cs = rowIn ws .conditions
+
+  abbrev os : List ℕ
+  os = rowIn ws .outputs
+
+  abbrev at : ℕ
+  at = 8 + getD ws 0 0
+
+  -- the proposal with its new count
+  abbrev counted : List ℕ
+  counted = set ws 1 (length us)
+
+  place : at ≡ 8 + length cs
+  place = omega (arith, proposed-conditions ws p)
+
+  pub grow-fits : (at ≤ 24) × (length counted ≡ 168)
+  grow-fits = let f = p .few in (omega (arith, place), length-set ws 1 (length us) ∙ proposed-long ws p)
+
+  written : counted ≡ put at os (put 8 cs (blankOf (length cs) (length us)))
+  written =
+      let f = p .few in
+      ap (λ (l : List ℕ). set l 1 (length us)) (sym (p .form) ∙ sym (put-proposal cs os))
+      ∙ sym (put-next 8 cs os (blankOf (length cs) (length us)) (omega arith))
+      ∙ ap (λ (k : ℕ). put k os (put 8 cs (blankOf (length cs) (length us)))) (sym place)
+
+  pub grow-is : {y : List ℕ} → y ≡ put 0 us (midOf at (length counted - at) counted)
+      → putMid at (length counted - at) counted y ≡ proposal (rowOf cs us)
+  grow-is g =
+      let f = p .few in
+      let n : at ≤ length counted = omega (arith, grow-fits .0, grow-fits .1) in
+      let b : List ℕ = blankOf (length cs) (length us) in
+      let h : at ≤ length (put 8 cs b) = omega (arith, place, length-put 8 cs b (omega arith)) in
+      put-part at us counted n g ∙ ap (put at us) written ∙ put-over at os us (put 8 cs b) h more
+      ∙ ap (λ (k : ℕ). put k us (put 8 cs b)) place ∙ put-next 8 cs us b (omega arith) ∙ put-proposal cs us
+
+-- ---- a union that is the proposal's own outputs
+pub grown-same : (r : Row) (ws : List ℕ) → Proposed ws → length (union (r .outputs) (rowIn ws .outputs)) ≡ length (rowIn ws .outputs)
+    → ws ≡ proposal (grown r (rowIn ws))
+unfolding grown
+grown-same r ws p e = sym (ap (λ (l : List ℕ). proposal (rowOf (rowIn ws .conditions) l)) (union-same (r .outputs) (rowIn ws .outputs) e) ∙ p .form)
+
+pub grown-row : (r p : Row) → grown r p ≡ rowOf (p .conditions) (union (r .outputs) (p .outputs))
+unfolding grown
+grown-row r p = refl

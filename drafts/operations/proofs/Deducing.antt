@@ -1,0 +1,87 @@
+-- Deduce and Next output, by the ways that they end. Assumes nothing.
+use mathlib.Core.Path.{_≡_, refl, sym, ap, _∙_}
+use mathlib.Core.Bool.{Bool, true, false}
+use mathlib.Core.List.{List, [], _∷_, map}
+use mathlib.Core.Option.{Option, none, some}
+use Prim.Native.Nat.{ℕ, _≤_, _<_}
+use Rattle.words.specs.Region.{Region, isRegion}
+use Rattle.words.specs.Region as words
+use Rattle.meter.specs.declared.Meter.{Meter}
+use Rattle.meter.specs.declared.Tick.{Tick}
+use Rattle.meter.specs.declared.Tick.the-variants.{Ticked, Stopped}
+use Rattle.meter.specs.Meter.{ticks, made}
+use Rattle.model.specs.declared.Header.{Header}
+use Rattle.model.specs.declared.Deduction.{Deduction}
+use Rattle.model.specs.declared.OutputCursor.{OutputCursor}
+use Rattle.model.specs.declared.DeduceAnswer.the-variants as deduce-answer
+use Rattle.model.specs.declared.NextAnswer.the-variants as next-answer
+use Rattle.model.specs.Records.{Row, rowsOf, rowAt}
+use Rattle.model.specs.Slots.{rowIn, entriesIn}
+use Rattle.model.specs.Deduction.{deduction, deductionTicks, nextOutput as publishNext}
+use Rattle.model.specs.Refusals.{Lent, refusal, accepts, ledgerIn}
+use Rattle.model.specs.Operations.{DeduceEnd, NextEnd, deduce, nextOutput, positionOk, region, regionOk, cursorOk}
+use Rattle.matching.specs.Walks.{deduced}
+use Rattle.matching.specs.Publication.{nextEnd}
+use Rattle.contents.specs.Lent.{lent, slotAt, rowsIn}
+use Rattle.contents.proofs.Rows.{rows-at}
+use Rattle.operations.specs.Ends.{deduceEnd, outputEnd}
+
+module _ (h : Header) (slots postings : List ℕ) (p : ℕ) where
+  abbrev s : Lent
+  s = lent h slots postings
+
+  pub row-is : p < h .rows → rowAt p (ledgerIn s) ≡ rowIn (slotAt slots p)
+  unfolding rowAt rowsOf ledgerIn rowsIn
+  row-is l = rows-at (h .rows) slots p (record { conditions = []; outputs = [] }) l
+
+  module _ (held cut : List ℕ) (m : Meter) where
+    -- ---- Deduce
+    abbrev two : List (Bool × ℕ)
+    two = (positionOk s p, 5) ∷ (regionOk s held cut, 6) ∷ []
+
+    pub deduce-refused : (n : ℕ) → refusal (accepts s true two) ≡ some n →
+        deduceEnd (record { answer = deduce-answer.Refused n; meter = m; ticks = 0 }) ≡ deduce s p held cut m
+    unfolding deduce
+    deduce-refused n e = rw (e, deduce)
+
+    by-tick : (d : Deduction) (t : Tick) →
+        deduceEnd (deduced d m t)
+        ≡ (elim t as (λ k. DeduceEnd) [
+          | Stopped k ↦ record { answer = deduce-answer.Stopped; meter = k; ticks = made m k }
+          | Ticked k ↦ record { answer = deduce-answer.Deduced d; meter = k; ticks = made m k }
+        ])
+    by-tick d (Stopped k) = refl
+    by-tick d (Ticked k) = refl
+
+    pub deduce-done : refusal (accepts s true two) ≡ none → p < h .rows →
+        deduceEnd (deduced (deduction (words.region held cut) (rowIn (slotAt slots p))) m (ticks (deductionTicks (words.region held cut) (rowIn (slotAt slots p))) m))
+        ≡ deduce s p held cut m
+    unfolding deduce region
+    deduce-done e l =
+        ap (λ (t : Row). deduceEnd (deduced (deduction (words.region held cut) t) m (ticks (deductionTicks (words.region held cut) t) m))) (sym (row-is l))
+        ∙ by-tick (deduction (words.region held cut) (rowAt p (ledgerIn s))) (ticks (deductionTicks (words.region held cut) (rowAt p (ledgerIn s))) m)
+        ∙ sym (rw (e, deduce, region))
+
+    -- ---- Next output
+    module _ (k : OutputCursor) where
+      abbrev three : List (Bool × ℕ)
+      three = (positionOk s p, 5) ∷ (regionOk s held cut, 6) ∷ (cursorOk (rowAt p (ledgerIn s)) k, 8) ∷ []
+
+      pub cursor-no : p < h .rows → cursorOk (rowIn (slotAt slots p)) k ≡ false → refusal ((cursorOk (rowAt p (ledgerIn s)) k, 8) ∷ []) ≡ some 8
+      unfolding refusal
+      cursor-no l e = let q : cursorOk (rowAt p (ledgerIn s)) k ≡ false = ap (λ (t : Row). cursorOk t k) (row-is l) ∙ e in rw q
+
+      pub cursor-yes : p < h .rows → cursorOk (rowIn (slotAt slots p)) k ≡ true → refusal ((cursorOk (rowAt p (ledgerIn s)) k, 8) ∷ []) ≡ none
+      unfolding refusal
+      cursor-yes l e = let q : cursorOk (rowAt p (ledgerIn s)) k ≡ true = ap (λ (t : Row). cursorOk t k) (row-is l) ∙ e in rw q
+
+      pub next-refused : (n : ℕ) → refusal (accepts s true three) ≡ some n →
+          outputEnd (record { answer = next-answer.Refused n; cursor = k; meter = m; ticks = 0 }) ≡ nextOutput s p k held cut m
+      unfolding nextOutput
+      next-refused n e = rw (e, nextOutput)
+
+      pub next-done : refusal (accepts s true three) ≡ none → p < h .rows →
+          outputEnd (nextEnd m (publishNext (words.region held cut) (rowIn (slotAt slots p)) k m)) ≡ nextOutput s p k held cut m
+      unfolding nextOutput region
+      next-done e l =
+          ap (λ (t : Row). outputEnd (nextEnd m (publishNext (words.region held cut) t k m))) (sym (row-is l)) ∙ sym (rw (e, nextOutput, region))
