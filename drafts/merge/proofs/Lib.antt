@@ -1,3 +1,0 @@
-pub mod Union
-pub mod Asking
-pub mod Growing
