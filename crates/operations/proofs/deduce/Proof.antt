@@ -1,0 +1,114 @@
+-- `operations::deduce`. One law for each way out. Assumes nothing.
+use mathlib.Core.Path.{sym, ap, _∙_}
+use mathlib.Core.Bool.{true}
+use mathlib.Core.List.{[], _∷_}
+use borrow.Author.Tests.{not-true, not-false}
+use borrow.Author.Needs.{needs}
+use Rattle.model.specs.Slots.{rowIn}
+use Rattle.contents.specs.Lent.{lent}
+use Rattle.contents.proofs.Accepting.{accepted, accept-refused, accept-passed, accept-none}
+use Rattle.contents.proofs.Walks.{slot-code}
+use Rattle.operations.specs.Ends.{deduceEnd}
+use Rattle.operations.proofs.Tests.{all-passed, position-no, position-yes, region-no, region-yes}
+use Rattle.model.specs.Operations.{positionOk, regionOk}
+use Rattle.operations.proofs.Deducing.{slot-fits, matched, deduce-refused, deduce-done}
+use Rattle.operations.proofs.deduce.Statement.{statement}
+use Rattle.operations.proofs.deduce.Tie as tie
+
+accept-requires : tie.Need-accept-requires
+accept-requires c κs = search needs
+
+returns : tie.Need-returns
+returns c =
+    let a = c .before .before .before .before .before .before .args in
+    let s = lent (a .header) (a .slots .now) (a .postings .now) in
+    deduce-refused (a .header) (a .slots .now) (a .postings .now) (a .position) (a .held .now) (a .cut .now) (a .work) _ (accept-refused s true ((positionOk s (a .position), 5) ∷ (regionOk s (a .held .now) (a .cut .now), 6) ∷ []) _ (c .before .accept .ensures) (c .if1 .taken))
+
+returns-2 : tie.Need-returns-2
+returns-2 c =
+    let a = c .before .before .before .before .before .before .before .before .args in
+    let s = lent (a .header) (a .slots .now) (a .postings .now) in
+    deduce-refused (a .header) (a .slots .now) (a .postings .now) (a .position) (a .held .now) (a .cut .now) (a .work) 5 (accept-passed s true ((positionOk s (a .position), 5) ∷ (regionOk s (a .held .now) (a .cut .now), 6) ∷ []) _ (c .before .before .before .accept .ensures) (c .before .before .if1 .left) ∙ position-no (a .header) (a .slots .now) (a .postings .now) (a .position) ((regionOk s (a .held .now) (a .cut .now), 6) ∷ []) (c .if2 .taken))
+
+is-region-requires : tie.Need-is-region-requires
+is-region-requires c κs = search needs
+
+returns-3 : tie.Need-returns-3
+returns-3 c =
+    let a = c .before .before .before .before .before .before .before .before .before .before .args in
+    let s = lent (a .header) (a .slots .now) (a .postings .now) in
+    deduce-refused (a .header) (a .slots .now) (a .postings .now) (a .position) (a .held .now) (a .cut .now) (a .work) 6
+    (accept-passed s true ((positionOk s (a .position), 5) ∷ (regionOk s (a .held .now) (a .cut .now), 6) ∷ []) _ (c .before .before .before .before .before .accept .ensures) (c .before .before .before .before .if1 .left) ∙ position-yes (a .header) (a .slots .now) (a .postings .now) (a .position) ((regionOk s (a .held .now) (a .cut .now), 6) ∷ []) (c .before .before .if2 .left)
+    ∙ region-no (a .header) (a .slots .now) (a .postings .now) (a .held .now) (a .cut .now) [] (sym (c .before .is-region .ensures) ∙ not-true _ (c .if3 .taken)))
+
+mul-a : tie.Need-mul-a
+mul-a c =
+    let a = c .before .before .before .before .before .before .before .before .before .before .args in
+    let s = lent (a .header) (a .slots .now) (a .postings .now) in
+    let k = accepted (a .header) (a .slots .now) (a .postings .now) true [] (accept-none s true _ (c .before .before .before .before .before .accept .ensures) (c .before .before .before .before .if1 .left)) in
+    let f = slot-fits (a .header) (a .slots .now) (a .postings .now) (a .position) k (c .before .before .if2 .left) in
+    search needs
+
+add-e : tie.Need-add-e
+add-e c =
+    let a = c .before .before .before .before .before .before .before .before .before .before .args in
+    let s = lent (a .header) (a .slots .now) (a .postings .now) in
+    let k = accepted (a .header) (a .slots .now) (a .postings .now) true [] (accept-none s true _ (c .before .before .before .before .before .accept .ensures) (c .before .before .before .before .if1 .left)) in
+    let f = slot-fits (a .header) (a .slots .now) (a .postings .now) (a .position) k (c .before .before .if2 .left) in
+    search needs
+
+mul-deduction : tie.Need-mul-deduction
+mul-deduction c =
+    let a = c .before .before .before .before .before .before .before .before .before .before .args in
+    let s = lent (a .header) (a .slots .now) (a .postings .now) in
+    let k = accepted (a .header) (a .slots .now) (a .postings .now) true [] (accept-none s true _ (c .before .before .before .before .before .accept .ensures) (c .before .before .before .before .if1 .left)) in
+    let f = slot-fits (a .header) (a .slots .now) (a .postings .now) (a .position) k (c .before .before .if2 .left) in
+    search needs
+
+sub-deduction : tie.Need-sub-deduction
+sub-deduction c = search needs
+
+part-deduction-start : tie.Need-part-deduction-start
+part-deduction-start c = search needs
+
+part-deduction-end : tie.Need-part-deduction-end
+part-deduction-end c =
+    let a = c .before .before .before .before .before .before .before .before .before .before .args in
+    let s = lent (a .header) (a .slots .now) (a .postings .now) in
+    let k = accepted (a .header) (a .slots .now) (a .postings .now) true [] (accept-none s true _ (c .before .before .before .before .before .accept .ensures) (c .before .before .before .before .if1 .left)) in
+    let f = slot-fits (a .header) (a .slots .now) (a .postings .now) (a .position) k (c .before .before .if2 .left) in
+    search needs
+
+deduction-requires : tie.Need-deduction-requires
+deduction-requires c κs =
+    let a = c .before .before .before .before .before .before .before .before .before .before .before .args in
+    let s = lent (a .header) (a .slots .now) (a .postings .now) in
+    let k = accepted (a .header) (a .slots .now) (a .postings .now) true [] (accept-none s true _ (c .before .before .before .before .before .before .accept .ensures) (c .before .before .before .before .before .if1 .left)) in
+    matched (a .header) (a .slots .now) (a .postings .now) (a .position) k (c .before .before .before .if2 .left) (a .held .now) (a .cut .now) (sym (c .before .before .is-region .ensures) ∙ not-false _ (c .before .if3 .left))
+
+returns-4 : tie.Need-returns-4
+returns-4 c =
+    let a = c .before .before .before .before .before .before .before .before .before .before .before .before .args in
+    let s = lent (a .header) (a .slots .now) (a .postings .now) in
+    ap deduceEnd (c .deduction .ensures)
+    ∙ deduce-done (a .header) (a .slots .now) (a .postings .now) (a .position) (a .held .now) (a .cut .now) (a .work)
+    (accept-passed s true ((positionOk s (a .position), 5) ∷ (regionOk s (a .held .now) (a .cut .now), 6) ∷ []) _ (c .before .before .before .before .before .before .before .accept .ensures) (c .before .before .before .before .before .before .if1 .left) ∙ position-yes (a .header) (a .slots .now) (a .postings .now) (a .position) ((regionOk s (a .held .now) (a .cut .now), 6) ∷ []) (c .before .before .before .before .if2 .left) ∙ region-yes (a .header) (a .slots .now) (a .postings .now) (a .held .now) (a .cut .now) [] (sym (c .before .before .before .is-region .ensures) ∙ not-false _ (c .before .before .if3 .left)) ∙ all-passed)
+    (c .before .before .before .before .if2 .left) _ (ap rowIn (slot-code (a .slots .now) (a .position)))
+
+pub deduce-spec : {M : Type 1} → statement M
+deduce-spec =
+    tie.close
+    (tie.spec
+    accept-requires
+    returns
+    returns-2
+    is-region-requires
+    returns-3
+    mul-a
+    add-e
+    mul-deduction
+    sub-deduction
+    part-deduction-start
+    part-deduction-end
+    deduction-requires
+    returns-4)
