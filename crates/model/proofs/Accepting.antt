@@ -24,7 +24,7 @@ use Rattle.model.proofs.Slots.{Valid, valid-of, AllValid, slot-length, 
 use Rattle.model.proofs.Priority.Steps.{Accepted, accepted}
 
 -- ---- lengths
-entries-valid : (h : Header) (es : List Entry) → T (all (entryOk h) es) → AllValid es
+pub entries-valid : (h : Header) (es : List Entry) → T (all (entryOk h) es) → AllValid es
 unfolding all entryOk
 entries-valid h [] t = tt
 entries-valid h (e ∷ es) t = (

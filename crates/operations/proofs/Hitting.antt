@@ -21,8 +21,7 @@ use Rattle.contents.proofs.Accepting.{accepted}
 use Rattle.tier.specs.Tier.{hitWords}
 use Rattle.tier.proofs.Buffer.{hit-held}
 use Rattle.operations.specs.Ends.{hitEnd}
-use Rattle.operations.proofs.Taking.{lent-entries}
-use Rattle.operations.proofs.Holding.{tier-is, held}
+use Rattle.keeping.proofs.Holding.{tier-is, held, lent-entries}
 
 module _ (h : Header) (slots postings : List ℕ) (p : ℕ) where
   pub hit-refused : (n : ℕ) → refusal (accepts (lent h slots postings) true ((positionOk (lent h slots postings) p, 5) ∷ [])) ≡ some n →

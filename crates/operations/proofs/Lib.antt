@@ -1,7 +1,6 @@
 pub mod Tests
 pub mod Making
 pub mod Taking
-pub mod Holding
 pub mod Hitting
 pub mod Deducing
 pub mod Deciding

@@ -16,14 +16,8 @@ use Rattle.contents.specs.Lent.{lent, rowsIn}
 use Rattle.contents.specs.Accepted.{Accepted}
 use Rattle.contents.proofs.Rows.{length-entries}
 use Rattle.contents.proofs.Accepting.{accepted}
+use Rattle.keeping.proofs.Holding.{lent-entries}
 use Rattle.operations.specs.Ends.{beginEnd}
-
--- entries as many as the header says, laid out and filed
-pub lent-entries : (h : Header) (es : List Entry) → length es ≡ h .rows →
-    lent h (slotsOf (h .limits .«tier_rows») es) (filed (h .limits .«tier_rows») (h .stale) (map (λ e. e .row) es)) ≡ lentOf (record { header = h; entries = es })
-unfolding lentOf withRows rowsOf
-lent-entries h es e =
-    ap (λ (n : ℕ). lent (withRows h n) (slotsOf (h .limits .«tier_rows») es) (filed (h .limits .«tier_rows») (h .stale) (map (λ e. e .row) es))) (sym e)
 
 module _ (h : Header) (slots postings : List ℕ) where
   full-lent : Accepted h slots postings →

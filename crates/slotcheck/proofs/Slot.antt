@@ -40,7 +40,7 @@ unfolding above
 asc-above x [] a = refl
 asc-above x (y ∷ ys) a = ap (λ (b : Bool). elim b as (λ k. Bool) [ true ↦ above y ys | false ↦ false ]) (lt-ltb x y (a .0)) ∙ asc-above y ys (a .1)
 
-asc-ascending : (k : ℕ) (xs : List ℕ) → Asc k xs → ascending xs ≡ true
+pub asc-ascending : (k : ℕ) (xs : List ℕ) → Asc k xs → ascending xs ≡ true
 unfolding ascending
 asc-ascending k [] a = refl
 asc-ascending k (x ∷ xs) a = asc-above x xs (a .1)

@@ -54,7 +54,7 @@ unfolding into
 into-asc a rest f [] k h g = (h, f [] tt)
 into-asc a rest f (b ∷ bs) k h g = into-asc-step k a b rest bs (compare a b) refl f h g (λ j. into-asc a rest f bs j)
 
-union-asc : (a b : List ℕ) (k : ℕ) → Asc k a → Asc k b → Asc k (union a b)
+pub union-asc : (a b : List ℕ) (k : ℕ) → Asc k a → Asc k b → Asc k (union a b)
 unfolding union
 union-asc [] b k g h = h
 union-asc (a ∷ as′) b k g h = into-asc a (union as′) (λ cs i. union-asc as′ cs (suc a) (g .1) i) b k (g .0) h
@@ -73,51 +73,53 @@ grown-valid m r p l t v w = record {
 abbrev pub Fine : List Row → Type 0
 Fine rs = (r : Row) → In r rs → Valid r
 
-abbrev PassFine : Pass → Type 0
-PassFine (found n) = Unit {0}
-PassFine (passed ks p) = Valid p
+-- ---- what holds of joined rows if it holds of both holds of the row that a retention places
+abbrev PassKeeps : (Row → Type 0) → Pass → Type 0
+PassKeeps P (found n) = Unit {0}
+PassKeeps P (passed ks p) = P p
 
-noted-fine : (b : Bool) (e : Entry) (x : Pass) → PassFine x → PassFine (noted b e x)
-unfolding noted
-noted-fine b e (found n) f = tt
-noted-fine b e (passed ks p) f = f
+abbrev pub VerdictKeeps : (Row → Type 0) → Verdict → Type 0
+VerdictKeeps P (subsumed p) = Unit {0}
+VerdictKeeps P protected = Unit {0}
+VerdictKeeps P (placing ks p) = P p
+VerdictKeeps P (evicting v p) = P p
 
-pass-fine-step : (m : ℕ) (p : Row) (e : Entry) (es : List Entry) (b c : Bool)
-    → (T c → PassFine (firstPass m (grown (e .row) p) es)) → PassFine (firstPass m p es)
-    → PassFine (elim b [ true ↦ found 0 | false ↦ elim c [ true ↦ noted true e (firstPass m (grown (e .row) p) es) | false ↦ noted false e (firstPass m p es) ] ])
-pass-fine-step m p e es true c f g = tt
-pass-fine-step m p e es false true f g = noted-fine true e (firstPass m (grown (e .row) p) es) (f tt)
-pass-fine-step m p e es false false f g = noted-fine false e (firstPass m p es) g
+module _ (P : Row → Type 0) (m : ℕ) (join : (r p : Row) → T (joins m r p) → P r → P p → P (grown r p)) where
+  noted-keeps : (b : Bool) (e : Entry) (x : Pass) → PassKeeps P x → PassKeeps P (noted b e x)
+  unfolding noted
+  noted-keeps b e (found n) f = tt
+  noted-keeps b e (passed ks p) f = f
 
-pass-fine : (m : ℕ) (p : Row) (es : List Entry) → m ≤ 64 → Valid p → Fine (rowsE es) → PassFine (firstPass m p es)
-unfolding firstPass
-pass-fine m p [] l v f = v
-pass-fine m p (e ∷ es) l v f =
-    pass-fine-step m p e es (subsumes (e .row) p) (joins m (e .row) p)
-    (λ t. pass-fine m (grown (e .row) p) es l (grown-valid m (e .row) p l t (f (e .row) (inl refl)) v) (λ r i. f r (inr i)))
-    (pass-fine m p es l v (λ r i. f r (inr i)))
+  pass-keeps-step : (p : Row) (e : Entry) (es : List Entry) (b c : Bool)
+      → (T c → PassKeeps P (firstPass m (grown (e .row) p) es)) → PassKeeps P (firstPass m p es)
+      → PassKeeps P (elim b [ true ↦ found 0 | false ↦ elim c [ true ↦ noted true e (firstPass m (grown (e .row) p) es) | false ↦ noted false e (firstPass m p es) ] ])
+  pass-keeps-step p e es true c f g = tt
+  pass-keeps-step p e es false true f g = noted-keeps true e (firstPass m (grown (e .row) p) es) (f tt)
+  pass-keeps-step p e es false false f g = noted-keeps false e (firstPass m p es) g
 
-abbrev VerdictFine : Verdict → Type 0
-VerdictFine (subsumed p) = Unit {0}
-VerdictFine protected = Unit {0}
-VerdictFine (placing ks p) = Valid p
-VerdictFine (evicting v p) = Valid p
+  pass-keeps : (p : Row) (es : List Entry) → P p → ((r : Row) → In r (rowsE es) → P r) → PassKeeps P (firstPass m p es)
+  unfolding firstPass
+  pass-keeps p [] v f = v
+  pass-keeps p (e ∷ es) v f =
+      pass-keeps-step p e es (subsumes (e .row) p) (joins m (e .row) p)
+      (λ t. pass-keeps (grown (e .row) p) es (join (e .row) p t (f (e .row) (inl refl)) v) (λ r i. f r (inr i)))
+      (pass-keeps p es v (λ r i. f r (inr i)))
 
-judge-fine-step : (es : List Entry) (ks : List Compared) (p : Row) (a c : Bool) → Valid p
-    → VerdictFine (elim a [ true ↦ placing ks p | false ↦ elim c [ true ↦ protected | false ↦ evicting (victim es) p ] ])
-judge-fine-step es ks p true c v = v
-judge-fine-step es ks p false true v = tt
-judge-fine-step es ks p false false v = v
+  judge-keeps-step : (es : List Entry) (ks : List Compared) (p : Row) (a c : Bool) → P p
+      → VerdictKeeps P (elim a [ true ↦ placing ks p | false ↦ elim c [ true ↦ protected | false ↦ evicting (victim es) p ] ])
+  judge-keeps-step es ks p true c v = v
+  judge-keeps-step es ks p false true v = tt
+  judge-keeps-step es ks p false false v = v
 
-judged-fine : (l : LearningLimits) (es : List Entry) (x : Pass) → PassFine x → VerdictFine (judged l es x)
-unfolding judged judge
-judged-fine l es (found n) f = tt
-judged-fine l es (passed ks p) f =
-    judge-fine-step es (secondPass p ks) p (anyReplaced (secondPass p ks) || ltb (length es) (l .«tier_rows»)) (leb (length es) (l .«founded_floor»)) f
+  judged-keeps : (l : LearningLimits) (es : List Entry) (x : Pass) → PassKeeps P x → VerdictKeeps P (judged l es x)
+  unfolding judged judge
+  judged-keeps l es (found n) f = tt
+  judged-keeps l es (passed ks p) f =
+      judge-keeps-step es (secondPass p ks) p (anyReplaced (secondPass p ks) || ltb (length es) (l .«tier_rows»)) (leb (length es) (l .«founded_floor»)) f
 
-verdict-fine : (l : LearningLimits) (m : ℕ) (t : Row) (es : List Entry) → m ≤ 64 → Valid t → Fine (rowsE es) → VerdictFine (verdict l m t es)
-unfolding verdict
-verdict-fine l m t es h v f = judged-fine l es (firstPass m t es) (pass-fine m t es h v f)
+  pub verdict-keeps : (l : LearningLimits) (t : Row) (es : List Entry) → P t → ((r : Row) → In r (rowsE es) → P r) → VerdictKeeps P (verdict l m t es)
+  unfolding verdict
+  verdict-keeps l t es v f = judged-keeps l es (firstPass m t es) (pass-keeps t es v f)
 
 -- ---- the entries after
 set-in : (v : ℕ) (e : Entry) (es : List Entry) (r : Row) → In r (rowsE (set es v e)) → In r (e .row ∷ rowsE es)
@@ -184,7 +186,7 @@ only : (t r : Row) → In r (t ∷ []) → r ≡ t
 only t r (inl e) = e
 only t r (inr m) = absurd m
 
-carry-fine : (l : Ledger) (t : Row) (h : ℕ) (a : Account) (m : Meter) (v : Verdict) → Fine (rowsE (l .entries)) → VerdictOk t (l .entries) v → VerdictFine v → RetainedFine l t (carryOut l t h a m v)
+carry-fine : (l : Ledger) (t : Row) (h : ℕ) (a : Account) (m : Meter) (v : Verdict) → Fine (rowsE (l .entries)) → VerdictOk t (l .entries) v → VerdictKeeps Valid v → RetainedFine l t (carryOut l t h a m v)
 unfolding carryOut untaken newborn
 carry-fine l t h a m (subsumed p) f o v = record { limits = refl; fine = f; took = only t; from = covers-sub (λ r i. inr i); counted = none-counted _ }
 carry-fine l t h a m protected f o v = record { limits = refl; fine = f; took = λ r i. absurd i; from = covers-refl (rowsE (l .entries)); counted = none-counted _ }
@@ -207,7 +209,7 @@ retained-fine : (l : Ledger) (m h : ℕ) (t : Row) (run : Read) → m ≤ 64 →
 unfolding retained untaken
 retained-fine l m h t (Paid a n) k v f =
     carry-fine l t h a n (verdict (l .header .limits) m t (l .entries)) f (verdict-ok (l .header .limits) m t (l .entries))
-    (verdict-fine (l .header .limits) m t (l .entries) k v f)
+    (verdict-keeps Valid m (λ r p j. grown-valid m r p k j) (l .header .limits) t (l .entries) v f)
 retained-fine l m h t (Declined a n) k v f = record { limits = refl; fine = f; took = λ r i. absurd i; from = covers-refl (rowsE (l .entries)); counted = none-counted _ }
 retained-fine l m h t (Stopped a n) k v f = record { limits = refl; fine = f; took = λ r i. absurd i; from = covers-refl (rowsE (l .entries)); counted = none-counted _ }
 

@@ -1,19 +1,23 @@
 -- An accepted ledger holds its rows as a tier does. Assumes nothing.
-use mathlib.Core.Path.{_≡_, sym, ap, _∙_, subst}
+use mathlib.Core.Path.{_≡_, sym, ap, ap₂, _∙_, subst}
 use mathlib.Core.Bool.{true, _&&_}
-use mathlib.Core.List.{List, [], _∷_}
+use mathlib.Core.List.{List, [], _∷_, map}
 use Prim.Native.Nat.{ℕ, _*_, _≤_}
 use native.Mathlib.Omega.{arith}
 use lib.Dec.{T, leb}
+use lib.ListN.{length}
 use Rattle.lists.specs.Lists.{all, below}
 use Rattle.lists.proofs.Tests.{and-both, and-yes, below-each, each-below}
 use Rattle.words.specs.Region.{maxAtoms}
 use Rattle.model.specs.declared.Header.{Header}
-use Rattle.model.specs.Records.{Row, Entry, isRow}
+use Rattle.model.specs.Records.{Row, Entry, isRow, rowsOf, withRows}
 use Rattle.model.specs.Slots.{slotsOf, entriesIn}
-use Rattle.model.specs.Refusals.{entryOk}
+use Rattle.model.specs.Postings.{filed}
+use Rattle.model.specs.Refusals.{entryOk, ledgerIn, lentOf}
 use Rattle.slotcheck.proofs.Slot.{row-parts, parts-row}
+use Rattle.contents.specs.Lent.{lent, rowsIn}
 use Rattle.contents.specs.Accepted.{Accepted}
+use Rattle.contents.proofs.Rows.{length-entries}
 use Rattle.tier.specs.Tier.{tierOf, Held}
 
 below-more : (m n : ℕ) (xs : List ℕ) → m ≤ n → below m xs ≡ true → below n xs ≡ true
@@ -50,3 +54,16 @@ module _ (h : Header) (slots postings : List ℕ) (a : Accepted h slots postings
     few = let f = a .few in let t = tier-is in omega arith;
     same = ap (λ (t : ℕ). slotsOf t (entriesIn (h .rows) slots)) tier-is ∙ sym (a .laying);
   }
+
+-- entries as many as the header says, laid out and filed
+pub lent-entries : (h : Header) (es : List Entry) → length es ≡ h .rows →
+    lent h (slotsOf (h .limits .«tier_rows») es) (filed (h .limits .«tier_rows») (h .stale) (map (λ e. e .row) es)) ≡ lentOf (record { header = h; entries = es })
+unfolding lentOf withRows rowsOf
+lent-entries h es e =
+    ap (λ (n : ℕ). lent (withRows h n) (slotsOf (h .limits .«tier_rows») es) (filed (h .limits .«tier_rows») (h .stale) (map (λ e. e .row) es))) (sym e)
+
+-- accepted words are those of the ledger that is read from them
+pub accepted-lent : (h : Header) (slots postings : List ℕ) → Accepted h slots postings → lent h slots postings ≡ lentOf (ledgerIn (lent h slots postings))
+unfolding ledgerIn rowsIn
+accepted-lent h slots postings a =
+    ap₂ (λ (x y : List ℕ). lent h x y) (a .laying) (a .filing) ∙ lent-entries h (entriesIn (h .rows) slots) (length-entries (h .rows) slots)
