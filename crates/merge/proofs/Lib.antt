@@ -1,0 +1,4 @@
+pub mod Union
+pub mod Asking
+pub mod Growing
+pub mod Joining
