@@ -1,0 +1,75 @@
+-- `search::candidates`. One law for each way out. Assumes nothing.
+use mathlib.Core.Path.{_≡_}
+use mathlib.Core.List.{[]}
+use mathlib.Core.Option.{none}
+use denote.Ref.{now}
+use borrow.Author.Needs.{needs}
+use Rattle.model.specs.Refusals.{Lent, refusal, accepts}
+use Rattle.contents.specs.Lent.{lent}
+use Rattle.contents.proofs.Accepting.{accepted, accept-refused, accept-none}
+use Rattle.search.proofs.Standing.{stands}
+use Rattle.search.proofs.Searching.{others, room, candidates-refused, candidates-done}
+use Rattle.search.proofs.candidates.Statement.{statement}
+use Rattle.search.proofs.candidates.Tie as tie
+
+module _ (c : tie.After-accept) where
+  abbrev root : tie.Start
+  root = c .before .before .before .before .before .before
+
+  abbrev s : Lent
+  s = lent (root .args .header) (now (root .args .slots)) (now (root .args .postings))
+
+accept-requires : tie.Need-accept-requires
+accept-requires c κs = search needs
+
+same-length : tie.Need-same-length
+same-length c = search needs
+
+returns : tie.Need-returns
+returns c =
+    let a = root (c .before) .args in
+    candidates-refused (a .header) (now (a .slots)) (now (a .postings)) (now (a .answer)) (now (a .atoms)) (a .work) _
+    (accept-refused (s (c .before)) _ [] _ (c .before .accept .ensures) (c .if1 .taken))
+
+-- the ledger was accepted
+module _ (c : tie.Else1) where
+  accepts-here : refusal (accepts (s (c .before)) (others (root (c .before) .args .header) (now (root (c .before) .args .answer))) []) ≡ none
+  accepts-here = accept-none (s (c .before)) _ _ (c .before .accept .ensures) (c .if1 .left)
+
+candidates-requires : tie.Need-candidates-requires
+candidates-requires c κs =
+    let d = c .before .before in
+    let a = root (d .before) .args in (
+      stands (a .header) (now (a .slots)) (now (a .postings)) (accepted (a .header) (now (a .slots)) (now (a .postings)) _ [] (accepts-here d)),
+      room (a .header) (now (a .slots)) (now (a .postings)) (now (a .answer)) (accepts-here d),
+    )
+
+made-requires : tie.Need-made-requires
+made-requires c κs = search needs
+
+same-length-2 : tie.Need-same-length-2
+same-length-2 c = search needs
+
+same-length-3 : tie.Need-same-length-3
+same-length-3 c = search needs
+
+returns-2 : tie.Need-returns-2
+returns-2 c =
+    let r = c .before .before .before .before .before .before .before in
+    let d = r .before .before .before in
+    let a = root (d .before) .args in
+    candidates-done (a .header) (now (a .slots)) (now (a .postings)) (now (a .answer)) (now (a .atoms)) (a .work) (accepts-here d)
+    (r .candidates .result) _ _ _ (r .candidates .ensures .0) (r .candidates .ensures .1) (c .made .ensures)
+
+pub candidates-spec : {M : Type 1} → statement M
+candidates-spec =
+    tie.close
+    (tie.spec
+    accept-requires
+    same-length
+    returns
+    candidates-requires
+    made-requires
+    same-length-2
+    same-length-3
+    returns-2)
