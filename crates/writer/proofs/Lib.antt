@@ -1,0 +1,4 @@
+pub mod Forms
+pub mod Laying
+pub mod Packing
+pub mod Proposal

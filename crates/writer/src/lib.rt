@@ -1,0 +1,207 @@
+// A row on its way into a slot: the form that it takes there, what that costs, and its words.
+ghost use mathlib.Core.Path.{_≡_};
+ghost use mathlib.Core.Bool.{true, false};
+ghost use Prim.Native.Nat.{_+_, _*_, _≤_};
+ghost use lib.ListN.{length};
+ghost use Rattle.lists.specs.Lists.{pad, zeroed};
+ghost use Rattle.meter.specs.Meter.{pay, judged};
+ghost use Rattle.model.specs.Records.{slotWords};
+ghost use Rattle.model.specs.Rows.{groups, packed, prepareReads};
+ghost use Rattle.model.specs.Slots.{rowIn, body as bodyOf, slotOf};
+ghost use Rattle.proposals.specs.Proposed.{Proposed};
+ghost use Rattle.writer.specs.Forms.{formOf, newEntry, headOf, readsFor};
+ghost use Rattle.writer.specs.Packs.{packs, begun, maskAt, entered};
+use lists::copy;
+use lists::fill_zero;
+use meter::Account;
+use meter::Judged;
+use meter::Meter;
+use meter::Read;
+use meter::Verdict;
+use slotcheck::run_count;
+use words::locate;
+
+// How a row stands in its slot: all its groups, and those of its conditions. Both 0: scalar.
+pub struct Form {
+    pub total: u64,
+    pub first: u64,
+}
+
+// The answer of `prepare`: Yes once its reads are paid, and the form.
+pub struct Prepared {
+    pub judged: Judged,
+    pub form: Form,
+}
+
+// The form of a proposal's row: its groups, conditions and outputs grouped apart, if 3 times as many are fewer than twice the literals;
+// else both 0.
+pub fn form_of(p: &[u64]) -> Form
+    requires { ⌜ Proposed (now p) ⌝ }
+    ensures { λ r. ⌜ r ≡ formOf (rowIn (now (p .entry))) ⌝ }
+{
+    let n = 8 + p[0] as usize;
+    let m = n + p[1] as usize;
+    let first = run_count(&p[8..n], 7);
+    let total = first + run_count(&p[n..m], 7);
+    if 3 * total < 2 * (m - 8) {
+        return Form {
+            total: total as u64,
+            first: first as u64,
+        };
+    }
+    Form { total: 0, first: 0 }
+}
+
+// The reads of `prepare` for so many literals: one a literal, and one more where they are packed.
+fn reads_of(literals: u64, form: Form) -> u64
+    requires { ⌜ literals ≤ 80 ⌝ }
+    ensures { λ r. ⌜ r ≡ readsFor literals form ⌝ }
+{
+    if form.total == 0 {
+        return literals;
+    }
+    2 * literals
+}
+
+// Yes where the reads are paid, else Declined or Stopped.
+fn settle(read: Read) -> Judged
+    ensures { λ r. ⌜ r ≡ judged true read ⌝ }
+{
+    match read {
+        Read::Paid(account, meter) => Judged {
+            verdict: Verdict::Yes,
+            account,
+            meter,
+        },
+        Read::Declined(account, meter) => Judged {
+            verdict: Verdict::Declined,
+            account,
+            meter,
+        },
+        Read::Stopped(account, meter) => Judged {
+            verdict: Verdict::Stopped,
+            account,
+            meter,
+        },
+    }
+}
+
+// The form of a proposal's row, always; and Yes if its reads are paid, each literal once and again to pack it, else Declined or Stopped.
+pub fn prepare(p: &[u64], account: Account, work: Meter) -> Prepared
+    requires { ⌜ Proposed (now p) ⌝ }
+    ensures { λ r. ⌜ (r .judged ≡ judged true (pay (prepareReads (rowIn (now (p .entry)))) account work))
+        × (r .form ≡ formOf (rowIn (now (p .entry)))) ⌝ }
+{
+    let form = form_of(p);
+    let reads = reads_of(p[0] + p[1], form);
+    let judged = settle(account.pay_all(reads, work));
+    Prepared { judged, form }
+}
+
+// Where the bits of a code's sign stand in the group at `at`: present bits before absent bits.
+fn mask_at(at: usize, code: u64) -> usize
+    requires { ⌜ at ≤ slotWords ⌝ }
+    ensures { λ r. ⌜ r ≡ maskAt at code ⌝ }
+{
+    if code % 2 == 1 {
+        return at + 1;
+    }
+    at + 2
+}
+
+// One code more in the group at `at`: the group has the code's word as its index, and the code's bit among those of its sign.
+fn enter(out: &mut [u64], at: usize, code: u64)
+    requires { ⌜ at + 3 ≤ length (now out) ⌝ ∗ ⌜ at ≤ slotWords ⌝ }
+    ensures { λ _. ⌜ now (out .exit) ≡ entered (now (out .entry)) at code ⌝ }
+{
+    let place = locate(code / 2);
+    let k = mask_at(at, code);
+    out[at] = place.word as u64;
+    out[k] = place.bit | out[k];
+}
+
+// 0 if a code of word `index` joins the group at `at`; 1 if it begins one: there is none at `at`, or one of another word.
+fn begins(out: &[u64], at: usize, index: u64) -> usize
+    ensures { λ r. ⌜ r ≡ begun (now (out .entry)) at index ⌝ }
+{
+    if at < out.len() {
+        if index == out[at] {
+            return 0;
+        }
+    }
+    1
+}
+
+// out, zeros as many as it takes, becomes the groups of the codes. From the last code to the first, each joins the group of the code after
+// it if both are of one word, else it begins a group.
+fn pack(codes: &[u64], out: &mut [u64])
+    requires { ⌜ length (now out) ≡ 3 * length (groups (now codes)) ⌝ ∗ ⌜ length (now out) ≤ slotWords ⌝ ∗ ⌜ now out ≡ zeroed (now out) ⌝ }
+    ensures { λ _. ⌜ now (out .exit) ≡ packs (now (codes .entry)) ⌝ }
+{
+    let mut at = out.len();
+    let mut i = codes.len();
+    while 0 < i {
+        i -= 1;
+        let code = codes[i];
+        at -= 3 * begins(out, at, code / 2 / 64);
+        enter(out, at, code);
+    }
+}
+
+// The body of a scalar row: the codes, which stand in the proposal as they do in a slot, and zeros.
+fn write_scalar(body: &mut [u64], p: &[u64])
+    requires { ⌜ length (now body) ≡ 160 ⌝ ∗ ⌜ Proposed (now p) ⌝ ∗ ⌜ packed (rowIn (now p)) ≡ false ⌝ }
+    ensures { λ _. ⌜ now (body .exit) ≡ pad 160 (bodyOf (rowIn (now (p .entry)))) ⌝ }
+{
+    copy(&p[8..], body);
+}
+
+// The body of a packed row: the groups of its conditions, those of its outputs, and zeros.
+fn write_packed(body: &mut [u64], p: &[u64], form: Form)
+    requires { ⌜ length (now body) ≡ 160 ⌝ ∗ ⌜ Proposed (now p) ⌝ ∗ ⌜ form ≡ formOf (rowIn (now p)) ⌝ ∗ ⌜ packed (rowIn (now p)) ≡ true ⌝ }
+    ensures { λ _. ⌜ now (body .exit) ≡ pad 160 (bodyOf (rowIn (now (p .entry)))) ⌝ }
+{
+    let n = 8 + p[0] as usize;
+    let m = n + p[1] as usize;
+    let a = 3 * form.first as usize;
+    let e = 3 * form.total as usize;
+    fill_zero(body);
+    pack(&p[8..n], &mut body[0..a]);
+    pack(&p[n..m], &mut body[a..e]);
+}
+
+// The body of a row in its form.
+fn write_body(body: &mut [u64], p: &[u64], form: Form)
+    requires { ⌜ length (now body) ≡ 160 ⌝ ∗ ⌜ Proposed (now p) ⌝ ∗ ⌜ form ≡ formOf (rowIn (now p)) ⌝ }
+    ensures { λ _. ⌜ now (body .exit) ≡ pad 160 (bodyOf (rowIn (now (p .entry)))) ⌝ }
+{
+    if form.total == 0 {
+        write_scalar(body, p);
+        return;
+    }
+    write_packed(body, p, form);
+}
+
+// The words before the body of a row that is new in its slot: unshared and delivered are 0.
+fn write_head(head: &mut [u64], conditions: u64, outputs: u64, form: Form, hits: u64, born: u64)
+    requires { ⌜ length (now head) ≡ 8 ⌝ }
+    ensures { λ _. ⌜ now (head .exit) ≡ headOf conditions outputs form hits born ⌝ }
+{
+    head[0] = conditions;
+    head[1] = outputs;
+    head[2] = form.total;
+    head[3] = form.first;
+    head[4] = hits;
+    head[5] = 0;
+    head[6] = born;
+    head[7] = 0;
+}
+
+// The slot, whatever it held, becomes that of the proposal's row with so many hits, born then, not shared and not delivered.
+pub fn write_row(slot: &mut [u64], p: &[u64], form: Form, hits: u64, born: u64)
+    requires { ⌜ length (now slot) ≡ slotWords ⌝ ∗ ⌜ Proposed (now p) ⌝ ∗ ⌜ form ≡ formOf (rowIn (now p)) ⌝ }
+    ensures { λ _. ⌜ now (slot .exit) ≡ slotOf (newEntry (rowIn (now (p .entry))) hits born) ⌝ }
+{
+    write_head(&mut slot[0..8], p[0], p[1], form, hits, born);
+    write_body(&mut slot[8..168], p, form);
+}
