@@ -1,0 +1,194 @@
+// The ledger for C: one function for each public operation, over lent words alone. None asks anything of its caller. Each gives back 0, or the
+// number of a refusal, and then no lent word is written. include/ledger.h says what the words are.
+ghost use mathlib.Core.Path.{_≡_};
+ghost use mathlib.Core.List.{[], _∷_};
+ghost use Rattle.boundary.specs.Calls.{left, makeCall, beginCall, hitCall, deduceCall, outputCall, decideCall};
+use operations::begin;
+use operations::decide;
+use operations::deduce;
+use operations::hit;
+use operations::make;
+use operations::next_output;
+use wire::begin_reply;
+use wire::cursor_of;
+use wire::decide_reply;
+use wire::deduce_reply;
+use wire::header_of;
+use wire::hit_reply;
+use wire::limits_of;
+use wire::make_reply;
+use wire::meter_of;
+use wire::next_reply;
+use wire::put_answer;
+use wire::put_cursor;
+use wire::put_header;
+use wire::put_made;
+use wire::put_meter;
+
+// Make: the fresh header, every slot and posting 0; refused by 1 or 2.
+#[no_mangle]
+pub extern "C" fn ledger_make(
+    limits: &[u64; 10],
+    number: u64,
+    head: &mut [u64; 25],
+    answer: &mut [u64; 3],
+    slots: &mut [u64],
+    postings: &mut [u64],
+) -> u64
+    ensures { λ r. ⌜ left r (now (head .exit) ∷ now (answer .exit) ∷ now (slots .exit) ∷ now (postings .exit) ∷ [])
+        ≡ makeCall (now (limits .entry)) number (now (head .entry)) (now (answer .entry)) (now (slots .entry)) (now (postings .entry)) ⌝ }
+{
+    let made = make(limits_of(limits), number, slots, postings);
+    let a = made.answer;
+    let reply = make_reply(a);
+    if reply.refusal != 0 {
+        return reply.refusal;
+    }
+    put_made(a, head);
+    put_answer(reply, made.ticks, answer);
+    0
+}
+
+// Begin: the header with full true; refused by 1, 2 or 3.
+#[no_mangle]
+pub extern "C" fn ledger_begin(
+    head: &mut [u64; 25],
+    answer: &mut [u64; 3],
+    slots: &[u64],
+    postings: &[u64],
+) -> u64
+    ensures { λ r. ⌜ left r (now (head .exit) ∷ now (answer .exit) ∷ [])
+        ≡ beginCall (now (head .entry)) (now (answer .entry)) (now (slots .entry)) (now (postings .entry)) ⌝ }
+{
+    let begun = begin(header_of(head), slots, postings);
+    let a = begun.answer;
+    let reply = begin_reply(a);
+    if reply.refusal != 0 {
+        return reply.refusal;
+    }
+    let header = begun.header;
+    put_header(header, head);
+    put_answer(reply, begun.ticks, answer);
+    0
+}
+
+// Hit: one hit more, not shared yet, for the row at a position; refused by 1, 2, 3 or 5.
+#[no_mangle]
+pub extern "C" fn ledger_hit(
+    head: &mut [u64; 25],
+    answer: &mut [u64; 3],
+    slots: &mut [u64],
+    postings: &[u64],
+    position: u64,
+) -> u64
+    ensures { λ r. ⌜ left r (now (head .exit) ∷ now (answer .exit) ∷ now (slots .exit) ∷ [])
+        ≡ hitCall (now (head .entry)) (now (answer .entry)) (now (slots .entry)) (now (postings .entry)) position ⌝ }
+{
+    let done = hit(header_of(head), slots, postings, position);
+    let a = done.answer;
+    let reply = hit_reply(a);
+    if reply.refusal != 0 {
+        return reply.refusal;
+    }
+    let header = done.header;
+    put_header(header, head);
+    put_answer(reply, done.ticks, answer);
+    0
+}
+
+// Deduce: what the row at a position says of a region; refused by 1, 2, 3, 5 or 6.
+#[no_mangle]
+pub extern "C" fn ledger_deduce(
+    head: &[u64; 25],
+    answer: &mut [u64; 3],
+    meter: &mut [u64; 2],
+    slots: &[u64],
+    postings: &[u64],
+    position: u64,
+    held: &[u64],
+    cut: &[u64],
+) -> u64
+    ensures { λ r. ⌜ left r (now (answer .exit) ∷ now (meter .exit) ∷ [])
+        ≡ deduceCall (now (head .entry)) (now (answer .entry)) (now (meter .entry)) (now (slots .entry)) (now (postings .entry)) position (now (held .entry)) (now (cut .entry)) ⌝ }
+{
+    let deduced = deduce(
+        header_of(head),
+        slots,
+        postings,
+        position,
+        held,
+        cut,
+        meter_of(meter),
+    );
+    let a = deduced.answer;
+    let reply = deduce_reply(a);
+    if reply.refusal != 0 {
+        return reply.refusal;
+    }
+    let work = deduced.meter;
+    put_answer(reply, deduced.ticks, answer);
+    put_meter(work, meter);
+    0
+}
+
+// Next output: the next output of the row at a position, and the cursor past it; refused by 1, 2, 3, 5, 6 or 8.
+#[no_mangle]
+pub extern "C" fn ledger_next_output(
+    head: &[u64; 25],
+    answer: &mut [u64; 3],
+    meter: &mut [u64; 2],
+    cursor: &mut [u64; 4],
+    slots: &[u64],
+    postings: &[u64],
+    position: u64,
+    held: &[u64],
+    cut: &[u64],
+) -> u64
+    ensures { λ r. ⌜ left r (now (answer .exit) ∷ now (meter .exit) ∷ now (cursor .exit) ∷ [])
+        ≡ outputCall (now (head .entry)) (now (answer .entry)) (now (meter .entry)) (now (cursor .entry)) (now (slots .entry)) (now (postings .entry)) position (now (held .entry)) (now (cut .entry)) ⌝ }
+{
+    let next = next_output(
+        header_of(head),
+        slots,
+        postings,
+        position,
+        cursor_of(cursor),
+        held,
+        cut,
+        meter_of(meter),
+    );
+    let a = next.answer;
+    let reply = next_reply(a);
+    if reply.refusal != 0 {
+        return reply.refusal;
+    }
+    let work = next.meter;
+    let place = next.cursor;
+    put_answer(reply, next.ticks, answer);
+    put_meter(work, meter);
+    put_cursor(place, cursor);
+    0
+}
+
+// Decide: holds an atom of a region, or cuts it if `value` is 0; refused by 6.
+#[no_mangle]
+pub extern "C" fn ledger_decide(
+    answer: &mut [u64; 3],
+    atoms: u64,
+    held: &mut [u64],
+    cut: &mut [u64],
+    atom: u64,
+    value: u64,
+) -> u64
+    ensures { λ r. ⌜ left r (now (answer .exit) ∷ now (held .exit) ∷ now (cut .exit) ∷ [])
+        ≡ decideCall (now (answer .entry)) atoms (now (held .entry)) (now (cut .entry)) atom value ⌝ }
+{
+    let decided = decide(atoms, held, cut, atom, value != 0);
+    let a = decided.answer;
+    let reply = decide_reply(a);
+    if reply.refusal != 0 {
+        return reply.refusal;
+    }
+    put_answer(reply, decided.ticks, answer);
+    0
+}

@@ -1,0 +1,41 @@
+-- Words written and read again: the header, the meter, the cursor are what they were. Assumes nothing.
+use mathlib.Core.Path.{_≡_, refl, sym, ap}
+use mathlib.Core.Bool.{Bool, true, false}
+use mathlib.Core.List.{[], _∷_}
+use Prim.Native.Nat.{ℕ}
+use lib.ListN.{getD}
+use borrow.Author.Tests.{ne-eqb}
+use Rattle.meter.specs.declared.Meter.{Meter}
+use Rattle.model.specs.declared.Mark.{Mark}
+use Rattle.model.specs.declared.Mark.the-variants.{Unmarked, Marked}
+use Rattle.model.specs.declared.Header.{Header}
+use Rattle.model.specs.declared.OutputCursor.{OutputCursor}
+use Rattle.wire.specs.Words.{flagWord, flagIn, limitsIn, markWords, markIn, headerWords, headerIn, meterWords, meterIn, cursorWords, cursorIn}
+
+flag-read : (b : Bool) → flagIn (flagWord b) ≡ b
+flag-read true = refl
+flag-read false = refl
+
+pub mark-none : (w n b : ℕ) → w ≡ 0 → Unmarked ≡ markIn w n b
+mark-none w n b e = ap (λ (k : ℕ). markIn k n b) (sym e)
+
+pub mark-some : (w n b : ℕ) → (w ≡ 0 → ⊥) → Marked n b ≡ markIn w n b
+mark-some w n b f = rw (ne-eqb w 0 f, markIn)
+
+pub mark-three : (m : Mark) → getD (markWords m) 0 0 ∷ getD (markWords m) 1 0 ∷ getD (markWords m) 2 0 ∷ [] ≡ markWords m
+mark-three Unmarked = refl
+mark-three (Marked n b) = refl
+
+mark-read : (m : Mark) → markIn (getD (markWords m) 0 0) (getD (markWords m) 1 0) (getD (markWords m) 2 0) ≡ m
+mark-read Unmarked = refl
+mark-read (Marked n b) = refl
+
+pub header-read : (h : Header) → headerIn (headerWords h) ≡ h
+unfolding headerIn headerWords limitsIn
+header-read h = rw (flag-read (h .stale), flag-read (h .full), mark-read (h .mark))
+
+pub meter-read : (m : Meter) → meterIn (meterWords m) ≡ m
+meter-read m = refl
+
+pub cursor-read : (k : OutputCursor) → cursorIn (cursorWords k) ≡ k
+cursor-read k = refl

@@ -1,0 +1,36 @@
+/* A ledger over 128 points with room for two rows: made, asked for a hit where there is no row, and a point decided. */
+#include "ledger.h"
+#include <inttypes.h>
+#include <stdio.h>
+
+enum { ROWS = 2, POINTS = 128, REGION_WORDS = (POINTS + 63) / 64 };
+
+static uint64_t slots[ROWS * LEDGER_SLOT_WORDS];
+static uint64_t postings[ROWS * LEDGER_POSTING_WORDS];
+
+int main(void)
+{
+    const uint64_t limits[LEDGER_LIMIT_WORDS] = {POINTS, ROWS, 16, 64, 1, 256, 131072, 131072, 8, 2};
+    uint64_t head[LEDGER_HEAD_WORDS] = {0};
+    uint64_t answer[LEDGER_ANSWER_WORDS] = {0};
+
+    uint64_t refused = ledger_make(limits, 7, head, answer, slots, ROWS * LEDGER_SLOT_WORDS, postings, ROWS * LEDGER_POSTING_WORDS);
+    if (refused != 0) {
+        printf("make: refused by %" PRIu64 "\n", refused);
+        return 1;
+    }
+    printf("make: ledger %" PRIu64 " with %" PRIu64 " rows, %" PRIu64 " reads left\n", head[LEDGER_NUMBER], head[LEDGER_ROWS], head[LEDGER_REMAINING]);
+
+    /* There is no row yet, so no position is one. */
+    refused = ledger_hit(head, answer, slots, ROWS * LEDGER_SLOT_WORDS, postings, ROWS * LEDGER_POSTING_WORDS, 0);
+    printf("hit 0: refused by %" PRIu64 "\n", refused);
+
+    /* Point 3 is held; then it cannot be cut. */
+    uint64_t held[REGION_WORDS] = {0};
+    uint64_t cut[REGION_WORDS] = {0};
+    refused = ledger_decide(answer, POINTS, held, REGION_WORDS, cut, REGION_WORDS, 3, 1);
+    printf("hold 3: refused by %" PRIu64 ", %" PRIu64 ", held %" PRIx64 "\n", refused, answer[LEDGER_CASE], held[0]);
+    refused = ledger_decide(answer, POINTS, held, REGION_WORDS, cut, REGION_WORDS, 3, 0);
+    printf("cut 3: refused by %" PRIu64 ", %" PRIu64 ", cut %" PRIx64 "\n", refused, answer[LEDGER_CASE], cut[0]);
+    return 0;
+}

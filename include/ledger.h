@@ -1,0 +1,134 @@
+/*
+ * The learned-row ledger of the oven panel, for C. Link target/staticlib/libboundary.a (made by `rt staticlib boundary`; x86-64).
+ *
+ * Every function works on words of 64 bits that the caller lends for the time of the call. It allocates nothing, keeps nothing between
+ * calls, always returns, and asks nothing of the numbers and words: each is proved for every value of them. Of the pointers it asks what C
+ * cannot say otherwise: none is null, each points to as many words as stand behind it, and what a call writes overlaps nothing else
+ * that is lent to that call.
+ *
+ * The result is 0, or the number of a refusal. A refused call writes nothing. The refusals:
+ *   1  limits outside their ranges: atoms 1 to 32,768, tier_rows 1 to 4,096, founded_conditions 0 to 16, founded_outputs 0 to 64
+ *   2  a slice of another length: slots 168 * tier_rows words, postings 80 * tier_rows words
+ *   3  header, slots and postings that are no ledger's
+ *   5  no row at the position
+ *   6  held and cut are no region: each is (atoms + 63) / 64 words, with no common bit and no bit at `atoms` or above
+ *   8  a cursor that is not of this row
+ * They are tested in this order; the first that applies is the result.
+ *
+ * A call that is not refused writes `answer`: its case, a value where the case has one, and the ticks that it charged.
+ */
+#ifndef LEDGER_H
+#define LEDGER_H
+
+#include <stddef.h>
+#include <stdint.h>
+
+#ifdef __cplusplus
+extern "C" {
+#endif
+
+/* ---- The header, `head`: the limits, the counts, two flags (0 or 1; any word but 0 is read as 1), the seed mark. */
+enum {
+    LEDGER_ATOMS = 0,
+    LEDGER_TIER_ROWS = 1,
+    LEDGER_FOUNDED_CONDITIONS = 2,
+    LEDGER_FOUNDED_OUTPUTS = 3,
+    LEDGER_FOUNDED_FLOOR = 4,
+    LEDGER_FOUNDED_ATTEMPTS = 5,
+    LEDGER_FOUNDED_WORK = 6,
+    LEDGER_SHARE_WORK = 7,
+    LEDGER_SHARE_CONDITIONS = 8,
+    LEDGER_SHARE_HITS = 9,
+    LEDGER_LIMIT_WORDS = 10,
+    LEDGER_NUMBER = 10,
+    LEDGER_ROWS = 11,
+    LEDGER_BORN = 12,
+    LEDGER_EPOCH = 13,
+    LEDGER_ATTEMPTS = 14,
+    LEDGER_REMAINING = 15,
+    LEDGER_SHARING = 16,
+    LEDGER_EVICTED = 17,
+    LEDGER_DELIVERIES = 18,
+    LEDGER_SEEDED = 19,
+    LEDGER_STALE = 20,
+    LEDGER_FULL = 21,
+    LEDGER_MARKED = 22,      /* 0: no mark, and the next two words are 0 */
+    LEDGER_MARK_NUMBER = 23, /* the store's number */
+    LEDGER_MARK_BORN = 24,
+    LEDGER_HEAD_WORDS = 25
+};
+
+/* ---- The words of `answer`, and of `meter` (what is charged so far, and the limit that it may not pass). */
+enum { LEDGER_CASE = 0, LEDGER_VALUE = 1, LEDGER_TICKS = 2, LEDGER_ANSWER_WORDS = 3 };
+enum { LEDGER_CHARGED = 0, LEDGER_LIMIT = 1, LEDGER_METER_WORDS = 2 };
+
+/* ---- The words of a cursor over a row's outputs; four zeros are the start. */
+enum { LEDGER_NEXT = 0, LEDGER_WORD = 1, LEDGER_PRESENT = 2, LEDGER_ABSENT = 3, LEDGER_CURSOR_WORDS = 4 };
+
+/* ---- Words of the buffers for each row of the tier. */
+enum { LEDGER_SLOT_WORDS = 168, LEDGER_POSTING_WORDS = 80 };
+
+/* ---- The cases. A literal's code is 2 * atom, plus 1 for held. */
+enum { LEDGER_DONE = 0, LEDGER_STOPPED = 2 };                                /* Stopped is 2 everywhere: the meter was at its limit */
+enum { LEDGER_NOTHING = 0, LEDGER_FORCE = 1, LEDGER_REQUIRE = 3 };           /* deduce */
+enum { LEDGER_END = 0, LEDGER_OUTPUT = 1 };                                  /* next output */
+enum { LEDGER_FALSE = 0, LEDGER_TRUE = 1 };                                  /* decide */
+
+/*
+ * Make. Lent: `limits`, ten words in the header's order; `number`, given to the ledger for good.
+ * Back: `head` is the fresh header, every word of `slots` and `postings` is 0, `answer` is 0, 0, 0. What they held before does not matter.
+ * Refused: 1, 2.
+ */
+uint64_t ledger_make(const uint64_t limits[10], uint64_t number, uint64_t head[25], uint64_t answer[3],
+                     uint64_t *slots, size_t slots_len, uint64_t *postings, size_t postings_len);
+
+/*
+ * Begin. Lent: a ledger.
+ * Back: `head` with full 1: the next search takes all rows; `answer` is 0, 0, 0.
+ * Refused: 1, 2, 3.
+ */
+uint64_t ledger_begin(uint64_t head[25], uint64_t answer[3],
+                      const uint64_t *slots, size_t slots_len, const uint64_t *postings, size_t postings_len);
+
+/*
+ * Hit. Lent: a ledger, a position.
+ * Back: the row there has one hit more, and one more that is not shared yet, both at most 2^64 - 1; `head` is written, its numbers as they were;
+ * `answer` is 0, 0, 0.
+ * Refused: 1, 2, 3, 5.
+ */
+uint64_t ledger_hit(uint64_t head[25], uint64_t answer[3],
+                    uint64_t *slots, size_t slots_len, const uint64_t *postings, size_t postings_len, uint64_t position);
+
+/*
+ * Deduce. Lent: a ledger, a position, a region, a meter.
+ * Back: what the row there says of the region. `answer` is 0 Nothing; 1 Force, all its conditions hold; 2 Stopped; 3 Require, with the code
+ * required as its value. `meter` has the ticks charged.
+ * Refused: 1, 2, 3, 5, 6.
+ */
+uint64_t ledger_deduce(const uint64_t head[25], uint64_t answer[3], uint64_t meter[2],
+                       const uint64_t *slots, size_t slots_len, const uint64_t *postings, size_t postings_len, uint64_t position,
+                       const uint64_t *held, size_t held_len, const uint64_t *cut, size_t cut_len);
+
+/*
+ * Next output. Lent: as Deduce, and a cursor: four zeros at first, then as the last call left it.
+ * Back: `answer` is 0 End; 1 Output, with the output's code as its value; 2 Stopped. `cursor` stands past it, `meter` has the ticks charged.
+ * Refused: 1, 2, 3, 5, 6, 8.
+ */
+uint64_t ledger_next_output(const uint64_t head[25], uint64_t answer[3], uint64_t meter[2], uint64_t cursor[4],
+                            const uint64_t *slots, size_t slots_len, const uint64_t *postings, size_t postings_len, uint64_t position,
+                            const uint64_t *held, size_t held_len, const uint64_t *cut, size_t cut_len);
+
+/*
+ * Decide. Lent: a region over `atoms` atoms; an atom, to be cut if `value` is 0 and else held.
+ * Back: `answer` is 1, and the atom is marked (it may have been so already); or 0, and nothing is changed: the atom is not below `atoms`, or the
+ * opposite is marked.
+ * Refused: 6, also for `atoms` outside 1 to 32,768.
+ */
+uint64_t ledger_decide(uint64_t answer[3], uint64_t atoms, uint64_t *held, size_t held_len, uint64_t *cut, size_t cut_len,
+                       uint64_t atom, uint64_t value);
+
+#ifdef __cplusplus
+}
+#endif
+
+#endif
