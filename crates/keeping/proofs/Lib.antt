@@ -6,3 +6,4 @@ pub mod Lending
 pub mod Recounting
 pub mod Changing
 pub mod Standing
+pub mod Headers
