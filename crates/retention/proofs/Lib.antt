@@ -1,1 +1,10 @@
-pub mod Passing
+pub mod Places
+pub mod Settling
+pub mod Placing
+pub mod Ways
+pub mod Rooms
+pub mod Paying
+pub mod Publishing
+pub mod Admitting
+pub mod Rising
+pub mod Retaining

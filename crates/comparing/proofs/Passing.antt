@@ -1,18 +1,17 @@
 -- The first and the second pass, one position after another. Assumes nothing.
-use mathlib.Core.Path.{_≡_, refl, sym, ap, ap₂, _∙_, subst}
+use mathlib.Core.Path.{_≡_, refl, sym, ap, ap₂, _∙_}
 use mathlib.Core.Bool.{Bool, true, false, _||_}
-use mathlib.Core.List.{List, [], _∷_, _++_, append-assoc}
-use Prim.Native.Nat.{ℕ, zero, suc, _+_, _≤_, _<_}
+use mathlib.Core.List.{List, [], _∷_, _++_}
+use Prim.Native.Nat.{ℕ, suc, _+_, _≤_, _<_}
 use native.Mathlib.Nat.{add-zero, zero-add, add-suc, suc-add}
-use native.Mathlib.Numerals.{add-one}
 use native.Mathlib.Omega.{arith}
-use lib.ListN.{length, getD, take, drop}
-use lib.Seq.{take-suc, drop-cons, take-all}
+use lib.ListN.{length, getD}
 use Rattle.model.specs.Records.{Row, Entry}
 use Rattle.model.specs.Rows.{subsumes, subsumesReads}
 use Rattle.model.specs.Union.{joins, joinReads, grown}
-use Rattle.model.specs.Retention.{Compared, Pass, found, passed, noted, firstPass, firstReads, secondPass, secondReads, anyReplaced}
-use Rattle.retention.specs.Passes.{comparedBy, resumed, rowReads, proposalAfter}
+use Rattle.model.specs.Retention.{Compared, Pass, found, passed, noted, firstPass, firstReads, secondPass, secondReads}
+use Rattle.comparing.specs.Passes.{comparedBy, resumed, rowReads, proposalAfter}
+use Rattle.comparing.specs.Turns.{sweepReads}
 
 -- ---- what was passed
 pub resumed-snoc : (ks : List Compared) (k : Compared) (x : Pass) → resumed (ks ++ (k ∷ [])) x ≡ resumed ks (noted (k .replaced) (k .entry) x)
@@ -88,14 +87,15 @@ module _ (most : ℕ) (p : Row) (e : Entry) (es : List Entry) where
       go false = omega arith
 
 -- ---- the second pass at one position
-module _ (f : ℕ → Bool) (p : Row) (i : ℕ) (e : Entry) (es : List Entry) where
-  pub second-marked : f i ≡ true → secondReads p (comparedBy f i (e ∷ es)) ≡ secondReads p (comparedBy f (suc i) es)
-  unfolding secondReads comparedBy
-  second-marked h = rw h (zero-add _)
-
-  pub second-open : f i ≡ false → secondReads p (comparedBy f i (e ∷ es)) ≡ suc (subsumesReads p (e .row)) + secondReads p (comparedBy f (suc i) es)
-  unfolding secondReads comparedBy
-  second-open h = rw h
+pub second-step : (f : ℕ → Bool) (p : Row) (i : ℕ) (e : Entry) (es : List Entry)
+    → secondReads p (comparedBy f i (e ∷ es)) ≡ sweepReads (f i) p (e .row) + secondReads p (comparedBy f (suc i) es)
+unfolding secondReads comparedBy
+second-step f p i e es = go (f i)
+  where
+    go : (b : Bool) → (elim b as (λ k. ℕ) [ true ↦ 0 | false ↦ suc (subsumesReads p (e .row)) ]) + secondReads p (comparedBy f (suc i) es)
+        ≡ sweepReads b p (e .row) + secondReads p (comparedBy f (suc i) es)
+    go true = refl
+    go false = refl
 
 -- the marks after the second pass, as a function of positions
 pub second-marks : (f g : ℕ → Bool) (p : Row) (i : ℕ) (es : List Entry) (d : Entry)

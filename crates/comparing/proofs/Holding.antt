@@ -1,0 +1,42 @@
+-- A part of the slots, lent as the code lends it, is the slot of a held row. Assumes nothing.
+use mathlib.Core.Path.{_≡_, ap, _∙_, sym, subst}
+use mathlib.Core.List.{List}
+use Prim.Native.Nat.{ℕ, _+_, _-_, _*_, _<_}
+use native.Mathlib.Nat.{le-refl}
+use native.Mathlib.Omega.{arith}
+use lib.Dec.{T}
+use lib.ListN.{getD, take, drop}
+use Rattle.lists.specs.Lists.{all}
+use Rattle.lists.proofs.Tests.{all-at}
+use Rattle.words.specs.Region.{maxAtoms}
+use Rattle.words.proofs.Bools.{T-true, T-of}
+use Rattle.model.specs.Records.{Entry, isRow}
+use Rattle.model.specs.Slots.{slotOf, rowIn, entriesIn}
+use Rattle.model.proofs.Slots.{valid-of, row-there}
+use Rattle.slots.specs.Layout.{Laid}
+use Rattle.slots.proofs.Storing.{laid-slot}
+use Rattle.tier.specs.Tier.{Held}
+use Rattle.tier.proofs.Buffer.{no-entry, slot-held, entries-length}
+
+module _ (rows p : ℕ) (ws : List ℕ) (k : Held rows ws) (l : p < rows) where
+  abbrev entry : Entry
+  entry = getD (entriesIn rows ws) p no-entry
+
+  abbrev part : List ℕ
+  part = take ((168 * p + 168) - 168 * p) (drop (168 * p) ws)
+
+  part-slot : part ≡ slotOf entry
+  part-slot =
+      let n : (168 * p + 168) - 168 * p ≡ 168 = omega arith in
+      ap (λ (m : ℕ). take m (drop (168 * p) ws)) n ∙ slot-held rows p ws k l
+
+  held-ok : T (isRow maxAtoms (entry .row))
+  held-ok =
+      T-of {x = isRow maxAtoms (entry .row)} (all-at (λ (e : Entry). isRow maxAtoms (e .row)) (entriesIn rows ws) p no-entry
+      (T-true (all (λ e. isRow maxAtoms (e .row)) (entriesIn rows ws)) (k .each)) (subst (λ (n : ℕ). p < n) (sym (entries-length rows ws)) l))
+
+  pub held-laid : Laid part
+  held-laid = subst Laid (sym part-slot) (laid-slot maxAtoms entry held-ok (le-refl maxAtoms))
+
+  pub held-row : rowIn part ≡ entry .row
+  held-row = ap rowIn part-slot ∙ row-there entry (valid-of maxAtoms (entry .row) held-ok)

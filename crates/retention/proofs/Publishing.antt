@@ -1,0 +1,67 @@
+-- A row placed in an accepted ledger: what the settled ledger is made of. Assumes nothing.
+use mathlib.Core.Path.{_≡_, sym, ap, ap₂, _∙_, subst}
+use mathlib.Core.Bool.{Bool, true}
+use mathlib.Core.List.{List}
+use Prim.Native.Nat.{ℕ, _≤_}
+use native.Mathlib.Omega.{arith}
+use lib.ListN.{length}
+use Rattle.words.specs.Region.{maxAtoms}
+use Rattle.model.specs.declared.Header.{Header}
+use Rattle.model.specs.Records.{Row, Entry, isRow, plus}
+use Rattle.model.specs.Slots.{slotsOf, rowIn, entriesIn}
+use Rattle.model.specs.Retention.{newborn}
+use Rattle.contents.specs.Accepted.{Accepted}
+use Rattle.keeping.proofs.Holding.{tier-is, held, row-more}
+use Rattle.proposals.specs.Proposed.{Proposed}
+use Rattle.comparing.specs.Passes.{comparedBy}
+use Rattle.tier.specs.Tier.{tierOf, Held}
+use Rattle.tier.proofs.Buffer.{entries-length}
+use Rattle.writer.specs.Forms.{newEntry}
+use Rattle.retention.specs.declared.Room.{Room}
+use Rattle.retention.specs.Places.{roomOf, placedBy, Fits, Placing}
+use Rattle.retention.proofs.Placing.{Rows, all-placed, placed-fit, rows-held, tier-slots, entries-back, held-slots}
+use Rattle.retention.proofs.Rooms.{room-told, room-fits}
+
+new-row : (h : Header) (p : Row) (hits born : ℕ) → born ≡ plus (h .born) 1 → newEntry p hits born ≡ newborn h p hits
+unfolding newborn
+new-row h p hits born e = ap (newEntry p hits) e
+
+module _ (h : Header) (slots postings : List ℕ) (a : Accepted h slots postings) (room : Room) (p : List ℕ) (k : Placing room (h .rows) slots p) (f : ℕ → Bool) (hits born : ℕ) where
+  abbrev es : List Entry
+  es = entriesIn (h .rows) slots
+
+  abbrev new : List Entry
+  new = placedBy room f es (newEntry (rowIn p) hits born)
+
+  new-rows : Rows new
+  new-rows = all-placed (λ x. isRow maxAtoms (x .row)) room f es (newEntry (rowIn p) hits born) (rows-held (h .rows) slots (k .held) (newEntry (rowIn p) hits born) (k .row)) (k .row)
+
+  new-few : length new ≤ tierOf slots
+  new-few =
+      let c = entries-length (h .rows) slots in
+      let w = k .held .few in
+      placed-fit room f es (newEntry (rowIn p) hits born) (tierOf slots) (omega arith) (subst (λ (n : ℕ). Fits room n (tierOf slots)) (sym c) (k .fits))
+
+  module _ (after : List ℕ) (n : ℕ) (w : after ≡ slotsOf (tierOf slots) new) (c : n ≡ length new) where
+    pub new-held : Held n after
+    new-held = subst (Held n) (sym w) (held-slots (tierOf slots) new new-rows new-few n c)
+
+    pub new-tier : tierOf after ≡ h .limits .«tier_rows»
+    new-tier = ap tierOf w ∙ tier-slots (tierOf slots) new new-rows new-few ∙ tier-is h slots postings a
+
+    pub new-entries : born ≡ plus (h .born) 1 → entriesIn n after ≡ placedBy room f es (newborn h (rowIn p) hits)
+    new-entries b =
+        ap₂ entriesIn c w ∙ entries-back (tierOf slots) new new-rows new-few ∙ ap (placedBy room f es) (new-row h (rowIn p) hits born b)
+
+-- the place that was found for a proposal over the ledger's atoms
+pub placing-of : (h : Header) (slots postings p : List ℕ) (f : ℕ → Bool) (room : Room) → Accepted h slots postings → Proposed p → isRow (h .limits .atoms) (rowIn p) ≡ true
+    → room ≡ roomOf (h .limits) (entriesIn (h .rows) slots) (comparedBy f 0 (entriesIn (h .rows) slots)) → Placing room (h .rows) slots p
+placing-of h slots postings p f room a o r e =
+    let es = entriesIn (h .rows) slots in
+    record {
+      held = held h slots postings a;
+      fits = subst (λ (n : ℕ). Fits room n (tierOf slots)) (entries-length (h .rows) slots)
+          (subst (λ (n : ℕ). Fits room (length es) n) (sym (tier-is h slots postings a)) (room-fits (h .limits) f es room (a .some) (room-told (h .limits) es (comparedBy f 0 es) e)));
+      proposed = o;
+      row = row-more (h .limits .atoms) maxAtoms (rowIn p) (a .atoms) r;
+    }

@@ -1,0 +1,70 @@
+-- 01, module 5: 'Every tier_rows additions all hits are halved.' The words of the settled ledger. Assumes nothing.
+use mathlib.Core.Path.{_≡_, sym, ap, ap₂, _∙_}
+use mathlib.Core.Bool.{Bool, true, false}
+use mathlib.Core.List.{List, [], map}
+use Prim.Native.Nat.{ℕ, suc, _+_, _-_, _*_, _/_, _≤_, _<_}
+use native.Mathlib.Numerals.{add-one}
+use native.Mathlib.Omega.{arith}
+use lib.Dec.{leb}
+use lib.ListN.{length, length-map}
+use borrow.Author.Tests.{le-leb, lt-leb}
+use Rattle.lists.specs.Lists.{pad, zeroed}
+use Rattle.lists.proofs.Pads.{pad-zeroed}
+use Rattle.model.specs.declared.Header.{Header}
+use Rattle.model.specs.Records.{Row, Entry, Ledger, header, plus, rowsOf, withRows, withAdded, withHits}
+use Rattle.model.specs.Slots.{slotsOf}
+use Rattle.model.specs.Postings.{filed}
+use Rattle.model.specs.Retention.{halved, settle}
+use Rattle.model.specs.Refusals.{lentOf}
+use Rattle.contents.specs.Lent.{lent}
+
+halved-length : (es : List Entry) → length (halved es) ≡ length es
+unfolding halved
+halved-length es = length-map es (λ e. withHits e (e .hits / 2))
+
+-- stale postings are zeros
+filed-stale : (tier : ℕ) (rs : List Row) (postings : List ℕ) → length postings ≡ 80 * tier → zeroed postings ≡ filed tier true rs
+unfolding filed
+filed-stale tier rs postings e = sym (pad-zeroed postings) ∙ ap (λ (n : ℕ). pad n []) e
+
+module _ (h : Header) (rows evicted : ℕ) (postings : List ℕ) (wide : length postings ≡ 80 * h .limits .«tier_rows») where
+  -- the header that the code makes, at the epoch e
+  abbrev after : ℕ → ℕ → Header
+  after e born =
+      header (h .limits) (h .number) rows born e (h .attempts) (h .remaining) (h .sharing) evicted (h .deliveries) (h .seeded) true true (h .mark)
+
+  laid-out : (e born : ℕ) (es : List Entry) → born ≡ plus (h .born) 1 → length es ≡ rows
+      → lent (after e born) (slotsOf (h .limits .«tier_rows») es) (zeroed postings) ≡ lentOf (record { header = withAdded h e evicted; entries = es })
+  unfolding lentOf withRows withAdded rowsOf
+  laid-out e born es b n =
+      ap₂ (λ (x : ℕ) (y : List ℕ). lent (after e x) (slotsOf (h .limits .«tier_rows») es) y) b
+      (filed-stale (h .limits .«tier_rows») (map (λ x. x .row) es) postings wide)
+      ∙ ap (λ (k : ℕ). lent (header (h .limits) (h .number) k (plus (h .born) 1) e (h .attempts) (h .remaining) (h .sharing) evicted (h .deliveries) (h .seeded) true true (h .mark))
+      (slotsOf (h .limits .«tier_rows») es) (filed (h .limits .«tier_rows») true (map (λ x. x .row) es))) (sym n)
+
+  module _ (es : List Entry) (n : length es ≡ rows) (born : ℕ) (b : born ≡ plus (h .born) 1) (some : 1 ≤ h .limits .«tier_rows») where
+    abbrev chosen : Bool → Ledger
+    chosen c =
+        elim c as (λ k. Ledger) [
+          | true ↦ record { header = withAdded h 0 evicted; entries = halved es }
+          | false ↦ record { header = withAdded h (suc (h .epoch)) evicted; entries = es }
+        ]
+
+    settled : {c : Bool} → leb (h .limits .«tier_rows») (suc (h .epoch)) ≡ c → chosen c ≡ settle h es evicted
+    unfolding settle
+    settled e = ap chosen (sym e)
+
+    -- the epoch is over
+    pub settle-over : h .limits .«tier_rows» - 1 ≤ h .epoch → {slots ps : List ℕ} → slots ≡ slotsOf (h .limits .«tier_rows») (halved es) → ps ≡ zeroed postings
+        → lent (after 0 born) slots ps ≡ lentOf (settle h es evicted)
+    settle-over l e q =
+        ap₂ (λ (w z : List ℕ). lent (after 0 born) w z) e q ∙ laid-out 0 born (halved es) b (halved-length es ∙ n)
+        ∙ ap lentOf (settled (le-leb (h .limits .«tier_rows») (suc (h .epoch)) (omega arith)))
+
+    -- it goes on
+    pub settle-on : h .epoch < h .limits .«tier_rows» - 1 → {slots ps : List ℕ} → slots ≡ slotsOf (h .limits .«tier_rows») es → ps ≡ zeroed postings
+        → lent (after (h .epoch + 1) born) slots ps ≡ lentOf (settle h es evicted)
+    settle-on l e q =
+        ap₂ (λ (w z : List ℕ). lent (after (h .epoch + 1) born) w z) e q
+        ∙ ap (λ (k : ℕ). lent (after k born) (slotsOf (h .limits .«tier_rows») es) (zeroed postings)) (add-one (h .epoch)) ∙ laid-out (suc (h .epoch)) born es b n
+        ∙ ap lentOf (settled (lt-leb (h .limits .«tier_rows») (suc (h .epoch)) (omega arith)))

@@ -1,0 +1,77 @@
+-- `settle` meets its contract: the epoch is over, or goes on. Assumes nothing.
+use borrow.Author.Needs.{needs}
+use mathlib.Core.Path.{_≡_, sym, ap, _∙_}
+use mathlib.Core.List.{List}
+use Prim.Native.Nat.{ℕ}
+use lib.ListN.{length}
+use denote.Ref.{now}
+use Rattle.model.specs.Records.{Entry}
+use Rattle.model.specs.Slots.{slotsOf, entriesIn}
+use Rattle.model.specs.Retention.{halved}
+use Rattle.tier.proofs.Buffer.{entries-length}
+use Rattle.retention.proofs.Settling.{settle-over, settle-on}
+use Rattle.retention.proofs.settle.Statement.{statement}
+use Rattle.retention.proofs.settle.Tie as tie
+
+module _ (t : tie.Start) where
+  abbrev es : List Entry
+  es = entriesIn (t .args .rows) (now (t .args .slots))
+
+  rows-are : length es ≡ t .args .rows
+  rows-are = entries-length (t .args .rows) (now (t .args .slots))
+
+fill-zero-requires : tie.Need-fill-zero-requires
+fill-zero-requires c κs = search needs
+
+saturating-add-requires : tie.Need-saturating-add-requires
+saturating-add-requires c κs = search needs
+
+sub-if1 : tie.Need-sub-if1
+sub-if1 c = search needs
+
+halve-requires : tie.Need-halve-requires
+halve-requires c κs = search needs
+
+same-length : tie.Need-same-length
+same-length c = search needs
+
+same-length-2 : tie.Need-same-length-2
+same-length-2 c = search needs
+
+returns : tie.Need-returns
+returns c =
+    let b = c .before .before .before .before .before .before .before .before .before .before in
+    let f = b .before .before .before in
+    let t = f .before .before .before .before in
+    let h = c .before .before .before .before .before in
+    settle-over (t .args .header) (t .args .rows) (t .args .evicted) (now (t .args .postings)) (t .pre .1 .1 .1) (es t) (rows-are t) _ (b .saturating-add .ensures) (t .pre .1 .1 .0)
+    (h .before .before .if1 .taken) (h .halve .ensures ∙ ap (λ (n : ℕ). slotsOf n (halved (es t))) (t .pre .1 .0)) (f .fill-zero .ensures)
+
+add-t10 : tie.Need-add-t10
+add-t10 c = search needs
+
+same-length-3 : tie.Need-same-length-3
+same-length-3 c = search needs
+
+returns-2 : tie.Need-returns-2
+returns-2 c =
+    let b = c .before .before .before .before .before .before .before in
+    let f = b .before .before .before in
+    let t = f .before .before .before .before in
+    settle-on (t .args .header) (t .args .rows) (t .args .evicted) (now (t .args .postings)) (t .pre .1 .1 .1) (es t) (rows-are t) _ (b .saturating-add .ensures) (t .pre .1 .1 .0)
+    (c .before .before .before .before .if1 .left) (sym (t .pre .0 .same) ∙ ap (λ (n : ℕ). slotsOf n (es t)) (t .pre .1 .0)) (f .fill-zero .ensures)
+
+pub settle-spec : {M : Type 1} → statement M
+settle-spec =
+    tie.close
+    (tie.spec
+    fill-zero-requires
+    saturating-add-requires
+    sub-if1
+    halve-requires
+    same-length
+    same-length-2
+    returns
+    add-t10
+    same-length-3
+    returns-2)
