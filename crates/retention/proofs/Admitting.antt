@@ -19,7 +19,7 @@ use Rattle.model.specs.Rows.{prepareReads}
 use Rattle.model.specs.Slots.{entriesIn}
 use Rattle.model.specs.Retention.{Compared, Verdict, protected, place, placeReads, newborn, settle, untaken, carryOut, Retained, Stops, Declines, Adds}
 use Rattle.model.specs.Refusals.{Lent, ledgerIn, lentOf}
-use Rattle.contents.specs.Lent.{lent, rowsIn}
+use Rattle.contents.specs.Lent.{lent}
 use Rattle.contents.specs.Accepted.{Accepted}
 use Rattle.contents.proofs.Rows.{length-entries}
 use Rattle.keeping.proofs.Holding.{accepted-lent}

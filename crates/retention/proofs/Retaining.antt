@@ -1,13 +1,9 @@
 -- `retain` by the ways that it ends. Assumes nothing.
-use mathlib.Core.Path.{_≡_, refl, sym, ap, ap₂, _∙_}
-use mathlib.Core.Bool.{Bool, true, false, _&&_}
-use mathlib.Core.List.{List, [], _∷_}
+use mathlib.Core.Path.{_≡_, refl, sym, ap, _∙_}
+use mathlib.Core.Bool.{Bool, true, false}
+use mathlib.Core.List.{List}
 use Prim.Native.Nat.{ℕ, _+_, _≤_}
-use native.Mathlib.Omega.{arith}
-use lib.Dec.{leb}
 use lib.ListN.{replicate}
-use Rattle.lists.specs.Lists.{all}
-use Rattle.lists.proofs.Tests.{and-both, and-yes}
 use Rattle.lists.proofs.Pads.{getD-zeros}
 use Rattle.words.specs.Bit.{testBit}
 use Rattle.words.specs.Literal.{wordOf, bitOf}
@@ -18,12 +14,11 @@ use Rattle.meter.specs.declared.Account.{Account}
 use Rattle.meter.specs.declared.Read.{Read}
 use Rattle.meter.specs.declared.Read.the-variants as read
 use Rattle.meter.specs.Meter.{andThen, pay, pay-add, pay-none}
-use Rattle.model.specs.declared.LearningLimits.{LearningLimits}
 use Rattle.model.specs.declared.Header.{Header}
 use Rattle.model.specs.Records.{Row, Entry, Ledger, isRow, maxOutputs}
 use Rattle.model.specs.Slots.{entriesIn}
-use Rattle.model.specs.Retention.{Compared as Entered, Pass, found, passed, secondPass, Verdict, subsumed, protected, placing, evicting, Stops, Declines, Subsumes, firstPass, judge, judged, verdict, placeReads, retainReads, carryOut, retained, retain}
-use Rattle.model.specs.Refusals.{Lent, ledgerIn, entryOk}
+use Rattle.model.specs.Retention.{Pass, passed, Verdict, subsumed, protected, placing, evicting, Stops, Declines, Subsumes, firstPass, judged, verdict, placeReads, retainReads, carryOut, retained, retain}
+use Rattle.model.specs.Refusals.{Lent, ledgerIn}
 use Rattle.contents.specs.Lent.{lent}
 use Rattle.contents.specs.Accepted.{Accepted}
 use Rattle.comparing.specs.declared.Comparison.{Comparison}

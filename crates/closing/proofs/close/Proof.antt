@@ -1,0 +1,136 @@
+-- `closing::close`. One law for each way out. Assumes nothing.
+use mathlib.Core.Path.{sym, _∙_}
+use borrow.Author.Tests.{not-true, not-false}
+use borrow.Author.Needs.{needs}
+use Rattle.model.specs.Records.{withFull}
+use Rattle.closing.proofs.Finishing.{close-first, close-sixth, close-passed, close-refused, close-runs, close-room, close-long, close-done}
+use Rattle.closing.proofs.close.Statement.{statement}
+use Rattle.closing.proofs.close.Tie as tie
+
+scratch-ok-requires : tie.Need-scratch-ok-requires
+scratch-ok-requires c κs = search needs
+
+accept-requires : tie.Need-accept-requires
+accept-requires c κs = search needs
+
+same-length : tie.Need-same-length
+same-length c = search needs
+
+same-length-2 : tie.Need-same-length-2
+same-length-2 c = search needs
+
+same-length-3 : tie.Need-same-length-3
+same-length-3 c = search needs
+
+same-length-4 : tie.Need-same-length-4
+same-length-4 c = search needs
+
+returns : tie.Need-returns
+returns c =
+    let a = c .before .before .before .before .before .before .before .before .before .before .before .before .before .before .args in
+    close-refused (a .header) (a .slots .now) (a .postings .now) (a .held .now) (a .cut .now) (a .«rows-scratch» .now) (a .«atoms-scratch» .now) (a .work) _ (close-first (a .header) (a .slots .now) (a .postings .now) (a .held .now) (a .cut .now) (a .«rows-scratch» .now) (a .«atoms-scratch» .now) (a .work) _ _ (c .before .before .before .before .scratch-ok .ensures) (c .before .accept .ensures) (c .if1 .taken))
+
+is-region-requires : tie.Need-is-region-requires
+is-region-requires c κs = search needs
+
+same-length-5 : tie.Need-same-length-5
+same-length-5 c = search needs
+
+same-length-6 : tie.Need-same-length-6
+same-length-6 c = search needs
+
+same-length-7 : tie.Need-same-length-7
+same-length-7 c = search needs
+
+same-length-8 : tie.Need-same-length-8
+same-length-8 c = search needs
+
+same-length-9 : tie.Need-same-length-9
+same-length-9 c = search needs
+
+same-length-10 : tie.Need-same-length-10
+same-length-10 c = search needs
+
+returns-2 : tie.Need-returns-2
+returns-2 c =
+    let a = c .before .before .before .before .before .before .before .before .before .before .before .before .before .before .before .before .before .before .args in
+    close-refused (a .header) (a .slots .now) (a .postings .now) (a .held .now) (a .cut .now) (a .«rows-scratch» .now) (a .«atoms-scratch» .now) (a .work) 6 (close-sixth (a .header) (a .slots .now) (a .postings .now) (a .held .now) (a .cut .now) (a .«rows-scratch» .now) (a .«atoms-scratch» .now) (a .work) _ _ (c .before .before .before .before .before .before .before .before .scratch-ok .ensures) (c .before .before .before .before .before .accept .ensures) (c .before .before .before .before .if1 .left) (sym (c .before .is-region .ensures) ∙ not-true _ (c .if2 .taken)))
+
+rounds-requires : tie.Need-rounds-requires
+unfolding withFull
+rounds-requires c κs =
+    let a = c .before .before .before .before .before .before .before .before .before .before .before .before .before .before .before .before .before .before .before .before .before .before .before .before .before .before .before .args in
+    let q = sym (c .before .before .before .before .before .before .before .before .before .before .is-region .ensures) ∙ not-false _ (c .before .before .before .before .before .before .before .before .before .if2 .left) in
+    let e = close-passed (a .header) (a .slots .now) (a .postings .now) (a .held .now) (a .cut .now) (a .«rows-scratch» .now) (a .«atoms-scratch» .now) (a .work) _ _ (c .before .before .before .before .before .before .before .before .before .before .before .before .before .before .before .before .before .scratch-ok .ensures) (c .before .before .before .before .before .before .before .before .before .before .before .before .before .before .accept .ensures) (c .before .before .before .before .before .before .before .before .before .before .before .before .before .if1 .left) q in
+    (close-runs (a .header) (a .slots .now) (a .postings .now) (a .held .now) (a .cut .now) (a .«rows-scratch» .now) (a .«atoms-scratch» .now) (a .work) e q, (close-room (a .header) (a .slots .now) (a .postings .now) (a .held .now) (a .cut .now) (a .«rows-scratch» .now) (a .«atoms-scratch» .now) (a .work) e, close-long (a .header) (a .slots .now) (a .postings .now) (a .held .now) (a .cut .now) (a .«rows-scratch» .now) (a .«atoms-scratch» .now) (a .work) e))
+
+fill-zero-requires : tie.Need-fill-zero-requires
+fill-zero-requires c κs = search needs
+
+fill-zero-requires-2 : tie.Need-fill-zero-requires-2
+fill-zero-requires-2 c κs = search needs
+
+answer-of-requires : tie.Need-answer-of-requires
+answer-of-requires c κs = search needs
+
+made-requires : tie.Need-made-requires
+made-requires c κs = search needs
+
+same-length-11 : tie.Need-same-length-11
+same-length-11 c = search needs
+
+same-length-12 : tie.Need-same-length-12
+same-length-12 c = search needs
+
+same-length-13 : tie.Need-same-length-13
+same-length-13 c = search needs
+
+same-length-14 : tie.Need-same-length-14
+same-length-14 c = search needs
+
+same-length-15 : tie.Need-same-length-15
+same-length-15 c = search needs
+
+same-length-16 : tie.Need-same-length-16
+same-length-16 c = search needs
+
+returns-3 : tie.Need-returns-3
+unfolding withFull
+returns-3 c =
+    let a = c .before .before .before .before .before .before .before .before .before .before .before .before .before .before .before .before .before .before .before .before .before .before .before .before .before .before .before .before .before .before .before .before .before .before .before .before .before .before .before .before .before .before .before .before .before .before .before .before .before .before .before .before .args in
+    let g = c .before .before .before .before .before .before .before .before .before .before .before .before .before .before .before .before .before .before .before .before .before .before .before .before .rounds in
+    let q = sym (c .before .before .before .before .before .before .before .before .before .before .before .before .before .before .before .before .before .before .before .before .before .before .before .before .before .before .before .before .before .before .before .before .before .before .before .is-region .ensures) ∙ not-false _ (c .before .before .before .before .before .before .before .before .before .before .before .before .before .before .before .before .before .before .before .before .before .before .before .before .before .before .before .before .before .before .before .before .before .before .if2 .left) in
+    let e = close-passed (a .header) (a .slots .now) (a .postings .now) (a .held .now) (a .cut .now) (a .«rows-scratch» .now) (a .«atoms-scratch» .now) (a .work) _ _ (c .before .before .before .before .before .before .before .before .before .before .before .before .before .before .before .before .before .before .before .before .before .before .before .before .before .before .before .before .before .before .before .before .before .before .before .before .before .before .before .before .before .before .scratch-ok .ensures) (c .before .before .before .before .before .before .before .before .before .before .before .before .before .before .before .before .before .before .before .before .before .before .before .before .before .before .before .before .before .before .before .before .before .before .before .before .before .before .before .accept .ensures) (c .before .before .before .before .before .before .before .before .before .before .before .before .before .before .before .before .before .before .before .before .before .before .before .before .before .before .before .before .before .before .before .before .before .before .before .before .before .before .if1 .left) q in
+    close-done (a .header) (a .slots .now) (a .postings .now) (a .held .now) (a .cut .now) (a .«rows-scratch» .now) (a .«atoms-scratch» .now) (a .work) e (g .result) _ _ _ _ _ _ _ _ (g .ensures .0) (g .ensures .1) (g .kept .1 .1 .1 .1 .1 .0) (g .kept .1 .1 .1 .1 .1 .1 .0) (c .before .before .before .before .before .before .before .before .before .before .fill-zero .ensures) (c .before .before .before .before .before .before .fill-zero2 .ensures) _ _ (c .before .answer-of .ensures) (c .made .ensures)
+
+pub close-spec : {M : Type 1} → statement M
+close-spec =
+    tie.close
+    (tie.spec
+    scratch-ok-requires
+    accept-requires
+    same-length
+    same-length-2
+    same-length-3
+    same-length-4
+    returns
+    is-region-requires
+    same-length-5
+    same-length-6
+    same-length-7
+    same-length-8
+    same-length-9
+    same-length-10
+    returns-2
+    rounds-requires
+    fill-zero-requires
+    fill-zero-requires-2
+    answer-of-requires
+    made-requires
+    same-length-11
+    same-length-12
+    same-length-13
+    same-length-14
+    same-length-15
+    same-length-16
+    returns-3)

@@ -1,0 +1,4 @@
+pub mod Running
+pub mod Noting
+pub mod Rounds
+pub mod Ends

@@ -1,0 +1,52 @@
+-- `store` meets its contract: the slot is that of the row that passed its test. Assumes nothing.
+use borrow.Author.Needs.{needs}
+use Rattle.leaves.proofs.Fitting.{untold, told, offered-proposed, offered-stored}
+use Rattle.leaves.proofs.store.Statement.{statement}
+use Rattle.leaves.proofs.store.Tie as tie
+
+slice-aggregate-propose : tie.Need-slice-aggregate-propose
+slice-aggregate-propose c = search needs
+
+propose-requires : tie.Need-propose-requires
+propose-requires c κs = search needs
+
+returns : tie.Need-returns
+returns c = untold
+
+slice-aggregate-write-row : tie.Need-slice-aggregate-write-row
+slice-aggregate-write-row c = search needs
+
+slice-aggregate-form-of : tie.Need-slice-aggregate-form-of
+slice-aggregate-form-of c = search needs
+
+form-of-requires : tie.Need-form-of-requires
+form-of-requires c κs =
+    let e = c .before .before .before in
+    offered-proposed _ _ (told _ (e .before .before .propose .ensures) (e .if1 .left))
+
+write-row-requires : tie.Need-write-row-requires
+write-row-requires c κs =
+    let e = c .before .before .before .before in
+    (search needs, (offered-proposed _ _ (told _ (e .before .before .propose .ensures) (e .if1 .left)), c .form-of .ensures))
+
+same-length : tie.Need-same-length
+same-length c = search needs
+
+returns-2 : tie.Need-returns-2
+returns-2 c = λ _.
+    let e = c .before .before .before .before .before .before .before in
+    offered-stored _ _ (told _ (e .before .before .propose .ensures) (e .if1 .left)) _ (c .before .before .write-row .ensures)
+
+pub store-spec : {M : Type 1} → statement M
+store-spec =
+    tie.close
+    (tie.spec
+    slice-aggregate-propose
+    propose-requires
+    returns
+    slice-aggregate-write-row
+    slice-aggregate-form-of
+    form-of-requires
+    write-row-requires
+    same-length
+    returns-2)

@@ -1,0 +1,4 @@
+pub mod Deciding
+pub mod Publishing
+pub mod Standing
+pub mod Obeying

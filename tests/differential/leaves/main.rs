@@ -1,0 +1,206 @@
+//! Compares the verified leaf functions with the Rust's, call by call: for random rows and regions, on every meter and
+//! account up to the charge.
+//!
+//!     leaves [ROUNDS [SEED]]
+//!
+//! It ends with 'N calls compared, M differ', and with exit code 0 only if M is 0 and all that must occur did.
+
+mod case;
+mod generate;
+mod library;
+mod random;
+mod rattle;
+mod rust;
+mod shapes;
+mod shrink;
+
+use std::process::ExitCode;
+
+use case::{Case, End, Function, Row};
+use random::Random;
+use shapes::Counts;
+
+/// Up to this charge every account is tried with every meter; above it each alone, and both together.
+const ALL_PAIRS: u64 = 10;
+/// So many differences of a function are shown, at their smallest.
+const SHOWN: u64 = 3;
+
+#[derive(Default)]
+struct Comparison {
+    counts: Counts,
+    differ: u64,
+    shown: [u64; Function::ALL.len()],
+}
+
+fn differs(case: &Case) -> bool {
+    rust::run(case) != rattle::run(case)
+}
+
+impl Comparison {
+    fn compare(&mut self, case: &Case, shapes: u32) -> End {
+        let expected = rust::run(case);
+        self.counts.add(case, shapes, &expected);
+        if expected != rattle::run(case) {
+            self.differ += 1;
+            self.show(case);
+        }
+        expected
+    }
+
+    fn show(&mut self, case: &Case) {
+        let shown = &mut self.shown[case.function as usize];
+        *shown += 1;
+        if *shown > SHOWN {
+            return;
+        }
+        let case = shrink::shrink(case.clone(), differs);
+        println!("differs: {case}");
+        println!("  the Rust: {}", rust::run(&case));
+        println!("  verified: {}", rattle::run(&case));
+    }
+
+    /// A case on every meter and account up to its charge. Gives its end where nothing runs out.
+    fn sweep(&mut self, random: &mut Random, mut case: Case) -> End {
+        let shapes = shapes::of_case(&case);
+        let full = self.compare(&case, shapes);
+        if !case.function.ticks() {
+            return full;
+        }
+        for limit in 0..=full.charge {
+            // What is charged before the call is nothing, little, or nearly all there is.
+            let before = [0, random.word() >> 40, u64::MAX - limit];
+            case.charged = random.pick(&before);
+            case.limit = case.charged + limit;
+            self.compare(&case, shapes);
+        }
+        (case.charged, case.limit) = (random.within(1, 9), 0);
+        self.compare(&case, shapes::of_case(&case));
+        case.charged = 0;
+        if !case.function.pays() {
+            return full;
+        }
+        case.limit = u64::MAX;
+        for account in 0..=full.charge {
+            case.account = account;
+            self.compare(&case, shapes);
+        }
+        for account in 0..=full.charge {
+            let limits = if full.charge <= ALL_PAIRS {
+                0..=full.charge
+            } else {
+                account.saturating_sub(1)..=account + 1
+            };
+            for limit in limits {
+                (case.account, case.limit) = (account, limit);
+                self.compare(&case, shapes);
+            }
+        }
+        full
+    }
+
+    /// All outputs of a row in turn, as a caller publishes them: each may be decided before the next is asked for.
+    fn publish(&mut self, random: &mut Random, mut case: Case) {
+        let decides = random.chance(1, 2);
+        case.cursor = [0; 4];
+        loop {
+            let end = self.sweep(random, case.clone());
+            let case::Answer::Output(code) = end.answer else {
+                return;
+            };
+            case.cursor = [end.words[0], end.words[1], end.words[2], end.words[3]];
+            let (word, bit) = (code as usize / 128, 1 << (code / 2 % 64));
+            if decides && (case.held[word] | case.cut[word]) & bit == 0 {
+                let mask = if code % 2 == 1 {
+                    &mut case.held
+                } else {
+                    &mut case.cut
+                };
+                mask[word] |= bit;
+            }
+        }
+    }
+
+    /// What random rows seldom have: the largest row, the empty one, and unions at the greatest maximum and one over it.
+    fn boundary(&mut self, random: &mut Random) {
+        let largest = [
+            generate::largest(1),
+            generate::largest(2),
+            generate::largest(40),
+        ];
+        for row in largest.iter().chain(&[Row::default()]) {
+            for function in Function::ALL {
+                let mut case = Case::new(function, 32_768);
+                case.row = row.clone();
+                case.other = row.clone();
+                if function.has_region() {
+                    (case.held, case.cut) = (vec![0; 512], vec![0; 512]);
+                }
+                if function == Function::Includes {
+                    case.row.conditions.clear();
+                    case.other.conditions.clear();
+                }
+                if function == Function::UnionOutputs {
+                    case.number = 64;
+                }
+                self.sweep(random, case);
+            }
+        }
+        for over in [false, true] {
+            let mut case = Case::new(Function::UnionOutputs, 32_768);
+            case.row = generate::largest(2);
+            case.other = case.row.clone();
+            case.row.outputs.truncate(40);
+            case.other.outputs.drain(..20);
+            if over {
+                case.other.outputs.push(60_000);
+            }
+            case.number = 64;
+            self.sweep(random, case);
+        }
+    }
+
+    /// Some cases of each function, more where the charge is small, and one that may be unfit.
+    fn round(&mut self, random: &mut Random) {
+        for function in Function::ALL {
+            for _ in 0..if function.pays() { 1 } else { 8 } {
+                let case = generate::case(random, function);
+                self.sweep(random, case);
+            }
+            if function == Function::NextOutput {
+                let case = generate::case(random, function);
+                self.publish(random, case);
+            }
+            let mut damaged = generate::case(random, function);
+            generate::damage(random, &mut damaged);
+            let shapes = shapes::of_case(&damaged);
+            self.compare(&damaged, shapes);
+        }
+    }
+}
+
+fn main() -> ExitCode {
+    let mut numbers = std::env::args()
+        .skip(1)
+        .map(|word| word.parse().expect("a number"));
+    let rounds: u64 = numbers.next().unwrap_or(3000);
+    let mut random = Random(numbers.next().unwrap_or(1));
+    let mut comparison = Comparison::default();
+    comparison.boundary(&mut random);
+    for _ in 0..rounds {
+        comparison.round(&mut random);
+    }
+    let missing = comparison.counts.report();
+    if missing > 0 {
+        println!("{missing} of what must occur did not");
+    }
+    println!(
+        "{} calls compared, {} differ",
+        comparison.counts.calls(),
+        comparison.differ
+    );
+    if comparison.differ == 0 && missing == 0 {
+        ExitCode::SUCCESS
+    } else {
+        ExitCode::FAILURE
+    }
+}

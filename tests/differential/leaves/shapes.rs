@@ -1,0 +1,217 @@
+//! What occurred in the calls, counted; and what must occur.
+
+use crate::case::{Answer, Case, End, Function, Row};
+use crate::rust;
+
+/// How a call ended. Inside: after its first tick.
+fn ending(end: &End) -> &'static str {
+    match end.answer {
+        Answer::Unfit(_) => "Unfit",
+        Answer::Stopped if end.charge > 0 => "Stopped inside",
+        Answer::Stopped => "Stopped",
+        Answer::Declined if end.charge > 0 => "Declined inside",
+        Answer::Declined => "Declined",
+        Answer::No => "No",
+        Answer::Yes => "Yes",
+        Answer::Nothing => "Nothing",
+        Answer::Force => "Force",
+        Answer::Require(_) => "Require",
+        Answer::End => "End",
+        Answer::Output(_) => "Output",
+        Answer::At(_) => "At",
+    }
+}
+
+/// The endings that each function must show.
+fn endings(function: Function) -> &'static [&'static str] {
+    match function {
+        Function::Prepare => &[
+            "Yes",
+            "Declined",
+            "Declined inside",
+            "Stopped",
+            "Stopped inside",
+            "Unfit",
+        ],
+        Function::Includes | Function::Subsumes | Function::SubsumedBy | Function::UnionOutputs => {
+            &[
+                "Yes",
+                "No",
+                "Declined",
+                "Declined inside",
+                "Stopped",
+                "Stopped inside",
+                "Unfit",
+            ]
+        }
+        Function::Deduction => &[
+            "Force",
+            "Require",
+            "Nothing",
+            "Stopped",
+            "Stopped inside",
+            "Unfit",
+        ],
+        Function::NextOutput => &["Output", "End", "Stopped", "Stopped inside", "Unfit"],
+        Function::Decide => &["Yes", "No", "Unfit"],
+        Function::NextFrom => &["At", "Nothing"],
+        Function::Contains => &["Yes", "No"],
+        Function::Insert => &["Yes"],
+    }
+}
+
+/// The shapes of input that must occur, in a fit call.
+const SHAPES: [&str; 17] = [
+    "a scalar row",
+    "a packed row",
+    "both signs of an atom among outputs",
+    "an atom on both sides",
+    "16 conditions",
+    "64 outputs",
+    "no conditions",
+    "no outputs",
+    "atoms below 64 alone",
+    "an atom of 32,000 or more",
+    "a union at the maximum",
+    "a union one over the maximum",
+    "a union that grows the proposal",
+    "a cursor inside a group",
+    "a group passed over, all of it true",
+    "a meter past its limit",
+    "the sharing account",
+];
+
+/// The shapes of a row, in the order of `SHAPES`.
+fn of_row(row: &Row) -> [bool; 10] {
+    let atoms = || {
+        row.conditions
+            .iter()
+            .chain(&row.outputs)
+            .map(|code| code / 2)
+    };
+    let packed = !rust::form(row).groups.is_empty();
+    [
+        !packed,
+        packed,
+        row.outputs
+            .windows(2)
+            .any(|pair| pair[0] / 2 == pair[1] / 2),
+        row.conditions
+            .iter()
+            .any(|left| row.outputs.iter().any(|right| left / 2 == right / 2)),
+        row.conditions.len() == 16,
+        row.outputs.len() == 64,
+        row.conditions.is_empty(),
+        row.outputs.is_empty(),
+        atoms().next().is_some() && atoms().all(|atom| atom < 64),
+        atoms().any(|atom| atom >= 32_000),
+    ]
+}
+
+/// The length of the union of two rows' outputs.
+fn united(row: &Row, other: &Row) -> u64 {
+    let mut outputs = [&row.outputs[..], &other.outputs].concat();
+    outputs.sort_unstable();
+    outputs.dedup();
+    outputs.len() as u64
+}
+
+/// The shapes of a case that has a row, and is fit: a bit for each of `SHAPES`.
+pub fn of_case(case: &Case) -> u32 {
+    if !case.function.ticks() || rust::unfit(case).is_some() {
+        return 0;
+    }
+    let row = of_row(&case.row);
+    let union =
+        case.function == Function::UnionOutputs && case.row.conditions == case.other.conditions;
+    let length = united(&case.row, &case.other);
+    let fits = case.row.outputs.len().max(case.other.outputs.len()) as u64 <= case.number;
+    let next = case.function == Function::NextOutput;
+    let more = [
+        union && fits && length == case.number,
+        union && fits && length == case.number + 1,
+        union && fits && length <= case.number && length > case.other.outputs.len() as u64,
+        next && (case.cursor[2] | case.cursor[3]) != 0,
+        next && passes_over(case),
+        case.limit < case.charged,
+        case.function.pays() && case.sharing,
+    ];
+    let bit = |place: usize, found: bool| u32::from(found) << place;
+    let first = row
+        .iter()
+        .enumerate()
+        .map(|(place, &found)| bit(place, found))
+        .sum::<u32>();
+    first
+        + more
+            .iter()
+            .enumerate()
+            .map(|(place, &found)| bit(row.len() + place, found))
+            .sum::<u32>()
+}
+
+/// Whether the next output lies beyond a group whose outputs are all true.
+fn passes_over(case: &Case) -> bool {
+    let mut paid = case.clone();
+    (paid.charged, paid.limit) = (0, u64::MAX);
+    let after = rust::run(&paid).words[0];
+    after > case.cursor[0] + 1 && !rust::form(&case.row).groups.is_empty()
+}
+
+/// The counts: calls by function, by function and ending, and by shape.
+#[derive(Default)]
+pub struct Counts {
+    calls: [u64; Function::ALL.len()],
+    endings: [[u64; 7]; Function::ALL.len()],
+    shapes: [u64; SHAPES.len()],
+}
+
+impl Counts {
+    pub fn add(&mut self, case: &Case, shapes: u32, end: &End) {
+        let function = case.function as usize;
+        self.calls[function] += 1;
+        let place = endings(case.function)
+            .iter()
+            .position(|&name| name == ending(end));
+        if let Some(place) = place {
+            self.endings[function][place] += 1;
+        }
+        for (place, count) in self.shapes.iter_mut().enumerate() {
+            *count += u64::from(shapes >> place & 1);
+        }
+    }
+
+    pub fn calls(&self) -> u64 {
+        self.calls.iter().sum()
+    }
+
+    /// Writes the counts, and gives the number of things that must occur and did not.
+    pub fn report(&self) -> usize {
+        let mut missing = 0;
+        for function in Function::ALL {
+            let counts = &self.endings[function as usize];
+            let parts: Vec<String> = endings(function)
+                .iter()
+                .zip(counts)
+                .map(|(name, count)| format!("{name} {count}"))
+                .collect();
+            println!(
+                "{:24}{:9}: {}",
+                function.name(),
+                self.calls[function as usize],
+                parts.join(", ")
+            );
+            missing += endings(function)
+                .iter()
+                .zip(counts)
+                .filter(|&(_, &count)| count == 0)
+                .count();
+        }
+        println!("calls with");
+        for (name, count) in SHAPES.iter().zip(&self.shapes) {
+            println!("  {name:40}{count:9}");
+            missing += usize::from(*count == 0);
+        }
+        missing
+    }
+}
