@@ -1,0 +1,99 @@
+-- A row that fits an offer, and the ledger with one attempt more. Assumes nothing.
+use mathlib.Core.Path.{_≡_, refl, sym, ap, _∙_, subst}
+use mathlib.Core.Bool.{Bool, true, false, _&&_}
+use mathlib.Core.List.{List, []}
+use Prim.Native.Nat.{ℕ, suc, _+_, _≤_, _<_}
+use native.Mathlib.Nat.{le-trans}
+use native.Mathlib.Numerals.{add-one}
+use lib.Dec.{leb, ltb}
+use lib.ListN.{length}
+use borrow.Author.Tests.{leb-true, le-leb, ltb-true}
+use Rattle.lists.proofs.Tests.{and-both, and-yes}
+use Rattle.words.specs.Region.{atomsOk}
+use Rattle.model.specs.declared.LearningLimits.{LearningLimits}
+use Rattle.model.specs.declared.Header.{Header}
+use Rattle.model.specs.Records.{Row, header, attempted, isRow, isRowOver, within, limitsOk}
+use Rattle.model.specs.Slots.{rowIn}
+use Rattle.model.specs.Refusals.{Lent, refusal, accepts, entryOk}
+use Rattle.model.proofs.Priority.Steps.{accepted}
+use Rattle.words.proofs.Bools.{T-true}
+use mathlib.Core.Option.{none}
+use Rattle.model.specs.Operations.{fitsOffer}
+use Rattle.contents.specs.Accepted.{Accepted}
+use Rattle.slots.specs.Layout.{proposal}
+use Rattle.slots.proofs.Storing.{row-proposal}
+use Rattle.proposals.specs.Proposed.{Proposed}
+use Rattle.proposals.proofs.Proposing.{proposed-row}
+use Rattle.offer.specs.Ends.{mayCapture}
+
+module _ (l : LearningLimits) (ok : limitsOk l ≡ true) where
+  sizes : (leb (l .«founded_conditions») 16 && leb (l .«founded_outputs») 64) ≡ true
+  unfolding limitsOk
+  sizes =
+      and-both (leb 1 (l .«tier_rows») && leb (l .«tier_rows») 4096) _
+      (and-both (atomsOk (l .atoms)) _ ok .1) .1
+
+  most-conditions : l .«founded_conditions» ≤ 16
+  most-conditions = leb-true (l .«founded_conditions») 16 (and-both (leb (l .«founded_conditions») 16) (leb (l .«founded_outputs») 64) sizes .0)
+
+  pub most-outputs : l .«founded_outputs» ≤ 64
+  most-outputs = leb-true (l .«founded_outputs») 64 (and-both (leb (l .«founded_conditions») 16) (leb (l .«founded_outputs») 64) sizes .1)
+
+  module _ (t : Row) (fit : fitsOffer l t ≡ true) where
+    parts : (within (l .«founded_conditions») (l .«founded_outputs») t ≡ true) × (isRowOver (l .atoms) t ≡ true)
+    unfolding fitsOffer
+    parts = and-both (within (l .«founded_conditions») (l .«founded_outputs») t) (isRowOver (l .atoms) t) fit
+
+    lengths : (leb (length (t .conditions)) (l .«founded_conditions») ≡ true) × (leb (length (t .outputs)) (l .«founded_outputs») ≡ true)
+    unfolding within
+    lengths = and-both (leb (length (t .conditions)) (l .«founded_conditions»)) (leb (length (t .outputs)) (l .«founded_outputs»)) (parts .0)
+
+    pub fit-conditions : length (t .conditions) ≤ 16
+    fit-conditions = le-trans (leb-true (length (t .conditions)) (l .«founded_conditions») (lengths .0)) most-conditions
+
+    pub fit-outputs : length (t .outputs) ≤ 64
+    fit-outputs = le-trans (leb-true (length (t .outputs)) (l .«founded_outputs») (lengths .1)) most-outputs
+
+    pub fit-row : isRow (l .atoms) t ≡ true
+    unfolding isRow within
+    fit-row =
+        and-yes (leb (length (t .conditions)) 16 && leb (length (t .outputs)) 64) (isRowOver (l .atoms) t)
+        (and-yes (leb (length (t .conditions)) 16) (leb (length (t .outputs)) 64) (le-leb (length (t .conditions)) 16 fit-conditions) (le-leb (length (t .outputs)) 64 fit-outputs)) (parts .1)
+
+    pub fit-proposed : (p : List ℕ) → p ≡ proposal t → Proposed p
+    fit-proposed p e = subst Proposed (sym e) (proposed-row t fit-conditions fit-outputs)
+
+    pub fit-proposal : (p : List ℕ) → p ≡ proposal t → isRow (l .atoms) (rowIn p) ≡ true
+    fit-proposal p e = subst (λ (x : Row). isRow (l .atoms) x ≡ true) (sym (ap rowIn e ∙ row-proposal t)) fit-row
+
+-- ---- one attempt more
+abbrev pub tried : Header → ℕ → Header
+tried h n =
+    header (h .limits) (h .number) (h .rows) (h .born) (h .epoch) n (h .remaining) (h .sharing) (h .evicted) (h .deliveries) (h .seeded) (h .stale) (h .full) (h .mark)
+
+pub tried-is : (h : Header) → tried h (h .attempts + 1) ≡ attempted h
+unfolding attempted
+tried-is h = ap (tried h) (add-one (h .attempts))
+
+pub tried-accepted : (h : Header) (n : ℕ) (slots postings : List ℕ) → Accepted h slots postings → Accepted (tried h n) slots postings
+unfolding entryOk
+tried-accepted h n slots postings a = record {
+  one = a .one;
+  atoms = a .atoms;
+  some = a .some;
+  most = a .most;
+  few = a .few;
+  long = a .long;
+  wide = a .wide;
+  entries = a .entries;
+  stored = a .stored;
+  laying = a .laying;
+  filing = a .filing;
+}
+
+pub may-attempts : (h : Header) → mayCapture h ≡ true → h .attempts < h .limits .«founded_attempts»
+unfolding mayCapture
+may-attempts h e = ltb-true (h .attempts) (h .limits .«founded_attempts») (and-both (ltb (h .attempts) (h .limits .«founded_attempts»)) _ e .0)
+
+pub limits-passed : (s : Lent) (o : Bool) → refusal (accepts s o []) ≡ none → limitsOk (s .header .limits) ≡ true
+limits-passed s o e = T-true (limitsOk (s .header .limits)) (accepted s o [] e .0 .limits)

@@ -1,0 +1,42 @@
+-- 01, Offer: its end, from what the code gives back and leaves in the lent slices. What was taken and whether it evicted is the definition's
+-- to say: the code has no field for it. Assumes nothing.
+use mathlib.Core.Bool.{Bool, _&&_, _||_}
+use mathlib.Core.List.{List}
+use Prim.Native.Nat.{ℕ}
+use lib.Dec.{ltb}
+use Rattle.meter.specs.declared.Meter.{Meter}
+use Rattle.meter.specs.Meter.{made}
+use Rattle.model.specs.declared.Header.{Header}
+use Rattle.model.specs.declared.OfferAnswer.{OfferAnswer}
+use Rattle.model.specs.declared.OfferAnswer.the-variants as offer-answer
+use Rattle.model.specs.declared.OfferResult.{OfferResult}
+use Rattle.model.specs.Records.{withAccount}
+use Rattle.model.specs.Operations.{OfferEnd}
+use Rattle.contents.specs.Lent.{lent}
+use Rattle.retention.specs.declared.Retention.{Retention}
+use Rattle.retention.specs.declared.Retention.the-variants.{Stopped, Declined, Subsumed, Added}
+use Rattle.retention.specs.declared.Retained.{Retained}
+
+abbrev pub offerEnd : OfferResult → List ℕ → List ℕ → OfferEnd → OfferEnd
+offerEnd r slots postings e = record
+    { answer = r .answer; ledger = lent (r .header) slots postings; meter = r .meter; ticks = r .ticks; took = e .took; evicts = e .evicts }
+
+abbrev pub unofferedBy : OfferAnswer → Header → Meter → OfferResult
+unofferedBy a h m = record { answer = a; header = h; meter = m; ticks = 0 }
+
+-- `can_capture`, of a header whose count of rows is right
+unfoldable pub mayCapture : Header → Bool
+mayCapture h =
+    ltb (h .attempts) (h .limits .«founded_attempts»)
+    && (ltb 0 (h .remaining .0)
+    && (ltb (h .rows) (h .limits .«tier_rows») || ltb (h .limits .«founded_floor») (h .rows)))
+
+abbrev pub answerOf : Retention → OfferAnswer
+answerOf Stopped = offer-answer.Stopped
+answerOf Declined = offer-answer.Declined
+answerOf (Subsumed p) = offer-answer.Subsumed p
+answerOf (Added p) = offer-answer.Added p
+
+abbrev pub capturedBy : Retained → Meter → OfferResult
+capturedBy k m = record
+    { answer = answerOf (k .answer); header = withAccount (k .header) (k .account); meter = k .meter; ticks = made m (k .meter) }

@@ -1,0 +1,174 @@
+// Offer: a row given to a ledger, paid from its capture account. It asks nothing of its caller.
+ghost use mathlib.Core.Path.{_≡_};
+ghost use mathlib.Core.Bool.{true};
+ghost use Prim.Native.Nat.{_<_, _≤_};
+ghost use Rattle.model.specs.Records.{maxOutputs, isRow, limitsOk};
+ghost use Rattle.model.specs.Slots.{rowIn};
+ghost use Rattle.proposals.specs.Proposed.{Proposed};
+ghost use Rattle.model.specs.Operations.{offer, capture, fitsOffer};
+ghost use Rattle.model.specs.Refusals.{ledgerIn};
+ghost use Rattle.contents.specs.Lent.{lent};
+ghost use Rattle.contents.specs.Accepted.{Accepted};
+ghost use Rattle.proposals.specs.Offered.{rowOf};
+ghost use Rattle.offer.specs.Ends.{offerEnd, unofferedBy, answerOf, capturedBy, mayCapture};
+use contents::accept;
+use keeping::put_account;
+use meter::Account;
+use meter::Meter;
+use model::Header;
+use model::OfferAnswer;
+use model::OfferResult;
+use proposals::is_row;
+use proposals::propose;
+use retention::Retained;
+use retention::Retention;
+use retention::retain;
+
+// The result of an offer that changes nothing and costs nothing.
+fn unoffered(answer: OfferAnswer, header: Header, work: Meter) -> OfferResult
+    ensures { λ r. ⌜ r ≡ unofferedBy answer header work ⌝ }
+{
+    OfferResult {
+        answer,
+        header,
+        meter: work,
+        ticks: 0,
+    }
+}
+
+// Whether a ledger takes offers: it has attempts and reads left, and room or more rows than the floor protects.
+fn can_capture(header: Header) -> bool
+    ensures { λ r. ⌜ r ≡ mayCapture header ⌝ }
+{
+    let limits = header.limits;
+    if limits.founded_attempts <= header.attempts {
+        return false;
+    }
+    if header.remaining.0 == 0 {
+        return false;
+    }
+    if header.rows < limits.tier_rows {
+        return true;
+    }
+    limits.founded_floor < header.rows
+}
+
+// The answer of an offer whose retention is over.
+fn answer_of(kept: Retention) -> OfferAnswer
+    ensures { λ r. ⌜ r ≡ answerOf kept ⌝ }
+{
+    match kept {
+        Retention::Stopped => OfferAnswer::Stopped,
+        Retention::Declined => OfferAnswer::Declined,
+        Retention::Subsumed(p) => OfferAnswer::Subsumed(p),
+        Retention::Added(p) => OfferAnswer::Added(p),
+    }
+}
+
+// The result of an offer whose retention is over: the account goes back to its place.
+fn captured(kept: Retained, work: Meter) -> OfferResult
+    ensures { λ r. ⌜ r ≡ capturedBy kept work ⌝ }
+{
+    let answer = kept.answer;
+    let account = kept.account;
+    let before = kept.header;
+    let meter = kept.meter;
+    let ticks = meter.made(work);
+    let header = put_account(before, account);
+    let answer = answer_of(answer);
+    OfferResult {
+        answer,
+        header,
+        meter,
+        ticks,
+    }
+}
+
+// One attempt more, and the proposal p retained with at most founded_outputs outputs: Stopped, Declined, Subsumed or Added. p is scratch
+// afterwards.
+fn capture_row(
+    header: Header,
+    slots: &mut [u64],
+    postings: &mut [u64],
+    p: &mut [u64],
+    work: Meter,
+) -> OfferResult
+    requires { ⌜ Accepted header (now slots) (now postings) ⌝ ∗ ⌜ Proposed (now p) ⌝ ∗ ⌜ isRow (header .limits .atoms) (rowIn (now p)) ≡ true ⌝
+        ∗ ⌜ header .attempts < header .limits .«founded_attempts» ⌝ ∗ ⌜ header .limits .«founded_outputs» ≤ maxOutputs ⌝ }
+    ensures { λ r. ⌜ offerEnd r (now (slots .exit)) (now (postings .exit))
+        (capture (ledgerIn (lent header (now (slots .entry)) (now (postings .entry)))) (rowIn (now (p .entry))) work)
+        ≡ capture (ledgerIn (lent header (now (slots .entry)) (now (postings .entry)))) (rowIn (now (p .entry))) work ⌝ }
+{
+    let limits = header.limits;
+    let remaining = header.remaining;
+    let account = Account::Remaining(remaining);
+    let attempted = Header {
+        attempts: header.attempts + 1,
+        ..header
+    };
+    let kept = retain(
+        attempted,
+        slots,
+        postings,
+        p,
+        limits.founded_outputs,
+        0,
+        account,
+        work,
+    );
+    captured(kept, work)
+}
+
+// The same of a row given as two lists.
+fn capture(
+    header: Header,
+    slots: &mut [u64],
+    postings: &mut [u64],
+    conditions: &[u64],
+    outputs: &[u64],
+    work: Meter,
+) -> OfferResult
+    requires { ⌜ Accepted header (now slots) (now postings) ⌝ ∗ ⌜ header .attempts < header .limits .«founded_attempts» ⌝
+        ∗ ⌜ limitsOk (header .limits) ≡ true ⌝ ∗ ⌜ fitsOffer (header .limits) (rowOf (now conditions) (now outputs)) ≡ true ⌝ }
+    ensures { λ r. ⌜ offerEnd r (now (slots .exit)) (now (postings .exit))
+        (capture (ledgerIn (lent header (now (slots .entry)) (now (postings .entry)))) (rowOf (now (conditions .entry)) (now (outputs .entry))) work)
+        ≡ capture (ledgerIn (lent header (now (slots .entry)) (now (postings .entry)))) (rowOf (now (conditions .entry)) (now (outputs .entry))) work ⌝ }
+{
+    let mut p = [0u64; 168];
+    propose(conditions, outputs, &mut p);
+    capture_row(header, slots, postings, &mut p, work)
+}
+
+// Offers a row to a ledger: refused by 1, 2, 3, or by 4 if the lists are no row over its atoms within its limits; Shut if it takes no
+// offers; Stopped or Declined where a read is not paid; Subsumed, and the position of the row that says as much; or Added, and its own.
+pub fn offer(
+    header: Header,
+    slots: &mut [u64],
+    postings: &mut [u64],
+    conditions: &[u64],
+    outputs: &[u64],
+    work: Meter,
+) -> OfferResult
+    ensures { λ r. ⌜ offerEnd r (now (slots .exit)) (now (postings .exit))
+        (offer (lent header (now (slots .entry)) (now (postings .entry))) (now (conditions .entry)) (now (outputs .entry)) work)
+        ≡ offer (lent header (now (slots .entry)) (now (postings .entry))) (now (conditions .entry)) (now (outputs .entry)) work ⌝ }
+{
+    let n = accept(header, slots, postings, true);
+    if n != 0 {
+        return unoffered(OfferAnswer::Refused(n), header, work);
+    }
+    let limits = header.limits;
+    if !is_row(
+        limits.atoms,
+        limits.founded_conditions,
+        limits.founded_outputs,
+        conditions,
+        outputs,
+    ) {
+        return unoffered(OfferAnswer::Refused(4), header, work);
+    }
+    if !can_capture(header) {
+        return unoffered(OfferAnswer::Shut, header, work);
+    }
+    capture(header, slots, postings, conditions, outputs, work)
+}
