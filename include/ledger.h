@@ -8,8 +8,10 @@
  *
  * The result is 0, or the number of a refusal. A refused call writes nothing. The refusals:
  *   1  limits outside their ranges: atoms 1 to 32,768, tier_rows 1 to 4,096, founded_conditions 0 to 16, founded_outputs 0 to 64
- *   2  a slice of another length: slots 168 * tier_rows words, postings 80 * tier_rows words
+ *   2  a slice of another length: slots 168 * tier_rows words, postings 80 * tier_rows words, and the buffers that a call asks for
  *   3  header, slots and postings that are no ledger's
+ *   4  conditions and outputs that are no row: more than founded_conditions or founded_outputs of them, a code at 2 * atoms or above, outputs that
+ *      do not ascend, or conditions whose atoms do not ascend
  *   5  no row at the position
  *   6  held and cut are no region: each is (atoms + 63) / 64 words, with no common bit and no bit at `atoms` or above
  *   8  a cursor that is not of this row
@@ -71,6 +73,8 @@ enum { LEDGER_SLOT_WORDS = 168, LEDGER_POSTING_WORDS = 80 };
 /* ---- The cases. A literal's code is 2 * atom, plus 1 for held. */
 enum { LEDGER_DONE = 0, LEDGER_STOPPED = 2 };                                /* Stopped is 2 everywhere: the meter was at its limit */
 enum { LEDGER_NOTHING = 0, LEDGER_FORCE = 1, LEDGER_REQUIRE = 3 };           /* deduce */
+enum { LEDGER_SHUT = 1, LEDGER_DECLINED = 3, LEDGER_SUBSUMED = 4, LEDGER_ADDED = 5 }; /* offer */
+enum { LEDGER_CLOSED = 0, LEDGER_CONFLICT = 1 };                             /* close */
 enum { LEDGER_END = 0, LEDGER_OUTPUT = 1 };                                  /* next output */
 enum { LEDGER_FALSE = 0, LEDGER_TRUE = 1 };                                  /* decide */
 
@@ -126,6 +130,40 @@ uint64_t ledger_next_output(const uint64_t head[25], uint64_t answer[3], uint64_
  */
 uint64_t ledger_decide(uint64_t answer[3], uint64_t atoms, uint64_t *held, size_t held_len, uint64_t *cut, size_t cut_len,
                        uint64_t atom, uint64_t value);
+
+/*
+ * Offer. Lent: a ledger, a meter, a row as its conditions and its outputs, ascending codes.
+ * Back: `answer` is 1 Shut, the ledger takes no offers; 2 Stopped; 3 Declined, the reads left do not pay for it; 4 Subsumed, with the position of
+ * the row that says as much as its value; 5 Added, with the row's own position as its value. `head`, `slots` and `postings` are the ledger after
+ * it, `meter` has the ticks charged.
+ * Refused: 1, 2, 3, 4.
+ */
+uint64_t ledger_offer(uint64_t head[25], uint64_t answer[3], uint64_t meter[2],
+                      uint64_t *slots, size_t slots_len, uint64_t *postings, size_t postings_len,
+                      const uint64_t *conditions, size_t conditions_len, const uint64_t *outputs, size_t outputs_len);
+
+/*
+ * Candidates. Lent: a ledger, a meter, the atoms that were decided, and `found`, tier_rows words.
+ * Back: `found` has the positions of the rows to be looked at, ascending, then zeros; `answer` is 0, with their count as its value; or 2 Stopped,
+ * and every word of `found` is 0. All rows, if full is 1 or there are at most 64; full is 0 then. `head` and `postings` are the ledger after it,
+ * `meter` has the ticks charged.
+ * Refused: 1, 2, 3.
+ */
+uint64_t ledger_candidates(uint64_t head[25], uint64_t answer[3], uint64_t meter[2],
+                           const uint64_t *slots, size_t slots_len, uint64_t *postings, size_t postings_len,
+                           const uint64_t *atoms, size_t atoms_len, uint64_t *found, size_t found_len);
+
+/*
+ * Close. Lent: a ledger, a meter, a region, and two buffers to work in: `rows`, tier_rows words, and `atoms`, as many words as there are atoms.
+ * Back: `held` and `cut` with all that the rows force or require. `answer` is 0 Closed; 1 Conflict, a row decides against the region; 2 Stopped.
+ * Conflict and Stopped keep what was decided so far. Every word of `rows` and `atoms` is 0; what they held before does not matter. `head`, `slots`
+ * (hits) and `postings` are the ledger after it, `meter` has the ticks charged.
+ * Refused: 1, 2, 3, 6.
+ */
+uint64_t ledger_close(uint64_t head[25], uint64_t answer[3], uint64_t meter[2],
+                      uint64_t *slots, size_t slots_len, uint64_t *postings, size_t postings_len,
+                      uint64_t *held, size_t held_len, uint64_t *cut, size_t cut_len,
+                      uint64_t *rows, size_t rows_len, uint64_t *atoms, size_t atoms_len);
 
 #ifdef __cplusplus
 }

@@ -1,4 +1,5 @@
-/* A ledger over 128 points with room for two rows: made, asked for a hit where there is no row, and a point decided. */
+/* A ledger over 128 points with room for two rows: made, asked for a hit where there is no row, a point decided, two rules
+ * offered, and the plan closed under them. */
 #include "ledger.h"
 #include <inttypes.h>
 #include <stdio.h>
@@ -32,5 +33,25 @@ int main(void)
     printf("hold 3: refused by %" PRIu64 ", %" PRIu64 ", held %" PRIx64 "\n", refused, answer[LEDGER_CASE], held[0]);
     refused = ledger_decide(answer, POINTS, held, REGION_WORDS, cut, REGION_WORDS, 3, 0);
     printf("cut 3: refused by %" PRIu64 ", %" PRIu64 ", cut %" PRIx64 "\n", refused, answer[LEDGER_CASE], cut[0]);
+
+    /* While point 3 is held, point 70 is cut (7 -> 140); then also point 71 (7 -> 142). The two are joined in one row. */
+    const uint64_t conditions[] = {7}, first[] = {140}, second[] = {142};
+    uint64_t meter[LEDGER_METER_WORDS] = {0, 1000};
+    refused = ledger_offer(head, answer, meter, slots, ROWS * LEDGER_SLOT_WORDS, postings, ROWS * LEDGER_POSTING_WORDS, conditions, 1, first, 1);
+    printf("offer 7 -> 140: refused by %" PRIu64 ", %" PRIu64 " at %" PRIu64 ", %" PRIu64 " rows\n", refused, answer[LEDGER_CASE], answer[LEDGER_VALUE], head[LEDGER_ROWS]);
+    refused = ledger_offer(head, answer, meter, slots, ROWS * LEDGER_SLOT_WORDS, postings, ROWS * LEDGER_POSTING_WORDS, conditions, 1, second, 1);
+    printf("offer 7 -> 142: refused by %" PRIu64 ", %" PRIu64 " at %" PRIu64 ", %" PRIu64 " rows\n", refused, answer[LEDGER_CASE], answer[LEDGER_VALUE], head[LEDGER_ROWS]);
+
+    /* The plan with point 3 held, closed under the row. */
+    uint64_t row_scratch[ROWS], point_scratch[POINTS];
+    refused = ledger_close(head, answer, meter, slots, ROWS * LEDGER_SLOT_WORDS, postings, ROWS * LEDGER_POSTING_WORDS, held, REGION_WORDS, cut, REGION_WORDS,
+                           row_scratch, ROWS, point_scratch, POINTS);
+    printf("close: refused by %" PRIu64 ", %" PRIu64 "\n", refused, answer[LEDGER_CASE]);
+    for (uint64_t point = 0; point < POINTS; point++) {
+        if ((held[point / 64] >> point % 64 & 1) != 0)
+            printf("point %" PRIu64 " held\n", point);
+        if ((cut[point / 64] >> point % 64 & 1) != 0)
+            printf("point %" PRIu64 " cut\n", point);
+    }
     return 0;
 }

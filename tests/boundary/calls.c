@@ -10,7 +10,7 @@ enum { ROWS = 2, SLOTS = ROWS * LEDGER_SLOT_WORDS, POSTINGS = ROWS * LEDGER_POST
 /* All that is ever lent, with a word between that no call may touch. */
 struct lent {
     uint64_t limits[LEDGER_LIMIT_WORDS], a, head[LEDGER_HEAD_WORDS], b, answer[LEDGER_ANSWER_WORDS], c, meter[LEDGER_METER_WORDS], d;
-    uint64_t cursor[LEDGER_CURSOR_WORDS], e, slots[SLOTS], f, postings[POSTINGS], g, held[2], h, cut[2], i;
+    uint64_t cursor[LEDGER_CURSOR_WORDS], e, slots[SLOTS], f, postings[POSTINGS], g, held[2], h, cut[2], i, found[ROWS], j, atoms[128], k;
 };
 
 static int calls, wrong;
@@ -45,6 +45,19 @@ static uint64_t output(struct lent *l, uint64_t p)
 static uint64_t decide(struct lent *l, uint64_t atom, uint64_t value)
 {
     return ledger_decide(l->answer, 128, l->held, 2, l->cut, 2, atom, value);
+}
+
+static uint64_t offer(struct lent *l, uint64_t condition, uint64_t output)
+{
+    return ledger_offer(l->head, l->answer, l->meter, l->slots, SLOTS, l->postings, POSTINGS, &condition, 1, &output, 1);
+}
+static uint64_t candidates(struct lent *l, size_t found)
+{
+    return ledger_candidates(l->head, l->answer, l->meter, l->slots, SLOTS, l->postings, POSTINGS, l->atoms, 1, l->found, found);
+}
+static uint64_t close(struct lent *l, size_t atoms)
+{
+    return ledger_close(l->head, l->answer, l->meter, l->slots, SLOTS, l->postings, POSTINGS, l->held, 2, l->cut, 2, l->found, ROWS, l->atoms, atoms);
 }
 
 static void answer(struct lent *l, uint64_t number, uint64_t value, uint64_t ticks)
@@ -213,6 +226,73 @@ static void decisions(void)
     same("no atoms", 6, ledger_decide(l.answer, 0, l.held, 0, l.cut, 0, 0, 1), &l, &k);
 }
 
+/* An offer that was answered: one attempt more, and its ticks are paid from the reads left. */
+static void offered(struct lent *l, uint64_t number, uint64_t ticks)
+{
+    answer(l, number, 0, ticks);
+    l->head[LEDGER_ATTEMPTS] += 1;
+    l->head[LEDGER_REMAINING] -= ticks;
+}
+
+static void offers(void)
+{
+    struct lent l = two_rows(), k;
+    make(&l, SLOTS, POSTINGS);
+    k = l;
+    const uint64_t one[] = {1, 1, 0, 0, 0, 0, 1, 0, 7, 140}, joined[] = {1, 2, 0, 0, 0, 0, 2, 0, 7, 140, 142};
+    offered(&k, LEDGER_ADDED, 2);
+    k.head[LEDGER_ROWS] = k.head[LEDGER_BORN] = k.head[LEDGER_EPOCH] = 1;
+    memcpy(k.slots, one, sizeof one);
+    same("offer", 0, offer(&l, 7, 140), &l, &k);
+    offered(&k, LEDGER_SUBSUMED, 3);
+    same("offer again", 0, offer(&l, 7, 140), &l, &k);
+    offered(&k, LEDGER_ADDED, 14);
+    k.head[LEDGER_BORN] = 2;
+    k.head[LEDGER_EPOCH] = 0;
+    memcpy(k.slots, joined, sizeof joined);
+    same("offer, joined", 0, offer(&l, 7, 142), &l, &k);
+    same("offer, no row", 4, offer(&l, 256, 140), &l, &k);
+    same("offer, no output over the atoms", 4, offer(&l, 7, 256), &l, &k);
+    l.head[LEDGER_ATTEMPTS] = k.head[LEDGER_ATTEMPTS] = 256;
+    answer(&k, LEDGER_SHUT, 0, 0);
+    same("offer, shut", 0, offer(&l, 9, 140), &l, &k);
+    l.head[LEDGER_ATTEMPTS] = k.head[LEDGER_ATTEMPTS] = 257;
+    same("offer, attempts", 3, offer(&l, 9, 140), &l, &k);
+}
+
+static void searches(void)
+{
+    struct lent l = two_rows(), k = l;
+    same("candidates, found short", 2, candidates(&l, ROWS - 1), &l, &k);
+    answer(&k, LEDGER_DONE, 2, 0);
+    k.head[LEDGER_FULL] = 0;
+    k.found[0] = 0;
+    k.found[1] = 1;
+    same("candidates", 0, candidates(&l, ROWS), &l, &k);
+}
+
+static void closings(void)
+{
+    struct lent l = two_rows(), k;
+    l.held[0] = 8;
+    k = l;
+    same("close, atoms short", 2, close(&l, 127), &l, &k);
+    l.cut[0] = k.cut[0] = 8;
+    same("close, no region", 6, close(&l, 128), &l, &k);
+    l.cut[0] = k.cut[0] = 0;
+    l.meter[LEDGER_CHARGED] = k.meter[LEDGER_CHARGED] = 2000;
+    answer(&k, LEDGER_STOPPED, 0, 0);
+    k.head[LEDGER_FULL] = 0;
+    memset(k.found, 0, sizeof k.found);
+    memset(k.atoms, 0, sizeof k.atoms);
+    same("close, stopped", 0, close(&l, 128), &l, &k);
+    l.meter[LEDGER_CHARGED] = k.meter[LEDGER_CHARGED] = 1000;
+    answer(&k, LEDGER_CLOSED, 0, 10); /* two rounds: 2 to deduce each row, 1 for the output of the first */
+    k.cut[1] = 1 << 6;
+    k.slots[4] = k.slots[5] = 2;
+    same("close", 0, close(&l, 128), &l, &k);
+}
+
 int main(void)
 {
     made();
@@ -221,6 +301,9 @@ int main(void)
     deductions();
     outputs();
     decisions();
+    offers();
+    searches();
+    closings();
     printf("%d calls, %d wrong\n", calls, wrong);
     return wrong != 0;
 }

@@ -23,10 +23,10 @@ use Rattle.boundary.proofs.Leaving.{refused-way, done-way}
 use Rattle.boundary.proofs.Keeping.{makeLends, hitLends, decideLends, make-keeps, hit-keeps, decide-keeps}
 
 module _ (w t : Reply) (told : w ≡ t) where
-  number : w .refusal ≡ t .refusal
+  pub number : w .refusal ≡ t .refusal
   number = ap (λ (x : Reply). x .refusal) told
 
-  answered : (y : List ℕ) (ticks : ℕ) → y ≡ answerWords w ticks → y ≡ answerWords t ticks
+  pub answered : (y : List ℕ) (ticks : ℕ) → y ≡ answerWords w ticks → y ≡ answerWords t ticks
   answered y ticks e = e ∙ ap (λ (x : Reply). answerWords x ticks) told
 
 module _ (limits : List ℕ) (n : ℕ) (head answer slots postings : List ℕ) (l : LearningLimits) (read : l ≡ limitsIn limits) (r : MakeResult) (s p : List ℕ)

@@ -1,3 +1,5 @@
 pub mod Leaving
 pub mod Keeping
 pub mod Calling
+pub mod LearningKeeps
+pub mod LearningCalls

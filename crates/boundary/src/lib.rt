@@ -3,13 +3,19 @@
 ghost use mathlib.Core.Path.{_≡_};
 ghost use mathlib.Core.List.{[], _∷_};
 ghost use Rattle.boundary.specs.Calls.{left, makeCall, beginCall, hitCall, deduceCall, outputCall, decideCall};
+ghost use Rattle.boundary.specs.Learning.{offerCall, candidatesCall, closeCall};
+use closing::close;
+use offer::offer;
 use operations::begin;
 use operations::decide;
 use operations::deduce;
 use operations::hit;
 use operations::make;
 use operations::next_output;
+use search::candidates;
 use wire::begin_reply;
+use wire::candidates_reply;
+use wire::close_reply;
 use wire::cursor_of;
 use wire::decide_reply;
 use wire::deduce_reply;
@@ -19,6 +25,7 @@ use wire::limits_of;
 use wire::make_reply;
 use wire::meter_of;
 use wire::next_reply;
+use wire::offer_reply;
 use wire::put_answer;
 use wire::put_cursor;
 use wire::put_header;
@@ -190,5 +197,114 @@ pub extern "C" fn ledger_decide(
         return reply.refusal;
     }
     put_answer(reply, decided.ticks, answer);
+    0
+}
+
+// Offer: a row given to the ledger; refused by 1, 2, 3 or 4.
+#[no_mangle]
+pub extern "C" fn ledger_offer(
+    head: &mut [u64; 25],
+    answer: &mut [u64; 3],
+    meter: &mut [u64; 2],
+    slots: &mut [u64],
+    postings: &mut [u64],
+    conditions: &[u64],
+    outputs: &[u64],
+) -> u64
+    ensures { λ r. ⌜ left r (now (head .exit) ∷ now (answer .exit) ∷ now (meter .exit) ∷ now (slots .exit) ∷ now (postings .exit) ∷ [])
+        ≡ offerCall (now (head .entry)) (now (answer .entry)) (now (meter .entry)) (now (slots .entry)) (now (postings .entry)) (now (conditions .entry)) (now (outputs .entry)) ⌝ }
+{
+    let done = offer(
+        header_of(head),
+        slots,
+        postings,
+        conditions,
+        outputs,
+        meter_of(meter),
+    );
+    let a = done.answer;
+    let reply = offer_reply(a);
+    if reply.refusal != 0 {
+        return reply.refusal;
+    }
+    let header = done.header;
+    let work = done.meter;
+    put_header(header, head);
+    put_answer(reply, done.ticks, answer);
+    put_meter(work, meter);
+    0
+}
+
+// Candidates: the rows to be looked at after atoms were decided, in `found`; refused by 1, 2 or 3.
+#[no_mangle]
+pub extern "C" fn ledger_candidates(
+    head: &mut [u64; 25],
+    answer: &mut [u64; 3],
+    meter: &mut [u64; 2],
+    slots: &[u64],
+    postings: &mut [u64],
+    atoms: &[u64],
+    found: &mut [u64],
+) -> u64
+    ensures { λ r. ⌜ left r (now (head .exit) ∷ now (answer .exit) ∷ now (meter .exit) ∷ now (postings .exit) ∷ now (found .exit) ∷ [])
+        ≡ candidatesCall (now (head .entry)) (now (answer .entry)) (now (meter .entry)) (now (slots .entry)) (now (postings .entry)) (now (atoms .entry)) (now (found .entry)) ⌝ }
+{
+    let done = candidates(
+        header_of(head),
+        slots,
+        postings,
+        atoms,
+        found,
+        meter_of(meter),
+    );
+    let a = done.answer;
+    let reply = candidates_reply(a);
+    if reply.refusal != 0 {
+        return reply.refusal;
+    }
+    let header = done.header;
+    let work = done.meter;
+    put_header(header, head);
+    put_answer(reply, done.ticks, answer);
+    put_meter(work, meter);
+    0
+}
+
+// Close: a region closed under the rows; both scratches end as zeros; refused by 1, 2, 3 or 6.
+#[no_mangle]
+pub extern "C" fn ledger_close(
+    head: &mut [u64; 25],
+    answer: &mut [u64; 3],
+    meter: &mut [u64; 2],
+    slots: &mut [u64],
+    postings: &mut [u64],
+    held: &mut [u64],
+    cut: &mut [u64],
+    rows: &mut [u64],
+    atoms: &mut [u64],
+) -> u64
+    ensures { λ r. ⌜ left r (now (head .exit) ∷ now (answer .exit) ∷ now (meter .exit) ∷ now (slots .exit) ∷ now (postings .exit) ∷ now (held .exit) ∷ now (cut .exit) ∷ now (rows .exit) ∷ now (atoms .exit) ∷ [])
+        ≡ closeCall (now (head .entry)) (now (answer .entry)) (now (meter .entry)) (now (slots .entry)) (now (postings .entry)) (now (held .entry)) (now (cut .entry)) (now (rows .entry)) (now (atoms .entry)) ⌝ }
+{
+    let done = close(
+        header_of(head),
+        slots,
+        postings,
+        held,
+        cut,
+        rows,
+        atoms,
+        meter_of(meter),
+    );
+    let a = done.answer;
+    let reply = close_reply(a);
+    if reply.refusal != 0 {
+        return reply.refusal;
+    }
+    let header = done.header;
+    let work = done.meter;
+    put_header(header, head);
+    put_answer(reply, done.ticks, answer);
+    put_meter(work, meter);
     0
 }

@@ -39,3 +39,5 @@ pub use operations::hit;
 pub use operations::make;
 pub use operations::next_output;
 pub use search::candidates;
+pub use transfers::deliver;
+pub use transfers::seed;

@@ -1,0 +1,67 @@
+-- The invariant of `run`: the output buffer stays as long as it was. Assumes nothing.
+use mathlib.Core.Path.{_≡_}
+use lib.ListN.{length}
+use borrow.Author.Needs.{needs}
+use Rattle.damaged.proofs.run.Statement.{statement}
+use Rattle.damaged.proofs.run.Tie as tie
+
+abbrev Inv-loop : tie.InvT-loop
+Inv-loop s out₀ at₀ turns₀ out at turns = length out ≡ length out₀
+
+abbrev μ-loop : tie.MeasureT-loop
+μ-loop s out₀ at₀ turns₀ out at turns = turns
+
+loop-holds : tie.Need-loop-holds Inv-loop μ-loop
+loop-holds c = search needs
+
+slice-aggregate-read-words : tie.Need-slice-aggregate-read-words Inv-loop μ-loop
+slice-aggregate-read-words c = search needs
+
+read-words-requires : tie.Need-read-words-requires Inv-loop μ-loop
+read-words-requires c κs = search needs
+
+same-length : tie.Need-same-length Inv-loop μ-loop
+same-length c = search needs
+
+returns : tie.Need-returns Inv-loop μ-loop
+returns c = search needs
+
+slice-aggregate-copies : tie.Need-slice-aggregate-copies Inv-loop μ-loop
+slice-aggregate-copies c = search needs
+
+copies-requires : tie.Need-copies-requires Inv-loop μ-loop
+copies-requires c κs = search needs
+
+sub-turns : tie.Need-sub-turns Inv-loop μ-loop
+sub-turns c = search needs
+
+loop-less : tie.Need-loop-less Inv-loop μ-loop
+loop-less c = search needs
+
+loop-again : tie.Need-loop-again Inv-loop μ-loop
+loop-again c = search needs
+
+same-length-2 : tie.Need-same-length-2 Inv-loop μ-loop
+same-length-2 c = search needs
+
+returns-2 : tie.Need-returns-2 Inv-loop μ-loop
+returns-2 c = search needs
+
+pub run-spec : {M : Type 1} → statement M
+run-spec =
+    tie.close
+    (tie.spec
+    Inv-loop
+    μ-loop
+    loop-holds
+    slice-aggregate-read-words
+    read-words-requires
+    same-length
+    returns
+    slice-aggregate-copies
+    copies-requires
+    sub-turns
+    loop-less
+    loop-again
+    same-length-2
+    returns-2)

@@ -1,0 +1,124 @@
+-- The code's transfer stays the definition's, from one row to the next. Assumes nothing.
+use mathlib.Core.Path.{_≡_, refl, sym, ap, ap₂, _∙_, subst}
+use mathlib.Core.List.{List}
+use Prim.Native.Nat.{ℕ, suc, _+_, _*_, max, _≤_, _<_}
+use native.Mathlib.Omega.{arith}
+use lib.ListN.{length}
+use Rattle.words.proofs.Bools.{T-true, T-of}
+use Rattle.meter.specs.declared.Meter.{Meter}
+use Rattle.meter.specs.declared.Sharing.{Sharing}
+use Rattle.meter.specs.declared.Account.{Account}
+use Rattle.meter.specs.declared.Account.the-variants.{Share}
+use Rattle.meter.specs.declared.Read.{Read}
+use Rattle.meter.specs.Meter.{pay}
+use Rattle.model.specs.declared.LearningLimits.{LearningLimits}
+use Rattle.model.specs.declared.Header.{Header}
+use Rattle.model.specs.Records.{Row, Ledger, isRow, limitsOk, literals}
+use Rattle.model.specs.Slots.{rowIn}
+use Rattle.model.specs.Retention.{Retained as Kept, retain}
+use Rattle.model.specs.Transfers.{Transfer, starting, ticked, receive}
+use Rattle.model.proofs.Priority.Steps.{most-ok}
+use Rattle.slots.specs.Layout.{Stored}
+use Rattle.slots.proofs.Storing.{laid-stored}
+use Rattle.contents.specs.Lent.{lent}
+use Rattle.contents.specs.Accepted.{Accepted}
+use Rattle.keeping.specs.Stood.{Stood}
+use Rattle.keeping.proofs.Standing.{stood-accepted, stood-rows, stood-limits, stood-outcome, stood-account, stood-meter, stood-retained}
+use Rattle.retention.specs.declared.Retained.{Retained}
+use Rattle.retention.specs.Ends.{End, outcomeOf, retainEnd}
+use Rattle.transfers.specs.declared.receiving.Reach.{Reach}
+use Rattle.transfers.specs.declared.receiving.Passage.{Passage}
+use Rattle.transfers.specs.Receiving.{receivedEnd}
+use Rattle.transfers.specs.Passage.{reachOf, startBy, Carried}
+use Rattle.transfers.proofs.Positions.{Within, retain-within, retain-limits}
+
+-- what a retention of the code is, beside the definition's, after the transfer v with at most c rows Added
+pub record Received (n c : ℕ) (p : Passage) (v : Transfer) (k : Retained) (slots postings : List ℕ) (d : Kept) : Type 0 where
+  pub stood : Stood (k .header) slots postings (d .ledger)
+  pub outcome : outcomeOf (k .answer) ≡ d .outcome
+  pub account : k .account ≡ d .account
+  pub meter : k .meter ≡ d .meter
+  pub over : d .ledger .header .limits .atoms ≡ n
+  pub within : Within (k .header .rows) (d .outcome)
+  pub added : p .added ≡ v .added
+  pub few : v .added ≤ c
+
+module _ (n c : ℕ) (p : Passage) (slots postings : List ℕ) (v : Transfer) (h : Carried n c p slots postings v) where
+  pub carried-accepted : Accepted (p .header) slots postings
+  carried-accepted = stood-accepted (p .header) slots postings (v .receiver) (h .stood)
+
+  pub carried-atoms : p .header .limits .atoms ≡ n
+  carried-atoms = ap (λ (x : LearningLimits). x .atoms) (stood-limits (p .header) slots postings (v .receiver) (h .stood)) ∙ h .over
+
+  -- a tick apart
+  pub carried-ticked : (m : Meter) (x : Reach) → Carried n c (record { reach = x; header = p .header; account = p .account; meter = m; added = p .added }) slots postings (ticked v m (reachOf x))
+  unfolding ticked
+  carried-ticked m x = record
+      { stood = h .stood; account = h .account; meter = refl; added = h .added; reach = refl; over = h .over; few = h .few }
+
+  pub carried-up : (k : ℕ) → c ≤ k → Carried n k p slots postings v
+  carried-up k l = record {
+    stood = h .stood;
+    account = h .account;
+    meter = h .meter;
+    added = h .added;
+    reach = h .reach;
+    over = h .over;
+    few = let f = h .few in omega arith;
+  }
+
+  -- the row in a slot is received
+  module _ (row : List ℕ) (s : Stored (p .header .limits .atoms) row) (tier : LearningLimits) (o : tier .«founded_outputs» ≤ 64) (hits : ℕ) where
+    abbrev t : Row
+    t = rowIn row
+
+    abbrev most : ℕ
+    most = max (length (t .outputs)) (tier .«founded_outputs»)
+
+    abbrev run : Read
+    run = pay (suc (literals t)) (v .account) (v .meter)
+
+    pub carried-received : (k : Retained) (ws ps : List ℕ) →
+        retainEnd k ws ps ≡ receivedEnd (lent (p .header) slots postings) t (tier .«founded_outputs») hits (pay (suc (literals t)) (p .account) (p .meter)) →
+        Received n c p v k ws ps (receive tier hits t v)
+    unfolding receive
+    carried-received k ws ps e =
+        let q : retainEnd k ws ps ≡ receivedEnd (lent (p .header) slots postings) t (tier .«founded_outputs») hits run
+        = e ∙ ap₂ (λ (a : Account) (m : Meter). receivedEnd (lent (p .header) slots postings) t (tier .«founded_outputs») hits (pay (suc (literals t)) a m)) (h .account) (h .meter) in
+        let g = laid-stored (p .header .limits .atoms) row s in
+        let few : most ≤ 64 = let i = g .counted .most in let j = g .outputCount in omega arith in
+        let stood : Stood (k .header) ws ps (retain (v .receiver) most hits t run .ledger)
+        = stood-retained (p .header) slots postings (v .receiver) (h .stood) most hits t run (k .header) ws ps few (T-true (isRow (p .header .limits .atoms) t) (s .row)) (ap (λ (x : End). x .ledger) q) in
+        record {
+          stood = stood;
+          outcome = ap (λ (x : End). x .outcome) q ∙ stood-outcome (p .header) slots postings (v .receiver) (h .stood) most hits t run;
+          account = ap (λ (x : End). x .account) q ∙ stood-account (p .header) slots postings (v .receiver) (h .stood) most hits t run;
+          meter = ap (λ (x : End). x .meter) q ∙ stood-meter (p .header) slots postings (v .receiver) (h .stood) most hits t run;
+          over = ap (λ (x : LearningLimits). x .atoms) (retain-limits (v .receiver) hits t most run) ∙ h .over;
+          within = subst (λ (i : ℕ). Within i (retain (v .receiver) most hits t run .outcome)) (sym (stood-rows (k .header) ws ps (retain (v .receiver) most hits t run .ledger) stood)) (retain-within (v .receiver) hits t most run);
+          added = h .added;
+          few = h .few;
+        }
+
+-- ---- at the start
+pub carried-start : (h : Header) (slots postings : List ℕ) (l : Ledger) → Stood h slots postings l → (a : Sharing) (m : Meter) → Carried (h .limits .atoms) 0 (startBy h a m) slots postings (starting l (Share a) m)
+unfolding starting
+carried-start h slots postings l s a m = record {
+  stood = s;
+  account = refl;
+  meter = refl;
+  added = refl;
+  reach = refl;
+  over = ap (λ (x : LearningLimits). x .atoms) (sym (stood-limits h slots postings l s));
+  few = omega arith;
+}
+
+-- ---- a position is within the words
+pub place-fits : (h : Header) (slots postings : List ℕ) (l : Ledger) → Stood h slots postings l → (p : ℕ) → p < h .rows → (p < 4096) × (168 * p + 168 ≤ length slots)
+place-fits h slots postings l s p q =
+    let a = stood-accepted h slots postings l s in
+    let f = a .few in let m = a .most in let n = a .long in (omega arith, omega arith)
+
+pub outputs-fit : (h : Header) (slots postings : List ℕ) (l : Ledger) → Stood h slots postings l → h .limits .«founded_outputs» ≤ 64
+outputs-fit h slots postings l s =
+    subst (λ (x : LearningLimits). x .«founded_outputs» ≤ 64) (sym (stood-limits h slots postings l s)) (most-ok (l .header .limits) (T-of {x = limitsOk (l .header .limits)} (s .good .limits)) .1)

@@ -1,0 +1,12 @@
+pub mod Positions
+pub mod Entries
+pub mod Reading
+pub mod Carrying
+pub mod Passing
+pub mod Seeds
+pub mod RowSeeded
+pub mod RowsSeeded
+pub mod Deliveries
+pub mod RowDelivered
+pub mod RowsDelivered
+pub mod Ending

@@ -1,0 +1,25 @@
+-- `tick_past` meets its contract. Assumes nothing.
+use borrow.Author.Needs.{needs}
+use mathlib.Core.Path.{sym, ap, _∙_}
+use Rattle.transfers.specs.Passage.{tickedAs}
+use Rattle.transfers.proofs.receiving.tick_past.Statement.{statement}
+use Rattle.transfers.proofs.receiving.tick_past.Tie as tie
+
+tick-requires : tie.Need-tick-requires
+tick-requires c κs = search needs
+
+enum-known-meter : tie.Need-enum-known-meter
+enum-known-meter c = search needs
+
+enum-known-meter-2 : tie.Need-enum-known-meter-2
+enum-known-meter-2 c = search needs
+
+returns : tie.Need-returns
+returns c = ap (tickedAs (c .before .before .before .before .before .before .args .passage)) (sym (c .before .meter2 .given .1) ∙ c .before .before .before .tick .ensures)
+
+returns-2 : tie.Need-returns-2
+returns-2 c = ap (tickedAs (c .before .before .before .before .before .before .args .passage)) (sym (c .before .meter3 .given .1) ∙ c .before .before .before .tick .ensures)
+
+pub tick-past-spec : {M : Type 1} → statement M
+tick-past-spec =
+    tie.close (tie.spec tick-requires enum-known-meter enum-known-meter-2 returns returns-2)

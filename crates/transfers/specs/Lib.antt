@@ -1,0 +1,4 @@
+pub mod Receiving
+pub mod Passage
+pub mod Handing
+pub mod Ends

@@ -1,0 +1,370 @@
+#!/usr/bin/env python3
+"""Writes crates/damaged/stdin and crates/damaged/stdout: good ledgers, damaged copies of them, and the refusal that document 01 asks for.
+
+The expected numbers come from the reading of document 01 in this file alone; no code of the crates and none of the Rust is called.
+
+    tests/damaged/make.py          writes both files
+    tests/damaged/make.py --check  exits with 1 if they are not what would be written
+
+A ledger with all that a call is given is one list of 1,000 words: the header as in include/ledger.h, then what LAYOUT below names. The input
+has such a list, then its damaged copies, each as the number of changed words, then index and value of each; 999 ends the copies of
+a ledger. The output has a line a copy: the answers of make, hit, begin, candidates, deduce, next output and decide as refusal numbers, 0
+for none, and then 1 if a refused call charged or changed a lent word: 0.
+"""
+import os
+import sys
+
+WORD = 2**64 - 1
+SLOT, POST = 168, 80
+
+# LAYOUT: the header, the lengths of the lent slices, position, cursor (4 words), the atom and value of decide, then the slices themselves;
+# ANSWER is candidates' answer buffer, GIVEN the atoms that it is given
+SLOTS_LEN, POSTINGS_LEN, HELD_LEN, CUT_LEN, POSITION, CURSOR, ATOM, VALUE, ANSWER_LEN, GIVEN_LEN = 25, 26, 27, 28, 29, 30, 34, 35, 36, 37
+ANSWER, GIVEN, SLOTS, POSTINGS, HELD, CUT, SIZE = 40, 48, 64, 600, 900, 950, 1000
+# of each slice: where its length stands, and the room that it has
+ROOM = {ANSWER: (ANSWER_LEN, 8), GIVEN: (GIVEN_LEN, 8), SLOTS: (SLOTS_LEN, 536), POSTINGS: (POSTINGS_LEN, 300), HELD: (HELD_LEN, 50),
+        CUT: (CUT_LEN, 50)}
+(ATOMS, TIER, CONDITIONS, OUTPUTS, FLOOR, ATTEMPTS_MOST, WORK, SHARE_WORK, SHARE_CONDITIONS, SHARE_HITS, NUMBER, ROWS, BORN, EPOCH, ATTEMPTS,
+ REMAINING, SHARING, EVICTED, DELIVERIES, SEEDED, STALE, FULL, MARK, MARK_NUMBER, MARK_BORN) = range(25)
+
+
+# ---- Records: row, groups, form, slot, postings
+def groups(codes):
+    """Neighbours whose atoms lie in one word."""
+    out = []
+    for c in codes:
+        if out and out[-1][0] // 128 == c // 128:
+            out[-1].append(c)
+        else:
+            out.append([c])
+    return out
+
+
+def packed(conditions, outputs):
+    return 3 * (len(groups(conditions)) + len(groups(outputs))) < 2 * (len(conditions) + len(outputs))
+
+
+def group_words(group):
+    present = sum(1 << (c // 2 % 64) for c in group if c % 2 == 1)
+    absent = sum(1 << (c // 2 % 64) for c in group if c % 2 == 0)
+    return [group[0] // 128, present, absent]
+
+
+def slot_of(conditions, outputs, hits, unshared, born, delivered):
+    if packed(conditions, outputs):
+        first, second = groups(conditions), groups(outputs)
+        body = [w for g in first + second for w in group_words(g)]
+        counts = [len(first) + len(second), len(first)]
+    else:
+        body = conditions + outputs
+        counts = [0, 0]
+    words = [len(conditions), len(outputs)] + counts + [hits, unshared, born, delivered] + body
+    return words + [0] * (SLOT - len(words))
+
+
+def postings_of(rows):
+    out = []
+    for position, (conditions, outputs) in enumerate(rows):
+        atoms = [c // 2 for c in conditions] + sorted({c // 2 for c in outputs})
+        out += [a * 4096 + position for a in atoms]
+    return sorted(out)
+
+
+def is_row(atoms, conditions, outputs):
+    if len(conditions) > 16 or len(outputs) > 64:
+        return False
+    if any(c // 2 >= atoms for c in conditions + outputs):
+        return False
+    rising = all(a // 2 < b // 2 for a, b in zip(conditions, conditions[1:]))
+    return rising and all(a < b for a, b in zip(outputs, outputs[1:]))
+
+
+def codes_of(words):
+    """The codes of groups of three words, or none where they are no groups: ascending words, each with some bit."""
+    out, last = [], -1
+    for i in range(0, len(words), 3):
+        word, present, absent = words[i:i + 3]
+        if word <= last or word > 511 or present | absent == 0:
+            return None
+        last = word
+        for bit in range(64):
+            if absent >> bit & 1:
+                out.append(2 * (64 * word + bit))
+            if present >> bit & 1:
+                out.append(2 * (64 * word + bit) + 1)
+    return out
+
+
+def row_in(words):
+    """The row whose slot these 168 words are, or none."""
+    conditions, outputs, total, first, hits, unshared, born, delivered = words[:8]
+    if conditions > 16 or outputs > 64 or total * 3 > 160 or first > total:
+        return None
+    if total == 0:
+        row = (words[8:8 + conditions], words[8 + conditions:8 + conditions + outputs])
+    else:
+        row = (codes_of(words[8:8 + 3 * first]), codes_of(words[8 + 3 * first:8 + 3 * total]))
+        if row[0] is None or row[1] is None:
+            return None
+    if delivered > 1 or slot_of(row[0], row[1], hits, unshared, born, delivered) != words:
+        return None
+    return row
+
+
+# ---- refusals
+def limits_ok(w):
+    return (1 <= w[ATOMS] <= 32768 and 1 <= w[TIER] <= 4096 and w[CONDITIONS] <= 16 and w[OUTPUTS] <= 64)
+
+
+def rows_in(w):
+    rows = []
+    for position in range(w[ROWS]):
+        words = w[SLOTS + SLOT * position:SLOTS + SLOT * position + SLOT]
+        row = row_in(words)
+        if row is None or not is_row(w[ATOMS], *row) or not 1 <= words[6] <= w[BORN]:
+            return None
+        rows.append(row)
+    return rows
+
+
+def contents_ok(w):
+    if w[ROWS] > w[TIER] or w[EPOCH] >= w[TIER] or w[ATTEMPTS] > w[ATTEMPTS_MOST]:
+        return False
+    rows = rows_in(w)
+    if rows is None or any(w[SLOTS + SLOT * w[ROWS]:SLOTS + w[SLOTS_LEN]]):
+        return False
+    filed = [] if w[STALE] else postings_of(rows)
+    return w[POSTINGS:POSTINGS + w[POSTINGS_LEN]] == filed + [0] * (w[POSTINGS_LEN] - len(filed))
+
+
+def lengths_ok(w):
+    return w[SLOTS_LEN] == SLOT * w[TIER] and w[POSTINGS_LEN] == POST * w[TIER]
+
+
+def accept(w, others=True):
+    if not limits_ok(w):
+        return 1
+    if not lengths_ok(w) or not others:
+        return 2
+    return 0 if contents_ok(w) else 3
+
+
+def region_ok(atoms, w):
+    if not 1 <= atoms <= 32768:
+        return False
+    words = (atoms + 63) // 64
+    if w[HELD_LEN] != words or w[CUT_LEN] != words:
+        return False
+    held, cut = w[HELD:HELD + words], w[CUT:CUT + words]
+    if any(a & b for a, b in zip(held, cut)):
+        return False
+    joined = sum((a | b) << (64 * i) for i, (a, b) in enumerate(zip(held, cut)))
+    return joined >> atoms == 0
+
+
+def cursor_ok(row, cursor):
+    step, word, present, absent = cursor
+    conditions, outputs = row
+    if not packed(conditions, outputs):
+        return step <= len(outputs) and word == present == absent == 0
+    found = groups(outputs)
+    if step > len(found):
+        return False
+    if step == 0:
+        return word == present == absent == 0
+    index, had, had_not = group_words(found[step - 1])
+    return word == index and present & ~had == 0 and absent & ~had_not == 0
+
+
+def expected(w):
+    make = 0
+    if not limits_ok(w):
+        make = 1
+    elif not lengths_ok(w):
+        make = 2
+    begin = accept(w)
+    candidates = accept(w, w[ANSWER_LEN] == w[TIER])
+    hit = begin or (5 if w[POSITION] >= w[ROWS] else 0)
+    deduce = hit or (0 if region_ok(w[ATOMS], w) else 6)
+    step = deduce
+    if step == 0:
+        step = 0 if cursor_ok(rows_in(w)[w[POSITION]], w[CURSOR:CURSOR + 4]) else 8
+    decide = 0 if region_ok(w[ATOMS], w) else 6
+    return [make, hit, begin, candidates, deduce, step, decide, 0]
+
+
+# ---- good ledgers
+def ledger(atoms, tier, rows, stale, position, held, cut, cursor, atom, given):
+    """rows: (conditions, outputs, hits, unshared, born, delivered)."""
+    w = [0] * SIZE
+    w[:25] = [atoms, tier, 16, 64, 1, 9, 100, 100, 8, 2, 7, len(rows), 5, tier - 1, 9, 50, 60, 0, 1, 2, int(stale), 1, 1, 3, 4]
+    words = (atoms + 63) // 64
+    w[SLOTS_LEN], w[POSTINGS_LEN], w[HELD_LEN], w[CUT_LEN], w[POSITION] = SLOT * tier, POST * tier, words, words, position
+    w[CURSOR:CURSOR + 4] = cursor
+    w[ATOM], w[VALUE] = atom, 1
+    w[ANSWER_LEN], w[GIVEN_LEN] = tier, len(given)
+    w[ANSWER:ANSWER + tier] = [11] * tier
+    w[GIVEN:GIVEN + len(given)] = given
+    for p, row in enumerate(rows):
+        w[SLOTS + SLOT * p:SLOTS + SLOT * p + SLOT] = slot_of(*row)
+    if not stale:
+        filed = postings_of([row[:2] for row in rows])
+        w[POSTINGS:POSTINGS + len(filed)] = filed
+    for a in held:
+        w[HELD + a // 64] |= 1 << (a % 64)
+    for a in cut:
+        w[CUT + a // 64] |= 1 << (a % 64)
+    return w
+
+
+SCALAR = ([7, 200], [6, 7, 140], 3, 1, 2, 0)
+PACKED = ([1, 3, 8], [2, 3, 140, 142, 250], 0, 0, 5, 1)
+# 80 literals with 80 postings: in 66 groups, and in the most groups that a slot can have, 53
+LONG_SCALAR = ([128 * i + 1 for i in range(16)], [128 * i + 2 for i in range(36)] + [128 * i + 2 * j for i in range(36, 50) for j in range(2)], 0, 9, 1, 0)
+LONG_PACKED = ([128 * i + 4 for i in range(16)], [128 * i + 2 * j for i in range(27) for j in range(2)] + [128 * i + 7 for i in range(27, 37)], WORD, WORD, 5, 1)
+assert packed(*PACKED[:2]) and not packed(*SCALAR[:2]) and not packed(*LONG_SCALAR[:2]) and packed(*LONG_PACKED[:2])
+LEDGERS = [
+    ledger(130, 2, [SCALAR, PACKED], False, 1, [0, 129], [70], [2, 1, 0, 1 << 6], 5, [3, 70, 3, 500]),
+    ledger(130, 3, [PACKED, SCALAR], True, 1, [0, 64], [], [3, 0, 0, 0], 129, []),
+    ledger(64, 1, [([], [], 1, 0, 1, 0)], False, 0, [], [63], [0, 0, 0, 0], 0, [0]),
+    ledger(1, 1, [], True, 0, [0], [], [0, 0, 0, 0], 0, [0, 0]),
+    ledger(3200, 2, [LONG_SCALAR, LONG_PACKED], False, 0, [3199], [0, 64], [64, 0, 0, 0], 3199, []),
+]
+
+
+def values(i, v):
+    """What a word is changed to: neighbours, small numbers, a bit at either end, the greatest number; of a limit the ends of every range."""
+    tries = [1, 1 << 63, WORD]
+    if v != 0:
+        tries += [0, 2, v + 1, v - 1, v * 2, v ^ 1 << 63, v ^ 1 << 5, v + 4096, 64, 130]
+    if i < NUMBER:
+        tries += [0, 16, 17, 64, 65, 4096, 4097, 32768, 32769]
+    return sorted({x & WORD for x in tries} - {v})
+
+
+def within(w):
+    """A copy that the lists can hold: lengths up to the room there is."""
+    return all(w[length] <= room for length, room in ROOM.values())
+
+
+def single(w):
+    for span in [range(GIVEN_LEN + 1)] + [range(at, at + w[length]) for at, (length, _) in ROOM.items()]:
+        for i in span:
+            for v in values(i, w[i]):
+                yield [(i, v)]
+
+
+def written(at, words):
+    return [(at + i, v) for i, v in enumerate(words)]
+
+
+def raw_slot(conditions, outputs, total, first, body):
+    return written(SLOTS, ([conditions, outputs, total, first, 3, 1, 2, 0] + body + [0] * SLOT)[:SLOT])
+
+
+def codes_slots():
+    """First slots that hold codes, one a word, though their row may be none, or one to be packed."""
+    for conditions, outputs in [
+            ([7, 200], [6, 7, 258]),    # a row
+            ([7], [140, 142]),    # three literals in two groups
+            ([7, 200], [6, 7, 260]),    # no atom of 130
+            ([7, 260], [6, 7, 140]),
+            ([200, 7], [6, 7, 140]),    # conditions descend
+            ([200, 200], [6, 140, 256]),
+            ([200, 201], [6, 140, 256]),    # both signs of an atom
+            ([7, 200], [7, 6, 140]),    # outputs descend
+            ([7, 200], [6, 140, 140])]:
+        assert not packed(conditions, outputs)
+        yield raw_slot(len(conditions), len(outputs), 0, 0, conditions + outputs)
+    yield raw_slot(3, 5, 0, 0, PACKED[0] + PACKED[1])
+
+
+def groups_slots():
+    """First slots that hold groups, though their row may be none, or one not to be packed."""
+    rest = [0, 2, 2, 1, 0, 1 << 6 | 1 << 7 | 1 << 61]
+    for outputs, total, body in [
+            (5, 3, [0, 3, 16] + rest),    # a row
+            (6, 4, [0, 3, 16] + rest + [2, 2, 0]),    # a row, with atom 129
+            (6, 4, [0, 3, 16] + rest + [2, 4, 0]),    # no atom of 130
+            (5, 4, [0, 3, 16] + rest + [2, 0, 0]),    # a group of nothing
+            (5, 3, [0, 3, 2] + rest),    # a condition in both signs
+            (5, 3, [0, 3, 16] + rest[3:] + rest[:3]),    # groups descend
+            (5, 4, [0, 3, 16] + rest[:3] + [1, 0, 1 << 6, 1, 0, 1 << 7 | 1 << 61]),    # two groups of a word
+            (6, 3, [0, 3, 16] + rest),    # counts of other rows
+            (4, 3, [0, 3, 16] + rest)]:
+        yield raw_slot(3, outputs, total, 1, body)
+    for conditions, outputs in [SCALAR[:2], ([7], [140, 142])]:
+        first, second = groups(conditions), groups(outputs)
+        body = [x for g in first + second for x in group_words(g)]
+        yield raw_slot(len(conditions), len(outputs), len(first) + len(second), len(first), body)
+
+
+def several(w):
+    """On the first ledger: damage that takes more than a word, and changes of more than a word that are none."""
+    second = SLOTS + SLOT
+    filed = postings_of([SCALAR[:2], PACKED[:2]])
+    n = len(filed)
+
+    def posted(postings):
+        return written(POSTINGS, (postings + [0] * n)[:max(n, len(postings))])
+
+    yield []
+    # other words in the first slot: without postings, so that nothing else is wrong
+    for slot in list(codes_slots()) + list(groups_slots()):
+        yield [(STALE, 1)] + posted([]) + slot
+    # the postings: two exchanged, one gone, one twice and so one too many, one in place of its neighbour
+    for i in range(n - 1):
+        yield posted(filed[:i] + [filed[i + 1], filed[i]] + filed[i + 2:])
+        yield posted(filed[:i] + filed[i + 1:])
+        yield posted(filed[:i + 1] + filed[i:])
+        yield posted(filed[:i + 1] + [filed[i]] + filed[i + 2:])
+    # stale, with and without postings; no postings, and not stale
+    yield [(STALE, 1)]
+    yield [(STALE, 1)] + posted([])
+    yield posted([])
+    # a longer row, with the postings of the old one and with its own
+    for postings in (filed, postings_of([(SCALAR[0], SCALAR[1] + [258]), PACKED[:2]])):
+        yield [(SLOTS + 1, 4), (SLOTS + 13, 258)] + posted(postings)
+    # one row less, with and without its words and postings
+    yield [(ROWS, 1)]
+    yield [(ROWS, 1)] + written(second, [0] * SLOT)
+    yield [(ROWS, 1), (POSITION, 0), (CURSOR, 0), (CURSOR + 1, 0), (CURSOR + 3, 0)] + written(second, [0] * SLOT) + posted(postings_of([SCALAR[:2]]))
+    # a tier of fewer rows and of more, with lengths to fit
+    for tier in (0, 1, 3):
+        yield [(TIER, tier), (SLOTS_LEN, SLOT * tier), (POSTINGS_LEN, POST * tier), (ANSWER_LEN, tier)]
+
+
+def changed(w, changes):
+    out = list(w)
+    for i, v in changes:
+        out[i] = v
+    return out
+
+
+def write():
+    lines, answers = [], []
+    for k, w in enumerate(LEDGERS):
+        lines.append(' '.join(map(str, w)))
+        for changes in list(several(w) if k == 0 else [[]]) + list(single(w)):
+            copy = changed(w, changes)
+            if not within(copy):
+                continue
+            lines.append(' '.join([str(len(changes))] + [f'{i} {v}' for i, v in changes]))
+            answers.append(','.join(map(str, expected(copy))))
+        lines.append('999')
+    return '\n'.join(lines) + '\n', '\n'.join(answers) + '\n'
+
+
+def main():
+    root = os.path.join(os.path.dirname(os.path.abspath(__file__)), '..', '..', 'crates', 'damaged')
+    good = True
+    for name, text in zip(('stdin', 'stdout'), write()):
+        path = os.path.join(root, name)
+        if '--check' in sys.argv:
+            good = good and open(path).read() == text
+        else:
+            open(path, 'w').write(text)
+    sys.exit(0 if good else 1)
+
+
+main()
