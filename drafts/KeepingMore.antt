@@ -1,0 +1,93 @@
+-- 01: "A refusal .. touches no lent word." Of offer, candidates, close, seed and deliver, by their definitions. Assumes nothing.
+use mathlib.Core.Path.{_≡_, refl}
+use mathlib.Core.Bool.{Bool, true, false, _&&_}
+use mathlib.Core.List.{List, [], _∷_}
+use mathlib.Core.Option.{Option, none, some}
+use Prim.Native.Nat.{ℕ}
+use lib.Dec.{eqb}
+use lib.ListN.{length}
+use Rattle.meter.specs.declared.Meter.{Meter}
+use Rattle.model.specs.Retention.{Outcome, Stops, Declines, Subsumes, Adds, canCapture}
+use Rattle.model.specs.Transfers.{Reach, whole, declined, stopped}
+use Rattle.model.specs.Closing.{State, Turn, going, conflict, halted, closing}
+use Rattle.model.specs.Refusals.{Lent, refusal, accepts, ledgerIn}
+use Rattle.model.specs.Operations.{OfferEnd, CandidatesEnd, CloseEnd, TransferEnd, offer, capture, unoffered, offerAnswer, fitsOffer, candidates, candidatesAnswer, close, closeEnd, region, regionOk, seed, deliver, transferRefusal, untransferred, transferEnd, transferAnswer}
+use Rattle.wire.specs.Replies.{offerReply, candidatesReply, closeReply, transferReply}
+use Rattle.boundary.proofs.Leaving.{keeps}
+
+abbrev pub offerLends : OfferEnd → List (List ℕ)
+offerLends e = e .ledger .slots ∷ e .ledger .postings ∷ []
+
+abbrev pub candidatesLends : CandidatesEnd → List (List ℕ)
+candidatesLends e = e .ledger .postings ∷ e .found ∷ []
+
+abbrev pub closeLends : CloseEnd → List (List ℕ)
+closeLends e = e .ledger .slots ∷ e .ledger .postings ∷ e .region .held ∷ e .region .cut ∷ e .rowScratch ∷ e .atomScratch ∷ []
+
+abbrev pub transferLends : TransferEnd → List (List ℕ)
+transferLends e = e .tier .slots ∷ e .tier .postings ∷ e .store .slots ∷ e .store .postings ∷ []
+
+-- ---- no answer of an operation that was not refused has a refusal's number
+offered : (o : Outcome) → offerReply (offerAnswer o) .refusal ≡ 0
+unfolding offerAnswer
+offered Stops = refl
+offered Declines = refl
+offered (Subsumes p) = refl
+offered (Adds p) = refl
+
+taken : {E : Type 0} (result : E → ℕ) (b : Bool) (x y : E) → result x ≡ 0 → result y ≡ 0 → result (elim b [ true ↦ x | false ↦ y ]) ≡ 0
+taken result true x y p q = p
+taken result false x y p q = q
+
+searched : (o : Option (List ℕ)) → candidatesReply (candidatesAnswer o) .refusal ≡ 0
+unfolding candidatesAnswer
+searched none = refl
+searched (some ps) = refl
+
+turned : {E : Type 0} (result : E → ℕ) (t : Turn) (f g h : State → E) → ((s : State) → result (f s) ≡ 0) → ((s : State) → result (g s) ≡ 0) → ((s : State) → result (h s) ≡ 0) →
+    result (elim t [ going s ↦ f s | conflict s ↦ g s | halted s ↦ h s ]) ≡ 0
+turned result (going s) f g h p q r = p s
+turned result (conflict s) f g h p q r = q s
+turned result (halted s) f g h p q r = r s
+
+transferred : (r : Reach) → transferReply (transferAnswer r) .refusal ≡ 0
+unfolding transferAnswer
+transferred whole = refl
+transferred declined = refl
+transferred stopped = refl
+
+-- ---- what is refused keeps what was lent
+pub offer-keeps : (s : Lent) (c o : List ℕ) (m : Meter) → (offerReply (offer s c o m .answer) .refusal ≡ 0 → ⊥) → offerLends (offer s c o m) ≡ s .slots ∷ s .postings ∷ []
+unfolding offer capture unoffered
+offer-keeps s c o m =
+    keeps (λ (e : OfferEnd). offerReply (e .answer) .refusal) offerLends (s .slots ∷ s .postings ∷ [])
+    (refusal (accepts s true ((fitsOffer (s .header .limits) (record { conditions = c; outputs = o }), 4) ∷ []))) _ _ (λ n. refl)
+    (taken (λ (e : OfferEnd). offerReply (e .answer) .refusal) (canCapture (ledgerIn s)) _ _ (offered _) refl)
+
+pub candidates-keeps : (s : Lent) (atoms buffer : List ℕ) (m : Meter) → (candidatesReply (candidates s atoms buffer m .answer) .refusal ≡ 0 → ⊥) →
+    candidatesLends (candidates s atoms buffer m) ≡ s .postings ∷ buffer ∷ []
+unfolding candidates
+candidates-keeps s atoms buffer m =
+    keeps (λ (e : CandidatesEnd). candidatesReply (e .answer) .refusal) candidatesLends (s .postings ∷ buffer ∷ [])
+    (refusal (accepts s (eqb (length buffer) (s .header .limits .«tier_rows»)) [])) _ _ (λ n. refl) (searched _)
+
+pub close-keeps : (s : Lent) (held cut x y : List ℕ) (m : Meter) → (closeReply (close s held cut x y m .answer) .refusal ≡ 0 → ⊥) →
+    closeLends (close s held cut x y m) ≡ s .slots ∷ s .postings ∷ held ∷ cut ∷ x ∷ y ∷ []
+unfolding close closeEnd region
+close-keeps s held cut x y m =
+    keeps (λ (e : CloseEnd). closeReply (e .answer) .refusal) closeLends (s .slots ∷ s .postings ∷ held ∷ cut ∷ x ∷ y ∷ [])
+    (refusal (accepts s (eqb (length x) (s .header .limits .«tier_rows») && eqb (length y) (s .header .limits .atoms)) ((regionOk s held cut, 6) ∷ []))) _ _ (λ n. refl)
+    (turned (λ (e : CloseEnd). closeReply (e .answer) .refusal) (closing (ledgerIn s) (region held cut) m) _ _ _ (λ t. refl) (λ t. refl) (λ t. refl))
+
+module _ (t s : Lent) (m : Meter) where
+  pub seed-keeps : (transferReply (seed t s m .answer) .refusal ≡ 0 → ⊥) → transferLends (seed t s m) ≡ t .slots ∷ t .postings ∷ s .slots ∷ s .postings ∷ []
+  unfolding seed untransferred transferEnd
+  seed-keeps =
+      keeps (λ (e : TransferEnd). transferReply (e .answer) .refusal) transferLends (t .slots ∷ t .postings ∷ s .slots ∷ s .postings ∷ [])
+      (transferRefusal t s) _ _ (λ n. refl) (transferred _)
+
+  pub deliver-keeps : (transferReply (deliver t s m .answer) .refusal ≡ 0 → ⊥) → transferLends (deliver t s m) ≡ t .slots ∷ t .postings ∷ s .slots ∷ s .postings ∷ []
+  unfolding deliver untransferred transferEnd
+  deliver-keeps =
+      keeps (λ (e : TransferEnd). transferReply (e .answer) .refusal) transferLends (t .slots ∷ t .postings ∷ s .slots ∷ s .postings ∷ [])
+      (transferRefusal t s) _ _ (λ n. refl) (transferred _)
