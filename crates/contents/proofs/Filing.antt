@@ -1,11 +1,13 @@
 -- The postings of all rows: their number, and the check of lent words against them. Assumes nothing.
-use mathlib.Core.Path.{_≡_, sym, ap, _∙_}
-use mathlib.Core.Bool.{Bool, true, false, _&&_}
+use mathlib.Core.Path.{_≡_, refl, sym, ap, _∙_, subst}
+use mathlib.Core.Bool.{Bool, true, false, _&&_, not}
 use mathlib.Core.List.{List, []}
 use Prim.Native.Nat.{ℕ, zero, suc, _+_, _-_, _*_, _/_, _%_, _≤_, _<_}
 use native.Mathlib.Nat.{sub-zero}
 use native.Mathlib.Omega.{arith}
+use lib.Dec.{ltb}
 use lib.ListN.{length, take, drop}
+use borrow.Author.Tests.{lt-ltb, le-ltb}
 use Rattle.lists.specs.Lists.{same, sortOf, pad}
 use Rattle.lists.specs.Counts.{times}
 use Rattle.lists.proofs.Sorts.{length-sort}
@@ -17,11 +19,16 @@ use Rattle.slots.proofs.Storing.{laid-stored}
 use Rattle.slotcheck.specs.Check.{allZero}
 use Rattle.contents.specs.Lent.{Rows, Holds, slotAt, rowsIn, postedAtoms, postingsDue}
 use Rattle.contents.proofs.Rows.{rows-length, rowsFrom, rows-all, rows-next, rows-none, rows-at, posts-none, posts-next, times-posted, times-unposted}
+use Rattle.contents.proofs.Walks.{slot-code}
 use Rattle.contents.proofs.Holding.{held-few}
 
 module _ (n : ℕ) (ws : List ℕ) (r : Rows n ws) where
   pub holds-at : (p : ℕ) → p < n → Holds (slotAt ws p)
   holds-at p l = record { atoms = r .atoms; stored = r .stored p l; laid = laid-stored (r .atoms) (slotAt ws p) (r .stored p l) }
+
+  -- of a slot as the code lends it
+  pub holds-code : (p : ℕ) → p < n → Holds (take ((168 * p + 168) - 168 * p) (drop (168 * p) ws))
+  holds-code p l = subst Holds (sym (slot-code ws p)) (holds-at p l)
 
   -- ---- how many
   pub total-start : length (postingsFrom 0 (rowsFrom n ws 0)) ≡ length (postingsOf (rowsIn n ws))
@@ -54,6 +61,14 @@ module _ (n : ℕ) (ws : List ℕ) (r : Rows n ws) where
       let f = r .few in
       let d : Row = record { conditions = []; outputs = [] } in
       sym (times-posted x (rowsIn n ws) d (omega arith) (omega arith) ∙ ap (λ (q : Row). times (x / 4096) (postedAtoms q)) (rows-at n ws (x % 4096) d h))
+
+  pub posted-code : (x : ℕ) → x % 4096 < n → times (x / 4096) (postedAtoms (rowIn (take ((168 * (x % 4096) + 168) - 168 * (x % 4096)) (drop (168 * (x % 4096)) ws)))) ≡ times x (postingsOf (rowsIn n ws))
+  posted-code x h = ap (λ (l : List ℕ). times (x / 4096) (postedAtoms (rowIn l))) (slot-code ws (x % 4096)) ∙ posted-here x h
+
+-- not at all, or less than once
+pub none-less : (t : ℕ) → not (ltb 0 t) ≡ ltb t 1
+none-less zero = refl
+none-less (suc t) = ap not (lt-ltb 0 (suc t) (omega arith)) ∙ sym (le-ltb (suc t) 1 (omega arith))
 
 -- ---- the buffer
 pub stale-all : (ps : List ℕ) (rs : List Row) → allZero ps ≡ same ps (pad (length ps) (postingsDue true rs))

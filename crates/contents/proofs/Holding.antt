@@ -1,17 +1,19 @@
 -- A slot that holds a row, by its form: how many postings the row has, and how often it is posted under an atom. Assumes nothing.
 use mathlib.Core.Path.{_≡_, refl, sym, ap, ap₂, _∙_}
-use mathlib.Core.Bool.{Bool, true, false}
-use mathlib.Core.List.{List, map}
-use Prim.Native.Nat.{ℕ, _+_, _-_, _*_, _≤_}
+use mathlib.Core.Bool.{Bool, true, false, _||_}
+use mathlib.Core.List.{List, [], _∷_, _++_, map, append-assoc}
+use Prim.Native.Nat.{ℕ, zero, suc, _+_, _-_, _*_, _≤_}
 use native.Mathlib.Omega.{arith}
-use lib.ListN.{length, getD, take, drop, length-append, length-map}
-use lib.Seq.{drop-drop}
+use lib.Dec.{ltb, eqb}
+use lib.ListN.{length, getD, take, drop, length-append, length-map, length-take, length-drop}
+use lib.Seq.{drop-drop, take-add}
 use Rattle.lists.specs.Lists.{distinct}
 use Rattle.lists.specs.Counts.{times}
+use Rattle.lists.proofs.Tests.{any-append}
 use Rattle.words.specs.Literal.{atom}
 use Rattle.words.proofs.Bools.{T-true}
 use Rattle.model.specs.Records.{Row, isRow}
-use Rattle.model.specs.Slots.{rowIn, ungroup}
+use Rattle.model.specs.Slots.{rowIn, codesOf, ungroup}
 use Rattle.slots.proofs.Laying.{row-scalar, row-packed}
 use Rattle.slotcheck.specs.Check.{shifted, groupsOk}
 use Rattle.slotcheck.proofs.Slot.{groups-stored}
@@ -22,6 +24,27 @@ use Rattle.contents.proofs.Rows.{posts-few}
 pub one-le : (b : Bool) → oneIf b ≤ 1
 one-le true = omega arith
 one-le false = omega arith
+
+one-of : (b d : Bool) → (b || d) ≡ ltb 0 (oneIf b + oneIf d)
+one-of true true = refl
+one-of true false = refl
+one-of false true = refl
+one-of false false = refl
+
+has-append : (a : ℕ) (xs ys : List ℕ) → hasAtom a (xs ++ ys) ≡ (hasAtom a xs || hasAtom a ys)
+unfolding hasAtom
+has-append a xs ys = any-append (λ c. eqb (atom c) a) xs ys
+
+-- whole groups, and what follows them
+ungroup-append : (k : ℕ) (xs ys : List ℕ) → length xs ≡ 3 * k → ungroup (xs ++ ys) ≡ ungroup xs ++ ungroup ys
+unfolding ungroup
+ungroup-append k [] ys e = refl
+ungroup-append k (x ∷ []) ys e = absurd (omega arith)
+ungroup-append k (x ∷ p ∷ []) ys e = absurd (omega arith)
+ungroup-append zero (x ∷ p ∷ a ∷ xs) ys e = absurd (omega arith)
+ungroup-append (suc k) (x ∷ p ∷ a ∷ xs) ys e =
+    let l : length xs ≡ 3 * k = omega arith in
+    ap (λ (l : List ℕ). codesOf x p a ++ l) (ungroup-append k xs ys l) ∙ sym (append-assoc (codesOf x p a) (ungroup xs) (ungroup ys))
 
 -- n words from word a on, as the code lends them
 part : (ws : List ℕ) (a e n : ℕ) → e ≡ a + n → take (e - a) (drop a ws) ≡ take n (drop a ws)
@@ -42,6 +65,12 @@ module _ (ws : List ℕ) (h : Holds ws) where
 
   pub held-few : length (postedAtoms (rowIn ws)) ≤ 80
   held-few = posts-few (h .atoms) (rowIn ws) held-row
+
+  -- posted at all: the atom is of either side
+  held-has : (a : ℕ) → hasAtom a (rowIn ws .conditions ++ rowIn ws .outputs) ≡ ltb 0 (times a (postedAtoms (rowIn ws)))
+  held-has a =
+      has-append a (rowIn ws .conditions) (rowIn ws .outputs) ∙ one-of (hasAtom a (rowIn ws .conditions)) (hasAtom a (rowIn ws .outputs))
+      ∙ ap (ltb 0) (posted-times (h .atoms) a (rowIn ws) held-row)
 
   abbrev nc : ℕ
   nc = getD ws 0 0
@@ -75,6 +104,13 @@ module _ (ws : List ℕ) (h : Holds ws) where
         ap₂ (λ (u v : ℕ). u + v) (p ∙ ap (λ (l : List ℕ). oneIf (hasAtom a l)) (sym scalar-first)) (q ∙ ap (λ (l : List ℕ). oneIf (hasAtom a l)) (sym scalar-second))
         ∙ posted-times (h .atoms) a (rowIn ws) held-row
 
+    pub has-scalar : (a : ℕ) → hasAtom a (take ((8 + nc + no) - 8) (drop 8 ws)) ≡ ltb 0 (times a (postedAtoms (rowIn ws)))
+    has-scalar a =
+        ap (hasAtom a)
+        (part ws 8 (8 + nc + no) (nc + no) (omega arith) ∙ take-add nc no (drop 8 ws) ∙ ap (λ (l : List ℕ). take nc (drop 8 ws) ++ take no l) (drop-drop nc 8 ws)
+        ∙ sym (ap (λ r. r .conditions ++ r .outputs) (row-scalar ws z)))
+        ∙ held-has a
+
   -- ---- packed
   module _ (z : w ≡ 0 → ⊥) where
     parts : g ≤ w
@@ -104,3 +140,16 @@ module _ (ws : List ℕ) (h : Holds ws) where
     times-packed a x y p q =
         ap₂ (λ (u v : ℕ). u + v) (p ∙ ap (λ (l : List ℕ). oneIf (hasAtom a l)) (sym packed-first)) (q ∙ ap (λ (l : List ℕ). oneIf (hasAtom a l)) (sym packed-second))
         ∙ posted-times (h .atoms) a (rowIn ws) held-row
+
+    pub has-packed : (a : ℕ) → hasAtom a (ungroup (take ((8 + 3 * w) - 8) (drop 8 ws))) ≡ ltb 0 (times a (postedAtoms (rowIn ws)))
+    has-packed a =
+        let l = parts in
+        let n = h .laid .long in
+        let f = h .laid .counted .words in
+        let q : length (take (3 * g) (drop 8 ws)) ≡ 3 * g = simp (length-take, length-drop) (omega arith) in
+        ap (hasAtom a)
+        (ap ungroup (part ws 8 (8 + 3 * w) (3 * g + 3 * (w - g)) (omega arith) ∙ take-add (3 * g) (3 * (w - g)) (drop 8 ws))
+        ∙ ungroup-append g (take (3 * g) (drop 8 ws)) (take (3 * (w - g)) (drop (3 * g) (drop 8 ws))) q
+        ∙ ap (λ (l : List ℕ). ungroup (take (3 * g) (drop 8 ws)) ++ ungroup (take (3 * (w - g)) l)) (drop-drop (3 * g) 8 ws)
+        ∙ sym (ap (λ r. r .conditions ++ r .outputs) (row-packed ws z)))
+        ∙ held-has a

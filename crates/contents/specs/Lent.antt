@@ -67,6 +67,10 @@ atomCount (x ∷ p ∷ a ∷ ws) = ones (bitOr p a) + atomCount ws
 unfoldable pub hasAtom : ℕ → List ℕ → Bool
 hasAtom a cs = any (λ c. eqb (atom c) a) cs
 
+-- a word of 64 bits with its highest bit alone
+abbrev pub top : ℕ
+top = 9223372036854775808
+
 -- what the buffer of postings has to hold, before the zeros
 unfoldable pub postingsDue : Bool → List Row → List ℕ
 postingsDue stale rs = elim stale [ true ↦ [] | false ↦ sortOf (postingsOf rs) ]

@@ -1,19 +1,23 @@
 // The postings of the rows in slots, counted and compared with lent words, with no sort and no room of its own.
 ghost use mathlib.Core.Path.{_≡_};
-ghost use mathlib.Core.List.{map};
-ghost use Prim.Native.Nat.{_≤_};
+ghost use mathlib.Core.Bool.{not};
+ghost use Prim.Native.Nat.{_/_, _≤_, _<_};
+ghost use lib.Dec.{eqb, leb, ltb};
 ghost use lib.ListN.{length};
 ghost use Rattle.lists.specs.Lists.{same, sortOf};
 ghost use Rattle.lists.specs.Counts.{times};
 ghost use Rattle.model.specs.Slots.{rowIn, codesOf, ungroup};
 ghost use Rattle.model.specs.Postings.{postingsOf};
-ghost use Rattle.contents.specs.Lent.{rowsIn, Rows, Holds, postedAtoms, atomCount, hasAtom, oneIf};
+ghost use Rattle.contents.specs.Lent.{rowsIn, Rows, Holds, postedAtoms, atomCount, hasAtom, oneIf, top};
 use crate::SLOT_WORDS;
 use lists::Run;
 use slotcheck::run_count;
 
 // A posting is an atom times this, plus a position.
 const MAX_ROWS: u64 = 4096;
+
+// The highest bit of a word.
+const TOP: u64 = 9223372036854775808;
 
 // How many atoms the groups hold.
 fn atom_count(words: &[u64]) -> usize
@@ -62,42 +66,49 @@ pub fn posting_total(slots: &[u64], rows: usize) -> usize
     count
 }
 
-// Whether one of the codes is of the atom.
+// A word with the highest bit exactly if the code is of the atom.
+fn code_mark(code: u64, atom: u64) -> u64
+    requires { ⌜ atom < top ⌝ }
+    ensures { λ r. ⌜ leb top r ≡ eqb (code / 2) atom ⌝ }
+{
+    TOP - ((code / 2) ^ atom)
+}
+
+// Whether one of the codes is of the atom. All are looked at: where a search would end can hardly be guessed, and a wrong guess costs more.
 fn codes_have(codes: &[u64], atom: u64) -> bool
+    requires { ⌜ atom < top ⌝ }
     ensures { λ r. ⌜ r ≡ hasAtom atom (now (codes .entry)) ⌝ }
 {
+    let mut bits: u64 = 0;
     let mut i = 0;
     while i < codes.len() {
-        if codes[i] / 2 == atom {
-            return true;
-        }
+        bits = bits | code_mark(codes[i], atom);
         i += 1;
     }
-    false
+    TOP <= bits
 }
 
-// Whether a group of word x has the atom.
-fn group_has(x: u64, present: u64, absent: u64, atom: u64) -> bool
-    ensures { λ r. ⌜ r ≡ hasAtom atom (codesOf x present absent) ⌝ }
+// The bit of an atom where a group of word x has it, else 0.
+fn group_mark(x: u64, present: u64, absent: u64, atom: u64) -> u64
+    ensures { λ r. ⌜ not (eqb r 0) ≡ hasAtom atom (codesOf x present absent) ⌝ }
 {
     if x != atom / 64 {
-        return false;
+        return 0;
     }
-    (present | absent) & (1 << (atom % 64)) != 0
+    (present | absent) & (1 << (atom % 64))
 }
 
-// Whether one of the groups has the atom.
+// Whether one of the groups has the atom. All are looked at.
 fn groups_have(words: &[u64], atom: u64) -> bool
     ensures { λ r. ⌜ r ≡ hasAtom atom (ungroup (now (words .entry))) ⌝ }
 {
+    let mut bits: u64 = 0;
     let mut at = 0;
     while 3 <= words.len() - at {
-        if group_has(words[at], words[at + 1], words[at + 2], atom) {
-            return true;
-        }
+        bits = bits | group_mark(words[at], words[at + 1], words[at + 2], atom);
         at += 3;
     }
-    false
+    bits != 0
 }
 
 fn one_if(yes: bool) -> u64
@@ -108,7 +119,7 @@ fn one_if(yes: bool) -> u64
 
 // How often the row in a slot is posted under an atom: at most once for its conditions and once for its outputs.
 fn standing(slot: &[u64], atom: u64) -> u64
-    requires { ⌜ Holds (now slot) ⌝ }
+    requires { ⌜ Holds (now slot) ⌝ ∗ ⌜ atom < top ⌝ }
     ensures { λ r. ⌜ r ≡ times atom (postedAtoms (rowIn (now (slot .entry)))) ⌝ }
 {
     if slot[2] == 0 {
@@ -122,18 +133,35 @@ fn standing(slot: &[u64], atom: u64) -> u64
     one_if(groups_have(&slot[8..from], atom)) + one_if(groups_have(&slot[from..end], atom))
 }
 
-// How often a posting stands among those of the first rows.
-fn posted_times(slots: &[u64], rows: usize, posting: u64) -> u64
+// Whether the row in a slot is posted under an atom at all: the codes, or the groups, of both its sides stand one behind the other.
+fn stands(slot: &[u64], atom: u64) -> bool
+    requires { ⌜ Holds (now slot) ⌝ ∗ ⌜ atom < top ⌝ }
+    ensures { λ r. ⌜ r ≡ ltb 0 (times atom (postedAtoms (rowIn (now (slot .entry))))) ⌝ }
+{
+    if slot[2] == 0 {
+        let end = 8 + slot[0] as usize + slot[1] as usize;
+        return codes_have(&slot[8..end], atom);
+    }
+    let end = 8 + 3 * (slot[2] as usize);
+    groups_have(&slot[8..end], atom)
+}
+
+// Whether a posting stands less than so often among those of the first rows. Nearly every posting is asked for once, and that takes one look
+// along its row.
+fn posted_less(slots: &[u64], rows: usize, posting: u64, often: u64) -> bool
     requires { ⌜ Rows rows (now slots) ⌝ }
-    ensures { λ r. ⌜ r ≡ times posting (postingsOf (rowsIn rows (now (slots .entry)))) ⌝ }
+    ensures { λ r. ⌜ r ≡ ltb (times posting (postingsOf (rowsIn rows (now (slots .entry))))) often ⌝ }
 {
     let p = (posting % MAX_ROWS) as usize;
     if rows <= p {
-        return 0;
+        return 0 < often;
     }
     let a = SLOT_WORDS * p;
     let e = a + SLOT_WORDS;
-    standing(&slots[a..e], posting / MAX_ROWS)
+    if often == 1 {
+        return !stands(&slots[a..e], posting / MAX_ROWS);
+    }
+    standing(&slots[a..e], posting / MAX_ROWS) < often
 }
 
 // Whether the words, as many as the first rows have postings, are those postings ascending: they ascend, and none stands more often
@@ -150,7 +178,7 @@ pub fn are_postings(words: &[u64], slots: &[u64], rows: usize) -> bool
             return false;
         }
         run = run.next(x);
-        if posted_times(slots, rows, x) < run.times {
+        if posted_less(slots, rows, x, run.times) {
             return false;
         }
         i += 1;

@@ -1,10 +1,12 @@
 -- `contents::posted::are_postings`. The loop is the check of a sorted list of `lists`. Assumes nothing.
-use mathlib.Core.Path.{sym, ap, subst}
+use mathlib.Core.Path.{sym, ap, _∙_, subst}
 use Prim.Native.Nat.{_+_, _-_}
 use native.Mathlib.Omega.{arith}
-use lib.ListN.{length}
+use lib.ListN.{length, getD}
+use borrow.Author.Tests.{ltb-true, ltb-false}
 use borrow.Author.Needs.{needs}
 use Rattle.lists.specs.declared.runs.Run.{Run}
+use Rattle.lists.specs.Counts.{times}
 use Rattle.lists.proofs.Tests.{same-yes, same-no}
 use Rattle.lists.proofs.Walks.{Checked, checked-start, checked-small, checked-back, checked-many, checked-more, checked-end}
 use Rattle.model.specs.Postings.{postingsOf}
@@ -35,26 +37,29 @@ next-requires c κs =
     let k = checked-small _ _ _ _ (c .before .before .before .before .loop .inv) in
     omega (arith, c .before .before .before .before .loop .inv .far)
 
-posted-times-requires : tie.Need-posted-times-requires Inv-loop μ-loop
-posted-times-requires c κs = search needs
+posted-less-requires : tie.Need-posted-less-requires Inv-loop μ-loop
+posted-less-requires c κs = search needs
 
 returns-2 : tie.Need-returns-2 Inv-loop μ-loop
 returns-2 c =
-    let e = c .before .before .before .next .ensures in
-    sym (same-no _ _ (checked-many _ _ _ _ (c .before .before .before .before .before .before .before .before .loop .inv) (c .before .before .before .before .before .before .before .loop-test .taken) (c .before .before .before .before .if1 .left) (omega (arith, c .before .before .posted-times .ensures, ap (λ r. r .times) e, c .if2 .taken))))
+    let a = c .before .before .before .before .before .before .before .before .before .before .args in
+    let e = c .before .before .next .ensures in
+    let l = ltb-true (times (getD (a .words .now) (c .before .before .before .before .before .before .before .loop .i) 0) (postingsOf (rowsIn (a .rows) (a .slots .now)))) (c .before .before .next .result .times) (sym (c .before .posted-less .ensures) ∙ c .if2 .taken) in
+    sym (same-no _ _ (checked-many _ _ _ _ (c .before .before .before .before .before .before .before .loop .inv) (c .before .before .before .before .before .before .loop-test .taken) (c .before .before .before .if1 .left) (omega (arith, ap (λ r. r .times) e))))
 
 add-i : tie.Need-add-i Inv-loop μ-loop
 add-i c = search needs
 
 loop-less : tie.Need-loop-less Inv-loop μ-loop
-loop-less c = omega (arith, c .before .before .before .before .before .before .before .loop-test .taken)
+loop-less c = omega (arith, c .before .before .before .before .before .before .loop-test .taken)
 
 loop-again : tie.Need-loop-again Inv-loop μ-loop
 loop-again c =
-    let a = c .before .before .before .before .before .before .before .before .before .before .before .args in
-    let e = c .before .before .before .next .ensures in
-    subst (λ (r : Run). Checked (a .words .now) (postingsOf (rowsIn (a .rows) (a .slots .now))) r (c .before .before .before .before .before .before .before .before .loop .i + 1)) (sym e)
-    (checked-more _ _ _ _ (c .before .before .before .before .before .before .before .before .loop .inv) (c .before .before .before .before .before .before .before .loop-test .taken) (c .before .before .before .before .if1 .left) (omega (arith, c .before .before .posted-times .ensures, ap (λ r. r .times) e, c .if2 .left)))
+    let a = c .before .before .before .before .before .before .before .before .before .before .args in
+    let e = c .before .before .next .ensures in
+    let l = ltb-false (times (getD (a .words .now) (c .before .before .before .before .before .before .before .loop .i) 0) (postingsOf (rowsIn (a .rows) (a .slots .now)))) (c .before .before .next .result .times) (sym (c .before .posted-less .ensures) ∙ c .if2 .left) in
+    subst (λ (r : Run). Checked (a .words .now) (postingsOf (rowsIn (a .rows) (a .slots .now))) r (c .before .before .before .before .before .before .before .loop .i + 1)) (sym e)
+    (checked-more _ _ _ _ (c .before .before .before .before .before .before .before .loop .inv) (c .before .before .before .before .before .before .loop-test .taken) (c .before .before .before .if1 .left) (omega (arith, ap (λ r. r .times) e)))
 
 returns-3 : tie.Need-returns-3 Inv-loop μ-loop
 returns-3 c = sym (same-yes _ _ (checked-end _ _ _ _ (c .before .loop .inv) (c .loop-test .left)))
@@ -70,7 +75,7 @@ are-postings-spec =
     shared-slice-read-x
     returns
     next-requires
-    posted-times-requires
+    posted-less-requires
     returns-2
     add-i
     loop-less
