@@ -28,14 +28,14 @@ use Rattle.model.specs.Operations.{CloseEnd, closeEnd, close, region, regionOk}
 use Rattle.model.specs.Closing.{State, Turn, going, conflict, halted, rounds, closing}
 use Rattle.model.proofs.Priority.Steps.{refusal-cons}
 use Rattle.tier.specs.Tier.{tierOf}
-use Rattle.tier.proofs.Buffer.{entries-length}
+use Rattle.model.proofs.Slots.{entries-length}
 use Rattle.contents.specs.Lent.{lent, verdict}
 use Rattle.contents.specs.Accepted.{Accepted}
 use Rattle.contents.proofs.Accepting.{accepted, accept-refused, accept-passed}
 use Rattle.operations.proofs.Tests.{all-passed, region-no, region-yes}
 use Rattle.keeping.proofs.Holding.{held, lent-entries}
 use Rattle.search.proofs.Standing.{stands}
-use Rattle.postings.specs.Filling.{rowsIn}
+use Rattle.slots.specs.Layout.{rowsIn}
 use Rattle.publishing.specs.declared.Ending.{Ending}
 use Rattle.publishing.specs.declared.Ending.the-variants.{Going, Conflict, Stopped}
 use Rattle.closing.specs.declared.rounds.RoundEnd.{RoundEnd}

@@ -13,7 +13,7 @@ use Rattle.meter.specs.declared.Meter.{Meter}
 use Rattle.model.specs.declared.Header.{Header}
 use Rattle.model.specs.Records.{Row}
 use Rattle.model.specs.Closing.{State, Turn, going, onGoing, act, round}
-use Rattle.postings.specs.Filling.{rowsIn}
+use Rattle.slots.specs.Layout.{rowsIn}
 use Rattle.publishing.specs.declared.Ending.{Ending}
 use Rattle.publishing.specs.declared.Ending.the-variants.{Going, Conflict, Stopped}
 use Rattle.publishing.specs.declared.Ended.{Ended}

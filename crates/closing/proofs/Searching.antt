@@ -34,7 +34,7 @@ use Rattle.model.specs.Closing.{State, Turn, halted, withMeter, withHeader, rou
 use Rattle.model.proofs.CandidatesAnswer.{the-type}
 use Rattle.tier.specs.Tier.{tierOf}
 use Rattle.postings.specs.declared.searching.Searched.{Searched}
-use Rattle.postings.specs.Filling.{rowsIn}
+use Rattle.slots.specs.Layout.{rowsIn}
 use Rattle.postings.specs.Searching.{readyTicks, SearchEnd, searchEnd, foundEnd, ledgerOf as lentLedger}
 use Rattle.postings.specs.Standing.{Stands}
 use Rattle.postings.proofs.Answers.{scans, candidates-scan, candidates-search}

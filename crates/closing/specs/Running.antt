@@ -2,7 +2,7 @@
 use mathlib.Core.List.{List}
 use Prim.Native.Nat.{ℕ}
 use Rattle.model.specs.declared.Header.{Header}
-use Rattle.postings.specs.Filling.{rowsIn}
+use Rattle.slots.specs.Layout.{rowsIn}
 use Rattle.postings.specs.Standing.{Stands}
 use Rattle.publishing.specs.Standing.{Standing}
 

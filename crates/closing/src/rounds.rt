@@ -7,7 +7,7 @@ ghost use Rattle.lists.specs.Counts.{Each};
 ghost use Rattle.words.specs.Region.{region};
 ghost use Rattle.model.specs.declared.Header.{Header};
 ghost use Rattle.model.specs.Closing.{round, decidedSince, rounds};
-ghost use Rattle.postings.specs.Filling.{rowsIn};
+ghost use Rattle.slots.specs.Layout.{rowsIn};
 ghost use Rattle.publishing.specs.Turns.{state, turned, ledgerOf};
 ghost use Rattle.publishing.specs.Standing.{Standing};
 ghost use Rattle.closing.specs.Running.{Running};

@@ -12,11 +12,11 @@ use Rattle.words.specs.Region.{maxAtoms}
 use Rattle.words.proofs.Bools.{T-true, T-of}
 use Rattle.model.specs.Records.{Entry, isRow}
 use Rattle.model.specs.Slots.{slotOf, rowIn, entriesIn}
-use Rattle.model.proofs.Slots.{valid-of, row-there}
+use Rattle.model.proofs.Slots.{valid-of, row-there, entries-length}
 use Rattle.slots.specs.Layout.{Laid}
 use Rattle.slots.proofs.Storing.{laid-slot}
 use Rattle.tier.specs.Tier.{Held}
-use Rattle.tier.proofs.Buffer.{no-entry, slot-held, entries-length}
+use Rattle.tier.proofs.Buffer.{no-entry, slot-held}
 
 module _ (rows p : ℕ) (ws : List ℕ) (k : Held rows ws) (l : p < rows) where
   abbrev entry : Entry

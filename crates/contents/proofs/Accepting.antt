@@ -15,7 +15,8 @@ use Rattle.model.specs.Records.{limitsOk, rowsOf}
 use Rattle.model.specs.Slots.{slotsOf, entriesIn}
 use Rattle.model.specs.Postings.{filed}
 use Rattle.model.specs.Refusals.{Lent, refusal, accepts, lengthsOk, countsOk, entryOk, wordsOk, contentsOk, ledgerIn, lentOf}
-use Rattle.contents.specs.Lent.{lent, verdict, slotsOk, rowsIn, Rows, postingsDue}
+use Rattle.slots.specs.Layout.{rowsIn}
+use Rattle.contents.specs.Lent.{lent, verdict, slotsOk, Rows, postingsDue}
 use Rattle.contents.specs.Accepted.{Accepted}
 use Rattle.contents.proofs.Limits.{limits-one, limits-atoms, limits-some, limits-rows, counts-rows}
 use Rattle.contents.proofs.Slots.{slots-contents, slots-each, stored-of}

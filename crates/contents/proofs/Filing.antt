@@ -17,8 +17,10 @@ use Rattle.model.specs.Slots.{rowIn}
 use Rattle.model.specs.Postings.{postingsFrom, postingsOf}
 use Rattle.slots.proofs.Storing.{laid-stored}
 use Rattle.slotcheck.specs.Check.{allZero}
-use Rattle.contents.specs.Lent.{Rows, Holds, slotAt, rowsIn, postedAtoms, postingsDue}
-use Rattle.contents.proofs.Rows.{rows-length, rowsFrom, rows-all, rows-next, rows-none, rows-at, posts-none, posts-next, times-posted, times-unposted}
+use Rattle.slots.specs.Layout.{slotAt, rowsIn}
+use Rattle.contents.specs.Lent.{Rows, Holds, postedAtoms, postingsDue}
+use Rattle.slots.proofs.Rows.{rows-length, rowsFrom, rows-all, rows-next, rows-none, rows-at}
+use Rattle.contents.proofs.Rows.{posts-none, posts-next, times-posted, times-unposted}
 use Rattle.contents.proofs.Walks.{slot-code}
 use Rattle.contents.proofs.Holding.{held-few}
 

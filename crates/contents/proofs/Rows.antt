@@ -16,47 +16,8 @@ use Rattle.model.specs.Records.{Row, isRow}
 use Rattle.model.specs.Slots.{rowIn, entryIn, entriesIn}
 use Rattle.model.specs.Postings.{posting, rowPostings, postingsFrom, postingsOf}
 use Rattle.slotcheck.proofs.Slot.{row-parts}
-use Rattle.contents.specs.Lent.{slotAt, rowsIn, postedAtoms}
-
--- ---- the rows in slots
-pub length-entries : (n : ℕ) (ws : List ℕ) → length (entriesIn n ws) ≡ n
-unfolding entriesIn
-length-entries zero ws = refl
-length-entries (suc n) ws = ap suc (length-entries n (drop 168 ws))
-
-pub rows-length : (n : ℕ) (ws : List ℕ) → length (rowsIn n ws) ≡ n
-unfolding rowsIn
-rows-length n ws = length-map (entriesIn n ws) (λ e. e .row) ∙ length-entries n ws
-
-rows-cons : (n : ℕ) (ws : List ℕ) → rowsIn (suc n) ws ≡ rowIn (take 168 ws) ∷ rowsIn n (drop 168 ws)
-unfolding rowsIn entriesIn entryIn
-rows-cons n ws = refl
-
--- the rows from position p on
-abbrev pub rowsFrom : ℕ → List ℕ → ℕ → List Row
-rowsFrom n ws p = rowsIn (n - p) (drop (168 * p) ws)
-
-pub rows-all : (n : ℕ) (ws : List ℕ) → rowsFrom n ws 0 ≡ rowsIn n ws
-rows-all n ws = let e : n - 0 ≡ n = omega arith in ap (λ (k : ℕ). rowsIn k ws) e
-
-pub rows-next : (n : ℕ) (ws : List ℕ) (p : ℕ) → p < n → rowsFrom n ws p ≡ rowIn (slotAt ws p) ∷ rowsFrom n ws (p + 1)
-rows-next n ws p l =
-    let e : n - p ≡ suc (n - (p + 1)) = omega arith in
-    let s : 168 * p + 168 ≡ 168 * (p + 1) = omega arith in
-    ap (λ (k : ℕ). rowsIn k (drop (168 * p) ws)) e ∙ rows-cons (n - (p + 1)) (drop (168 * p) ws)
-    ∙ ap (λ (l : List ℕ). rowIn (slotAt ws p) ∷ rowsIn (n - (p + 1)) l) (drop-drop 168 (168 * p) ws ∙ ap (λ (k : ℕ). drop k ws) s)
-
-pub rows-none : (n : ℕ) (ws : List ℕ) (p : ℕ) → n ≤ p → rowsFrom n ws p ≡ []
-unfolding rowsIn entriesIn
-rows-none n ws p h = let e : n - p ≡ 0 = omega arith in ap (λ (k : ℕ). rowsIn k (drop (168 * p) ws)) e
-
-pub rows-at : (n : ℕ) (ws : List ℕ) (p : ℕ) (d : Row) → p < n → getD (rowsIn n ws) p d ≡ rowIn (slotAt ws p)
-rows-at zero ws p d l = absurd (omega arith)
-rows-at (suc n) ws zero d l = ap (λ (rs : List Row). getD rs 0 d) (rows-cons n ws)
-rows-at (suc n) ws (suc p) d l =
-    let s : 168 + 168 * p ≡ 168 * suc p = omega arith in
-    ap (λ (rs : List Row). getD rs (suc p) d) (rows-cons n ws) ∙ rows-at n (drop 168 ws) p d (omega arith)
-    ∙ ap (λ (l : List ℕ). rowIn (take 168 l)) (drop-drop (168 * p) 168 ws ∙ ap (λ (k : ℕ). drop k ws) s)
+use Rattle.slots.specs.Layout.{slotAt, rowsIn}
+use Rattle.contents.specs.Lent.{postedAtoms}
 
 -- ---- how many postings
 row-posts : (p : ℕ) (r : Row) → rowPostings p r ≡ map (posting p) (postedAtoms r)

@@ -14,12 +14,11 @@ use Rattle.model.specs.declared.Header.{Header}
 use Rattle.model.specs.Records.{Entry, isRow}
 use Rattle.model.specs.Slots.{slotOf, slotsOf, rowIn, entryIn, entriesIn}
 use Rattle.model.specs.Refusals.{entryOk}
-use Rattle.model.proofs.Slots.{valid-of, slot-length}
-use Rattle.slots.specs.Layout.{Stored}
+use Rattle.model.proofs.Slots.{valid-of, slot-length, entries-length}
+use Rattle.slots.specs.Layout.{Stored, slotAt}
 use Rattle.slotcheck.specs.Check.{allZero, entryOver, slotOk}
 use Rattle.slotcheck.proofs.Slot.{slot-parts}
-use Rattle.contents.specs.Lent.{slotAt, slotsOk}
-use Rattle.contents.proofs.Rows.{length-entries}
+use Rattle.contents.specs.Lent.{slotsOk}
 
 true-T : (b : Bool) → b ≡ true → T b
 true-T b e = subst T (sym e) tt
@@ -102,7 +101,7 @@ module _ (n born : ℕ) where
           (all (entryOver n born) es && same ws (rest ++ replicate (168 * tier - length rest) 0)) ≡ (all (entryOver n born) es && same ws (rest ++ zeroed (drop (168 * k) ws)))
       go true q =
           let a = laid-long es q in
-          let b = length-entries k ws in
+          let b = entries-length k ws in
           let m : 168 * tier - length rest ≡ length (drop (168 * k) ws) = omega (arith, length-drop (168 * k) ws) in
           ap (λ (j : ℕ). all (entryOver n born) es && same ws (rest ++ replicate j 0)) m
       go false q =

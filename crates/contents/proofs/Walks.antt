@@ -18,7 +18,8 @@ use Rattle.words.proofs.Masks.{test-has}
 use Rattle.model.specs.Slots.{codesOf, ungroup}
 use Rattle.slotcheck.specs.Check.{allZero, slotOk}
 use Rattle.slotcheck.proofs.Loops.{drop-three}
-use Rattle.contents.specs.Lent.{slotAt, slotsOk, atomCount, hasAtom, top}
+use Rattle.slots.specs.Layout.{slotAt}
+use Rattle.contents.specs.Lent.{slotsOk, atomCount, hasAtom, top}
 use Rattle.contents.proofs.Atoms.{has-elsewhere, has-here}
 use Rattle.contents.proofs.Slots.{slots-here, slots-last}
 

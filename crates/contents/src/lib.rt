@@ -7,7 +7,8 @@ ghost use lib.ListN.{length};
 ghost use Rattle.lists.specs.Lists.{same, pad};
 ghost use Rattle.model.specs.Records.{limitsOk, slotWords, postingWords};
 ghost use Rattle.model.specs.Refusals.{refusal, accepts, countsOk};
-ghost use Rattle.contents.specs.Lent.{lent, verdict, slotsOk, rowsIn, postingsDue, Rows};
+ghost use Rattle.slots.specs.Layout.{rowsIn};
+ghost use Rattle.contents.specs.Lent.{lent, verdict, slotsOk, postingsDue, Rows};
 
 mod posted;
 

@@ -15,9 +15,10 @@ use Rattle.model.specs.Slots.{slotsOf, entriesIn}
 use Rattle.model.specs.Postings.{filed}
 use Rattle.model.specs.Refusals.{entryOk, ledgerIn, lentOf}
 use Rattle.slotcheck.proofs.Slot.{row-parts, parts-row}
-use Rattle.contents.specs.Lent.{lent, rowsIn}
+use Rattle.slots.specs.Layout.{rowsIn}
+use Rattle.contents.specs.Lent.{lent}
 use Rattle.contents.specs.Accepted.{Accepted}
-use Rattle.contents.proofs.Rows.{length-entries}
+use Rattle.model.proofs.Slots.{entries-length}
 use Rattle.tier.specs.Tier.{tierOf, Held}
 
 below-more : (m n : ℕ) (xs : List ℕ) → m ≤ n → below m xs ≡ true → below n xs ≡ true
@@ -66,4 +67,4 @@ lent-entries h es e =
 pub accepted-lent : (h : Header) (slots postings : List ℕ) → Accepted h slots postings → lent h slots postings ≡ lentOf (ledgerIn (lent h slots postings))
 unfolding ledgerIn rowsIn
 accepted-lent h slots postings a =
-    ap₂ (λ (x y : List ℕ). lent h x y) (a .laying) (a .filing) ∙ lent-entries h (entriesIn (h .rows) slots) (length-entries (h .rows) slots)
+    ap₂ (λ (x y : List ℕ). lent h x y) (a .laying) (a .filing) ∙ lent-entries h (entriesIn (h .rows) slots) (entries-length (h .rows) slots)

@@ -16,9 +16,8 @@ use Rattle.model.specs.Records.{Entry, Ledger, limitsOk, rowsOf, withRows}
 use Rattle.model.specs.Slots.{slotsOf, entriesIn}
 use Rattle.model.specs.Refusals.{Lent, refusal, accepts, entryOk, countsOk, contentsOk, wordsOk, ledgerIn, lentOf}
 use Rattle.model.proofs.Accepting.{encoded-accepted, entries-valid}
-use Rattle.model.proofs.Slots.{decode-encode}
+use Rattle.model.proofs.Slots.{decode-encode, entries-length}
 use Rattle.model.proofs.Priority.Steps.{accepted}
-use Rattle.contents.proofs.Rows.{length-entries}
 use Rattle.keeping.specs.Good.{Good, recounted}
 
 pub recounted-lent : (l : Ledger) → lentOf (recounted l) ≡ lentOf l
@@ -60,7 +59,7 @@ accepted-good s o ts e b =
     let few : h .rows ≤ h .limits .«tier_rows» = leb-true (h .rows) (h .limits .«tier_rows») (x .0) in
     record {
       limits = T-true (limitsOk (h .limits)) (a .limits);
-      few = subst (λ (n : ℕ). n ≤ h .limits .«tier_rows») (sym (length-entries (h .rows) (s .slots))) few;
+      few = subst (λ (n : ℕ). n ≤ h .limits .«tier_rows») (sym (entries-length (h .rows) (s .slots))) few;
       epoch = ltb-true (h .epoch) (h .limits .«tier_rows») (y .0);
       attempts = leb-true (h .attempts) (h .limits .«founded_attempts») (y .1);
       born = b;

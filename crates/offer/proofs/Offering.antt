@@ -25,7 +25,7 @@ use Rattle.model.specs.Retention.{Outcome, Retained as Kept, retain, canCapture
 use Rattle.model.specs.Refusals.{Lent, refusal, accepts, ledgerIn, lentOf}
 use Rattle.model.specs.Operations.{OfferEnd, offer, capture, offerAnswer, unoffered, fitsOffer}
 use Rattle.contents.specs.Lent.{lent}
-use Rattle.contents.proofs.Rows.{length-entries}
+use Rattle.model.proofs.Slots.{entries-length}
 use Rattle.retention.specs.declared.Retention.{Retention}
 use Rattle.retention.specs.declared.Retention.the-variants as retention
 use Rattle.retention.specs.declared.Retained.{Retained}
@@ -39,7 +39,7 @@ pub may-capture : (h : Header) (slots postings : List ℕ) → mayCapture h ≡ 
 unfolding mayCapture canCapture ledgerIn
 may-capture h slots postings =
     ap (λ (n : ℕ). ltb (h .attempts) (h .limits .«founded_attempts») && (ltb 0 (h .remaining .0) && (ltb n (h .limits .«tier_rows») || ltb (h .limits .«founded_floor») n)))
-    (sym (length-entries (h .rows) slots))
+    (sym (entries-length (h .rows) slots))
 
 -- `can_capture`, test by test
 module _ (h : Header) where

@@ -23,14 +23,14 @@ use Rattle.model.specs.Slots.{rowIn}
 use Rattle.model.specs.Deduction.{deduction, deductionTicks, nextOutput as publishNext}
 use Rattle.model.specs.Refusals.{Lent, refusal, accepts, ledgerIn}
 use Rattle.model.specs.Operations.{DeduceEnd, deduce, nextOutput, positionOk, region, regionOk, cursorOk}
-use Rattle.slots.specs.Layout.{Stored}
+use Rattle.slots.specs.Layout.{Stored, slotAt, rowsIn}
 use Rattle.matching.specs.Chunks.{Kept, Matched}
 use Rattle.matching.specs.Walks.{deduced}
 use Rattle.matching.specs.Publication.{Pointed, nextEnd}
 use Rattle.matching.proofs.Cursors.{pointed-ok}
-use Rattle.contents.specs.Lent.{lent, slotAt, rowsIn}
+use Rattle.contents.specs.Lent.{lent}
 use Rattle.contents.specs.Accepted.{Accepted}
-use Rattle.contents.proofs.Rows.{rows-at}
+use Rattle.slots.proofs.Rows.{rows-at}
 use Rattle.contents.proofs.Walks.{slot-code}
 use Rattle.operations.specs.Ends.{deduceEnd, outputEnd}
 

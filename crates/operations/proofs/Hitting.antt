@@ -14,9 +14,10 @@ use Rattle.model.specs.Postings.{filed}
 use Rattle.model.specs.Closing.{hitAt}
 use Rattle.model.specs.Refusals.{Lent, refusal, accepts, ledgerIn, lentOf}
 use Rattle.model.specs.Operations.{hit, positionOk}
-use Rattle.contents.specs.Lent.{lent, rowsIn}
+use Rattle.slots.specs.Layout.{rowsIn}
+use Rattle.contents.specs.Lent.{lent}
 use Rattle.contents.specs.Accepted.{Accepted}
-use Rattle.contents.proofs.Rows.{length-entries}
+use Rattle.model.proofs.Slots.{entries-length}
 use Rattle.contents.proofs.Accepting.{accepted}
 use Rattle.tier.specs.Tier.{hitWords}
 use Rattle.tier.proofs.Buffer.{hit-held}
@@ -37,7 +38,7 @@ module _ (h : Header) (slots postings : List ℕ) (p : ℕ) where
       ap₂ (λ (x y : List ℕ). lent h x y)
       (hit-held (h .rows) p slots (held h slots postings a) l ∙ ap (λ (t : ℕ). slotsOf t (adjust hitEntry p es)) (tier-is h slots postings a))
       (a .filing ∙ ap (filed (h .limits .«tier_rows») (h .stale)) (sym (map-adjust hitEntry (λ e. e .row) p es (λ e. refl))))
-      ∙ lent-entries h (adjust hitEntry p es) (length-adjust hitEntry p es ∙ length-entries (h .rows) slots)
+      ∙ lent-entries h (adjust hitEntry p es) (length-adjust hitEntry p es ∙ entries-length (h .rows) slots)
 
   pub hit-done : refusal (accepts (lent h slots postings) true ((positionOk (lent h slots postings) p, 5) ∷ [])) ≡ none → p < h .rows →
       hitEnd (record { answer = Done; header = h; ticks = 0 }) (hitWords p slots) postings ≡ hit (lent h slots postings) p

@@ -12,9 +12,10 @@ use Rattle.model.specs.Slots.{slotsOf, entriesIn}
 use Rattle.model.specs.Postings.{filed}
 use Rattle.model.specs.Refusals.{Lent, refusal, accepts, ledgerIn, lentOf}
 use Rattle.model.specs.Operations.{begin}
-use Rattle.contents.specs.Lent.{lent, rowsIn}
+use Rattle.slots.specs.Layout.{rowsIn}
+use Rattle.contents.specs.Lent.{lent}
 use Rattle.contents.specs.Accepted.{Accepted}
-use Rattle.contents.proofs.Rows.{length-entries}
+use Rattle.model.proofs.Slots.{entries-length}
 use Rattle.contents.proofs.Accepting.{accepted}
 use Rattle.keeping.proofs.Holding.{lent-entries}
 use Rattle.operations.specs.Ends.{beginEnd}
@@ -25,7 +26,7 @@ module _ (h : Header) (slots postings : List ℕ) where
   unfolding withFull rowsIn
   full-lent a =
       ap₂ (λ (x y : List ℕ). lent (withFull h true) x y) (a .laying) (a .filing)
-      ∙ lent-entries (withFull h true) (entriesIn (h .rows) slots) (length-entries (h .rows) slots)
+      ∙ lent-entries (withFull h true) (entriesIn (h .rows) slots) (entries-length (h .rows) slots)
 
   pub begin-refused : (n : ℕ) → refusal (accepts (lent h slots postings) true []) ≡ some n →
       beginEnd (record { answer = Refused n; header = h; ticks = 0 }) slots postings ≡ begin (lent h slots postings)

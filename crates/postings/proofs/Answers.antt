@@ -23,8 +23,9 @@ use Rattle.model.specs.Slots.{entriesIn}
 use Rattle.model.specs.Postings.{postedAt, postingsOf, positions, searchTicks, Search, searched, rebuilt, candidates}
 use Rattle.model.specs.Refusals.{ledgerIn}
 use Rattle.model.specs.Operations.{candidatesAnswer, foundWords}
+use Rattle.model.proofs.Slots.{entries-length}
 use Rattle.postings.specs.Steps.{Walk, walked, walk}
-use Rattle.postings.specs.Filling.{rowsIn}
+use Rattle.slots.specs.Layout.{rowsIn}
 use Rattle.postings.specs.Searching.{look, looksAll, readyTicks, Searchable, SearchEnd, searchEnd, ledgerOf}
 use Rattle.postings.proofs.Walking.{walk-ticks, walk-whole}
 use Rattle.postings.proofs.Finding.{ticks-sort, positions-sort, found-each}
@@ -77,11 +78,6 @@ searched-sort h ps atoms m = ap (λ (n : ℕ). searched h (sortOf ps) atoms (tic
     go (Stopped k) = refl
 
 -- ---- the candidates of a ledger by its words
-pub entries-length : (n : ℕ) (ws : List ℕ) → length (entriesIn n ws) ≡ n
-unfolding entriesIn
-entries-length zero ws = refl
-entries-length (suc n) ws = ap suc (entries-length n (drop slotWords ws))
-
 -- whether all rows are scanned
 abbrev pub scans : Header → Bool
 scans h = leb (h .rows) scanRows || h .full

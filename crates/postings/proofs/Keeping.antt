@@ -21,12 +21,11 @@ use Rattle.model.specs.declared.Header.{Header}
 use Rattle.model.specs.Records.{Entry, Ledger, rowsOf, maxRows, scanRows, slotWords, isRow, withFull, withStale}
 use Rattle.model.specs.Slots.{slotOf, slotsOf, entriesIn}
 use Rattle.model.specs.Postings.{filed, postingsOf, searchTicks, Search, rebuilt, candidates}
-use Rattle.model.proofs.Slots.{valid-of, slot-length}
-use Rattle.slots.specs.Layout.{Stored}
+use Rattle.model.proofs.Slots.{valid-of, slot-length, entries-length}
+use Rattle.slots.specs.Layout.{Stored, slotAt, rowsIn}
 use Rattle.slots.proofs.Storing.{stored-slot}
-use Rattle.postings.specs.Filling.{slotAt, rowsIn}
 use Rattle.postings.specs.Standing.{Stands}
-use Rattle.postings.proofs.Answers.{entries-length, searched-header}
+use Rattle.postings.proofs.Answers.{searched-header}
 
 -- ---- from the entries that were laid out
 module _ (n tier : ℕ) (es : List Entry) where

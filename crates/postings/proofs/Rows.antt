@@ -12,10 +12,11 @@ use Rattle.model.specs.Records.{Row, slotWords, postingWords}
 use Rattle.model.specs.Slots.{rowIn, entryIn, entriesIn}
 use Rattle.model.specs.Postings.{rowPostings, postingsFrom, postingsOf}
 use Rattle.slots.specs.Cursor.{listOf}
-use Rattle.slots.specs.Layout.{conditionSide, outputSide, Laid, Stored}
+use Rattle.slots.specs.Layout.{conditionSide, outputSide, Laid, Stored, slotAt, rowsIn}
 use Rattle.slots.proofs.Storing.{laid-stored}
+use Rattle.slots.proofs.Rows.{slot-code, rowsFrom, rows-all, rows-next, rows-none, rows-length, rows-at}
 use Rattle.postings.specs.Steps.{Walk, onward, walk}
-use Rattle.postings.specs.Filling.{Filled, put, filledTo, sidePostings, Postable, RowPostable, RowsPostable, slotAt, rowsIn}
+use Rattle.postings.specs.Filling.{Filled, put, filledTo, sidePostings, Postable, RowPostable, RowsPostable}
 use Rattle.postings.proofs.Walking.{walk-append}
 use Rattle.postings.proofs.Fills.{fill-next}
 use Rattle.postings.proofs.Posting.{RowFit, row-fit, row-sides, row-short, side-short, AllFit}
@@ -78,59 +79,25 @@ module _ {ws : List ℕ} {p at n : ℕ} where
       ap (λ (l : List ℕ). walk put l (filledTo at b) m) e ∙ walk-append put cs os (filledTo at b) m q
 
 -- ---- the rows of slots
--- as the code cuts a slot out
-pub slot-code : (ws : List ℕ) (p : ℕ) → take (slotWords * p + slotWords - slotWords * p) (drop (slotWords * p) ws) ≡ slotAt ws p
-slot-code ws p =
-    let e : slotWords * p + slotWords - slotWords * p ≡ slotWords = omega arith in
-    ap (λ (n : ℕ). take n (drop (slotWords * p) ws)) e
-
--- from position p on
-unfoldable pub rowsFrom : ℕ → List ℕ → ℕ → List Row
-rowsFrom n ws p = rowsIn (n - p) (drop (slotWords * p) ws)
-
 pub rows-start : (n : ℕ) (ws : List ℕ) → postingsFrom 0 (rowsFrom n ws 0) ≡ postingsOf (rowsIn n ws)
-unfolding rowsFrom postingsOf
-rows-start n ws = ap (λ (k : ℕ). postingsFrom 0 (rowsIn k ws)) (sub-zero n)
-
-rows-more : (n : ℕ) (ws : List ℕ) (p : ℕ) → p < n → rowsFrom n ws p ≡ rowIn (slotAt ws p) ∷ rowsFrom n ws (p + 1)
-unfolding rowsFrom rowsIn entriesIn entryIn
-rows-more n ws p l =
-    let e : n - p ≡ suc (n - (p + 1)) = omega arith in
-    let d : slotWords * p + slotWords ≡ slotWords * (p + 1) = omega arith in
-    ap (λ (k : ℕ). rowsIn k (drop (slotWords * p) ws)) e
-    ∙ ap (λ (r : List ℕ). rowIn (slotAt ws p) ∷ rowsIn (n - (p + 1)) r) (drop-drop slotWords (slotWords * p) ws ∙ ap (λ (k : ℕ). drop k ws) d)
+unfolding postingsOf
+rows-start n ws = ap (postingsFrom 0) (rows-all n ws)
 
 pub rows-first : (n : ℕ) (ws : List ℕ) → 0 < n → rowsIn n ws ≡ rowIn (slotAt ws 0) ∷ rowsFrom n ws 1
-unfolding rowsFrom
 rows-first n ws l =
     let e : 0 + 1 ≡ 1 = omega arith in
-    ap (λ (k : ℕ). rowsIn k ws) (sym (sub-zero n)) ∙ rows-more n ws 0 l ∙ ap (λ (k : ℕ). rowIn (slotAt ws 0) ∷ rowsFrom n ws k) e
+    sym (rows-all n ws) ∙ rows-next n ws 0 l ∙ ap (λ (k : ℕ). rowIn (slotAt ws 0) ∷ rowsFrom n ws k) e
 
 pub rows-turn : (n : ℕ) (ws : List ℕ) (p : ℕ) → p < n →
     postingsFrom p (rowsFrom n ws p) ≡ rowPostings p (rowIn (slotAt ws p)) ++ postingsFrom (p + 1) (rowsFrom n ws (p + 1))
 unfolding postingsFrom
 rows-turn n ws p l =
-    ap (postingsFrom p) (rows-more n ws p l)
+    ap (postingsFrom p) (rows-next n ws p l)
     ∙ ap (λ (k : ℕ). rowPostings p (rowIn (slotAt ws p)) ++ postingsFrom k (rowsFrom n ws (p + 1))) (sym (add-one p))
 
 pub rows-end : (n : ℕ) (ws : List ℕ) (p : ℕ) → n ≤ p → postingsFrom p (rowsFrom n ws p) ≡ []
-unfolding rowsFrom rowsIn entriesIn postingsFrom
-rows-end n ws p l =
-    let e : n - p ≡ 0 = omega arith in ap (λ (k : ℕ). postingsFrom p (rowsIn k (drop (slotWords * p) ws))) e
-
-pub rows-length : (n : ℕ) (ws : List ℕ) → length (rowsIn n ws) ≡ n
-unfolding rowsIn entriesIn
-rows-length zero ws = refl
-rows-length (suc n) ws = ap suc (rows-length n (drop slotWords ws))
-
-pub rows-at : (n : ℕ) (ws : List ℕ) (p : ℕ) (d : Row) → p < n → getD (rowsIn n ws) p d ≡ rowIn (slotAt ws p)
-unfolding rowsIn entriesIn entryIn
-rows-at zero ws p d l = absurd (omega arith)
-rows-at (suc n) ws zero d l = refl
-rows-at (suc n) ws (suc p) d l =
-    let e : slotWords + slotWords * p ≡ slotWords * suc p = omega arith in
-    rows-at n (drop slotWords ws) p d (omega arith)
-    ∙ ap (λ (r : List ℕ). rowIn (take slotWords r)) (drop-drop (slotWords * p) slotWords ws ∙ ap (λ (k : ℕ). drop k ws) e)
+unfolding postingsFrom
+rows-end n ws p l = ap (postingsFrom p) (rows-none n ws p l)
 
 -- ---- a filling of all rows
 module _ {rows : ℕ} {ws : List ℕ} {n : ℕ} where

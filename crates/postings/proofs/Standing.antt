@@ -16,14 +16,15 @@ use Rattle.model.specs.Records.{Row, maxRows, postingWords}
 use Rattle.model.specs.Slots.{rowIn}
 use Rattle.model.specs.Postings.{postingsOf, filed}
 use Rattle.slots.specs.Cursor.{listOf}
-use Rattle.slots.specs.Layout.{conditionSide, outputSide}
+use Rattle.slots.specs.Layout.{conditionSide, outputSide, slotAt, rowsIn}
 use Rattle.slots.proofs.Storing.{laid-stored}
-use Rattle.postings.specs.Filling.{slotAt, rowsIn, RowsPostable}
+use Rattle.postings.specs.Filling.{RowsPostable}
 use Rattle.postings.specs.Searching.{zeroFirst, Searchable}
 use Rattle.postings.specs.Standing.{Stands}
 use Rattle.postings.proofs.Posting.{AllFit, postings-short, postings-low, postings-placed, zeros-of}
 use Rattle.postings.proofs.Zeros.{zeros-first}
-use Rattle.postings.proofs.Rows.{rowsFrom, rows-first, rows-length, all-rows}
+use Rattle.slots.proofs.Rows.{rowsFrom, rows-length}
+use Rattle.postings.proofs.Rows.{rows-first, all-rows}
 use Rattle.postings.proofs.Filing.{filed-all, filed-length}
 
 -- the rows of a ledger, and their postings

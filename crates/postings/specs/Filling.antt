@@ -15,7 +15,7 @@ use Rattle.model.specs.Slots.{entriesIn}
 use Rattle.model.specs.Postings.{posting, postingsOf, filed}
 use Rattle.slots.specs.declared.Side.{Side}
 use Rattle.slots.specs.Cursor.{Sound, listOf}
-use Rattle.slots.specs.Layout.{Stored}
+use Rattle.slots.specs.Layout.{Stored, slotAt}
 use Rattle.postings.specs.declared.filling.Posted.{Posted}
 use Rattle.postings.specs.Steps.{Walk, walked}
 
@@ -45,13 +45,6 @@ put x s = record { next = s .next + 1; words = set (s .words) (s .next) x }
 
 abbrev pub posted : Posted → List ℕ → Walk Filled
 posted r ws = walked (r .end) (filledTo (r .next) ws)
-
--- ---- rows in slots
-abbrev pub slotAt : List ℕ → ℕ → List ℕ
-slotAt ws p = take slotWords (drop (slotWords * p) ws)
-
-unfoldable pub rowsIn : ℕ → List ℕ → List Row
-rowsIn n ws = map (λ e. e .row) (entriesIn n ws)
 
 -- how a rebuilding ends: all postings in order, or none
 unfoldable pub refiled : ℕ → List Row → Tick → Walk Filled

@@ -7,8 +7,7 @@ use Rattle.words.specs.Region.{maxAtoms}
 use Rattle.model.specs.declared.Header.{Header}
 use Rattle.model.specs.Records.{maxRows, slotWords}
 use Rattle.model.specs.Postings.{filed}
-use Rattle.slots.specs.Layout.{Stored}
-use Rattle.postings.specs.Filling.{slotAt, rowsIn}
+use Rattle.slots.specs.Layout.{Stored, slotAt, rowsIn}
 
 pub record Stands (h : Header) (slots postings : List ℕ) : Type 0 where
   pub atoms : h .limits .atoms ≤ maxAtoms

@@ -26,7 +26,7 @@ use Rattle.model.proofs.Deduction.{the-type}
 use Rattle.model.proofs.DeduceAnswer as answer
 use Rattle.matching.specs.Walks.{deduced}
 use Rattle.tier.specs.Tier.{Held, hitWords}
-use Rattle.postings.proofs.Rows.{rows-at, slot-code}
+use Rattle.slots.proofs.Rows.{rows-at, slot-code}
 use Rattle.publishing.specs.Turns.{ledgerOf, state, turned, follow}
 use Rattle.publishing.specs.declared.Ended.{Ended}
 use Rattle.publishing.proofs.Standing.{row-is, hit-entries, hit-rows}

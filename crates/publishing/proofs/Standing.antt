@@ -14,13 +14,12 @@ use Rattle.words.proofs.Bools.{T-of, T-true}
 use Rattle.model.specs.declared.Header.{Header}
 use Rattle.model.specs.Records.{Row, Entry, isRow, rowsOf, rowAt, hitEntry}
 use Rattle.model.specs.Slots.{slotsOf, entriesIn, rowIn}
-use Rattle.model.proofs.Slots.{AllValid, decode-encode}
-use Rattle.slots.specs.Layout.{Stored}
+use Rattle.model.proofs.Slots.{AllValid, decode-encode, entries-length}
+use Rattle.slots.specs.Layout.{Stored, slotAt, rowsIn}
 use Rattle.slots.proofs.Storing.{stored-slot}
 use Rattle.tier.specs.Tier.{tierOf, Held, hitWords}
-use Rattle.tier.proofs.Buffer.{holding, rows-fit, no-entry, slot-held, hit-held, slots-length, valid-adjust, entries-length}
-use Rattle.postings.specs.Filling.{slotAt, rowsIn}
-use Rattle.postings.proofs.Rows.{rows-at, slot-code}
+use Rattle.tier.proofs.Buffer.{holding, rows-fit, no-entry, slot-held, hit-held, slots-length, valid-adjust}
+use Rattle.slots.proofs.Rows.{rows-at, slot-code}
 use Rattle.publishing.specs.Turns.{ledgerOf}
 use Rattle.publishing.specs.Standing.{Standing}
 

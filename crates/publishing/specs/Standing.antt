@@ -8,7 +8,7 @@ use Rattle.words.specs.Region.{region, isRegion, maxAtoms}
 use Rattle.model.specs.Records.{Row, isRow}
 use Rattle.model.specs.Slots.{entriesIn}
 use Rattle.tier.specs.Tier.{Held}
-use Rattle.postings.specs.Filling.{rowsIn}
+use Rattle.slots.specs.Layout.{rowsIn}
 
 -- the slots hold the rows rs, over n atoms, and nothing else; held and cut are a region over n atoms
 pub record Standing (n rows : ℕ) (rs : List Row) (slots held cut : List ℕ) : Type 0 where

@@ -21,7 +21,7 @@ use Rattle.model.specs.Retention.{Compared, Verdict, protected, place, placeRea
 use Rattle.model.specs.Refusals.{Lent, ledgerIn, lentOf}
 use Rattle.contents.specs.Lent.{lent}
 use Rattle.contents.specs.Accepted.{Accepted}
-use Rattle.contents.proofs.Rows.{length-entries}
+use Rattle.model.proofs.Slots.{entries-length}
 use Rattle.keeping.proofs.Holding.{accepted-lent}
 use Rattle.comparing.specs.Passes.{comparedBy}
 use Rattle.retention.specs.declared.Room.{Room}
@@ -134,7 +134,7 @@ module _ (h : Header) (slots postings : List ℕ) (acc : Accepted h slots postin
       paid-as : {r : Read} → r ≡ pay cost a m → endOf (carried (ledgerIn s) p hits (verdictOf room (comparedBy f 0 es) p) r) ≡ admitEnd s f p hits a m
       paid-as q =
           ap (λ (r : Read). endOf (carried (ledgerIn s) p hits (verdictOf room (comparedBy f 0 es) p) r))
-          (q ∙ ap (λ (k : ℕ). pay (prepareReads p + roomReads room k) a m) (sym (length-entries (h .rows) slots)) ∙ ap (λ (k : ℕ). pay k a m) (sym (place-reads (h .limits) es (comparedBy f 0 es) p room n told)))
+          (q ∙ ap (λ (k : ℕ). pay (prepareReads p + roomReads room k) a m) (sym (entries-length (h .rows) slots)) ∙ ap (λ (k : ℕ). pay k a m) (sym (place-reads (h .limits) es (comparedBy f 0 es) p room n told)))
           ∙ as-ended verdict-is
 
       pub admit-declined : {b : Account} {k : Meter} → read.Declined b k ≡ pay cost a m → declined b k ≡ admitEnd s f p hits a m
@@ -150,5 +150,5 @@ module _ (h : Header) (slots postings : List ℕ) (acc : Accepted h slots postin
       unfolding ledgerIn
       admit-paid {b} {k} q w i =
           ap₂ {C = End} (λ (x : ℕ) (y : Lent). record { outcome = Adds x; ledger = y; account = b; meter = k })
-          (i ∙ ap (positionOf room) (sym (length-entries (h .rows) slots))) w
+          (i ∙ ap (positionOf room) (sym (entries-length (h .rows) slots))) w
           ∙ ap endOf (carried-out (ledgerIn s) p p hits f b k room n told) ∙ paid-as q

@@ -16,9 +16,9 @@ use Rattle.words.specs.Region.{maxAtoms}
 use Rattle.words.proofs.Bools.{T-true, T-of}
 use Rattle.model.specs.Records.{Entry, isRow}
 use Rattle.model.specs.Slots.{slotOf, slotsOf, entriesIn}
-use Rattle.model.proofs.Slots.{Valid, valid-of, AllValid, slot-length, decode-encode}
+use Rattle.model.proofs.Slots.{Valid, valid-of, AllValid, slot-length, decode-encode, entries-length}
 use Rattle.tier.specs.Tier.{tierOf, Held, keptBy, closedUp}
-use Rattle.tier.proofs.Buffer.{holding, entries-length, valid-at, slots-length, put-slot}
+use Rattle.tier.proofs.Buffer.{holding, valid-at, slots-length, put-slot}
 use Rattle.retention.specs.declared.Room.{Room}
 use Rattle.retention.specs.declared.Room.the-variants.{After, First, Victim, Protected}
 use Rattle.retention.specs.Places.{placedBy, Fits, slotPut}

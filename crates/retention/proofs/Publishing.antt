@@ -15,7 +15,7 @@ use Rattle.keeping.proofs.Holding.{tier-is, held, row-more}
 use Rattle.proposals.specs.Proposed.{Proposed}
 use Rattle.comparing.specs.Passes.{comparedBy}
 use Rattle.tier.specs.Tier.{tierOf, Held}
-use Rattle.tier.proofs.Buffer.{entries-length}
+use Rattle.model.proofs.Slots.{entries-length}
 use Rattle.writer.specs.Forms.{newEntry}
 use Rattle.retention.specs.declared.Room.{Room}
 use Rattle.retention.specs.Places.{roomOf, placedBy, Fits, Placing}

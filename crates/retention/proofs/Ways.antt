@@ -9,7 +9,8 @@ use Rattle.words.specs.Region.{maxAtoms}
 use Rattle.model.specs.Records.{Entry, isRow}
 use Rattle.model.specs.Slots.{slotsOf, rowIn, entriesIn}
 use Rattle.tier.specs.Tier.{tierOf, Held, closedUp}
-use Rattle.tier.proofs.Buffer.{holding, entries-length}
+use Rattle.model.proofs.Slots.{entries-length}
+use Rattle.tier.proofs.Buffer.{holding}
 use Rattle.writer.specs.Forms.{newEntry}
 use Rattle.retention.specs.declared.Room.{Room}
 use Rattle.retention.specs.declared.Room.the-variants.{After, First, Victim, Protected}

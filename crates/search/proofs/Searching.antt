@@ -21,11 +21,11 @@ use Rattle.model.specs.Operations.{CandidatesEnd, candidates}
 use Rattle.contents.specs.Lent.{lent}
 use Rattle.contents.proofs.Accepting.{accepted}
 use Rattle.postings.specs.declared.searching.Searched.{Searched}
-use Rattle.postings.specs.Filling.{rowsIn}
+use Rattle.slots.specs.Layout.{rowsIn}
 use Rattle.postings.specs.Searching.{SearchEnd, searchEnd, foundEnd}
 use Rattle.postings.proofs.Keeping.{candidates-keep}
 use Rattle.search.specs.Ends.{candidatesEnd}
-use Rattle.search.proofs.Standing.{same-rows, lent-under}
+use Rattle.search.proofs.Standing.{lent-under}
 
 some-none : (n : ℕ) → some n ≡ none → ⊥
 some-none n e = let z : _≡_ {A = ℕ} 0 1 = cc in omega arith
@@ -78,7 +78,7 @@ module _ (h : Header) (slots words answer : List ℕ) where
         let after : lent (r .header) slots ps ≡ lentOf (record { header = x .header; entries = entriesIn (h .rows) slots }) =
         lent-under h slots words (accepted h slots words (others h answer) [] e) (r .header) ps
         (ap (λ (y : Header). y .limits) same ∙ k .0) (ap (λ (y : Header). y .rows) same ∙ k .1)
-        (p ∙ ap (filed (h .limits .«tier_rows») (r .header .stale)) (sym (same-rows (h .rows) slots)))
+        p
         ∙ ap (λ (y : Header). lentOf (record { header = y; entries = entriesIn (h .rows) slots })) same in
         ap (λ (n : ℕ). candidatesEnd (record { answer = r .answer; header = r .header; meter = r .meter; ticks = n }) slots ps found) u
         ∙ ap₂ ended q after ∙ sym (rw (e, candidates))

@@ -8,17 +8,11 @@ use Rattle.model.specs.Records.{Entry, rowsOf, withRows}
 use Rattle.model.specs.Slots.{slotsOf, entriesIn}
 use Rattle.model.specs.Postings.{filed}
 use Rattle.model.specs.Refusals.{lentOf}
+use Rattle.slots.specs.Layout.{rowsIn}
 use Rattle.contents.specs.Lent.{lent}
-use Rattle.contents.specs.Lent as contents
 use Rattle.contents.specs.Accepted.{Accepted}
-use Rattle.contents.proofs.Rows.{length-entries}
-use Rattle.postings.specs.Filling as postings
+use Rattle.model.proofs.Slots.{entries-length}
 use Rattle.postings.specs.Standing.{Stands}
-
--- the rows in slots, as either crate names them
-pub same-rows : (n : ℕ) (ws : List ℕ) → contents.rowsIn n ws ≡ postings.rowsIn n ws
-unfolding contents.rowsIn postings.rowsIn
-same-rows n ws = refl
 
 module _ (h : Header) (slots words : List ℕ) (a : Accepted h slots words) where
   pub stands : Stands h slots words
@@ -28,14 +22,14 @@ module _ (h : Header) (slots words : List ℕ) (a : Accepted h slots words) wher
     most = a .most;
     long = a .long;
     stored = a .stored;
-    filing = a .filing ∙ ap (filed (h .limits .«tier_rows») (h .stale)) (same-rows (h .rows) slots);
+    filing = a .filing;
   }
 
   -- under a header k with the same limits and rows, and with the postings that it asks for
   pub lent-under : (k : Header) (ps : List ℕ) → k .limits ≡ h .limits → k .rows ≡ h .rows →
-      ps ≡ filed (h .limits .«tier_rows») (k .stale) (contents.rowsIn (h .rows) slots) →
+      ps ≡ filed (h .limits .«tier_rows») (k .stale) (rowsIn (h .rows) slots) →
       lent k slots ps ≡ lentOf (record { header = k; entries = entriesIn (h .rows) slots })
-  unfolding lentOf withRows rowsOf contents.rowsIn
+  unfolding lentOf withRows rowsOf rowsIn
   lent-under k ps l r p =
       let es : List Entry = entriesIn (h .rows) slots in
       let tier : h .limits .«tier_rows» ≡ k .limits .«tier_rows» = ap (λ (x : LearningLimits). x .«tier_rows») (sym l) in
@@ -43,4 +37,4 @@ module _ (h : Header) (slots words : List ℕ) (a : Accepted h slots words) wher
       (a .laying ∙ ap (λ (t : ℕ). slotsOf t es) tier)
       (p ∙ ap (λ (t : ℕ). filed t (k .stale) (map (λ e. e .row) es)) tier)
       ∙ ap (λ (n : ℕ). lent (withRows k n) (slotsOf (k .limits .«tier_rows») es) (filed (k .limits .«tier_rows») (k .stale) (map (λ e. e .row) es)))
-      (r ∙ sym (length-entries (h .rows) slots))
+      (r ∙ sym (entries-length (h .rows) slots))

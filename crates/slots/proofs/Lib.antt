@@ -7,3 +7,4 @@ pub mod Words
 pub mod Canon
 pub mod Storing
 pub mod Checked
+pub mod Rows

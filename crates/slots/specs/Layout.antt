@@ -1,14 +1,14 @@
 -- 01, Slot: "conditions, outputs, total groups, condition groups (both 0 = scalar), .., then the body .. conditions first". The two sides of a slot. Assumes nothing.
 use mathlib.Core.Path.{_≡_}
 use mathlib.Core.Bool.{true, false}
-use mathlib.Core.List.{List, _∷_, _++_}
+use mathlib.Core.List.{List, _∷_, _++_, map}
 use Prim.Native.Nat.{ℕ, _+_, _-_, _*_, _≤_}
 use lib.Dec.{T, eqb}
-use lib.ListN.{length, getD}
+use lib.ListN.{length, getD, take, drop}
 use Rattle.lists.specs.Lists.{pad}
 use Rattle.words.specs.Region.{maxAtoms}
 use Rattle.model.specs.Records.{Row, isRow, slotWords, maxConditions, maxOutputs}
-use Rattle.model.specs.Slots.{slotOf, rowIn, entryIn}
+use Rattle.model.specs.Slots.{slotOf, rowIn, entryIn, entriesIn}
 use Rattle.slots.specs.declared.Side.{Side}
 use Rattle.slots.specs.Cursor.{listOf, Sound}
 
@@ -55,3 +55,10 @@ unfoldable pub proposal : Row → List ℕ
 proposal r =
     pad slotWords
     (length (r .conditions) ∷ length (r .outputs) ∷ 0 ∷ 0 ∷ 0 ∷ 0 ∷ 0 ∷ 0 ∷ (r .conditions ++ r .outputs))
+
+-- ---- slots one behind the other: the slot at a position, and the rows of the first n
+abbrev pub slotAt : List ℕ → ℕ → List ℕ
+slotAt ws p = take slotWords (drop (slotWords * p) ws)
+
+unfoldable pub rowsIn : ℕ → List ℕ → List Row
+rowsIn n ws = map (λ e. e .row) (entriesIn n ws)

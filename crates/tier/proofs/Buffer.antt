@@ -14,7 +14,7 @@ use Rattle.words.specs.Region.{maxAtoms}
 use Rattle.model.specs.Records.{Row, Entry, isRow, slotWords, plus, hitEntry, withHits, withDelivered}
 use Rattle.model.specs.Slots.{slotOf, slotsOf, entryIn, entriesIn, flag}
 use Rattle.model.proofs.Cover.{and-left, and-right}
-use Rattle.model.proofs.Slots.{Valid, valid-of, AllValid, slot-length, decode-encode}
+use Rattle.model.proofs.Slots.{Valid, valid-of, AllValid, slot-length, decode-encode, entries-length}
 use Rattle.tier.specs.Tier.{tierOf, Held, wordAt, hitWords, hitsAdded, markedDelivered, sharedOut}
 
 -- ---- the slots one after another
@@ -186,11 +186,6 @@ length-adjust f zero (e ∷ es) = refl
 length-adjust f (suc p) (e ∷ es) = ap suc (length-adjust f p es)
 
 -- ---- a held buffer
-pub entries-length : (rows : ℕ) (ws : List ℕ) → length (entriesIn rows ws) ≡ rows
-unfolding entriesIn
-entries-length zero ws = refl
-entries-length (suc n) ws = ap suc (entries-length n (drop 168 ws))
-
 all-valid : (n : ℕ) (es : List Entry) → T (all (λ e. isRow n (e .row)) es) → AllValid es
 unfolding all
 all-valid n [] t = tt

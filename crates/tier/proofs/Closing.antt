@@ -11,9 +11,9 @@ use borrow.Rule.Slice.PartMut.{putMid, midOf, post-is, mid-len}
 use Rattle.lists.specs.Lists.{pad, zeroed}
 use Rattle.model.specs.Records.{Entry}
 use Rattle.model.specs.Slots.{slotOf, slotsOf, entriesIn}
-use Rattle.model.proofs.Slots.{Valid, AllValid, slot-length}
+use Rattle.model.proofs.Slots.{Valid, AllValid, slot-length, entries-length}
 use Rattle.tier.specs.Tier.{tierOf, Held, keptBy, moved, keptWords, keptPlace, closedUp, movedDown}
-use Rattle.tier.proofs.Buffer.{laid, laid-nil, laid-cons, laid-append, laid-length, valid-take, valid-drop, holding, entries-length}
+use Rattle.tier.proofs.Buffer.{laid, laid-nil, laid-cons, laid-append, laid-length, valid-take, valid-drop, holding}
 
 moved-length : (from to : ℕ) (ws : List ℕ) → to ≤ from → 168 * from + 168 ≤ length ws → length (moved from to ws) ≡ length ws
 unfolding moved

@@ -9,9 +9,9 @@ use Rattle.lists.specs.Lists.{adjust}
 use Rattle.model.specs.Records.{Entry, withHits}
 use Rattle.model.specs.Slots.{slotsOf, entriesIn}
 use Rattle.model.specs.Retention.{halved}
-use Rattle.model.proofs.Slots.{AllValid}
+use Rattle.model.proofs.Slots.{AllValid, entries-length}
 use Rattle.tier.specs.Tier.{tierOf, Held}
-use Rattle.tier.proofs.Buffer.{no-entry, word-hits, hits-set, holding, slots-length, entries-length}
+use Rattle.tier.proofs.Buffer.{no-entry, word-hits, hits-set, holding, slots-length}
 
 -- the first n halved
 unfoldable pub halvedTo : ℕ → List Entry → List Entry

@@ -14,7 +14,8 @@ use Rattle.model.specs.Records.{Entry}
 use Rattle.model.specs.Slots.{entriesIn}
 use Rattle.model.specs.Retention.{before, victimFrom, victim}
 use Rattle.tier.specs.Tier.{Held, wordAt, lesserOf}
-use Rattle.tier.proofs.Buffer.{no-entry, hits-at, born-at, entries-length}
+use Rattle.model.proofs.Slots.{entries-length}
+use Rattle.tier.proofs.Buffer.{no-entry, hits-at, born-at}
 
 -- ---- `lesser` by its four ways
 module _ (ws : List ℕ) (at i : ℕ) where

@@ -20,8 +20,8 @@ use Rattle.model.specs.Transfers.{Transfer, starting, seedRows, markFor, seedin
 use Rattle.model.specs.Transfers as transfers
 use Rattle.model.specs.Refusals.{Lent, refusal, accepts, ledgerIn, lentOf}
 use Rattle.model.specs.Operations.{TransferEnd, transferRefusal, untransferred, transferAnswer, transferEnd as endOf, seed, deliver}
-use Rattle.slots.specs.Layout.{Stored}
-use Rattle.contents.specs.Lent.{lent, verdict, slotAt}
+use Rattle.slots.specs.Layout.{Stored, slotAt}
+use Rattle.contents.specs.Lent.{lent, verdict}
 use Rattle.contents.specs.Accepted.{Accepted}
 use Rattle.contents.proofs.Accepting.{orElse, accepts-later, accept-refused, accept-passed, verdict-some}
 use Rattle.keeping.specs.Stood.{Stood}

@@ -6,7 +6,7 @@ use native.Mathlib.Omega.{arith}
 use lib.ListN.{take, drop}
 use lib.Seq.{drop-drop}
 use Rattle.model.specs.Slots.{entryIn, entriesIn}
-use Rattle.contents.specs.Lent.{slotAt}
+use Rattle.slots.specs.Layout.{slotAt}
 use Rattle.contents.proofs.Walks.{slot-code}
 
 pub entries-drop : (n : ℕ) (ws : List ℕ) (i : ℕ) → i < n → drop i (entriesIn n ws) ≡ entryIn (slotAt ws i) ∷ drop (i + 1) (entriesIn n ws)

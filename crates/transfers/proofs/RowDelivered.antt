@@ -20,8 +20,8 @@ use Rattle.model.specs.declared.Header.{Header}
 use Rattle.model.specs.Records.{Entry, Ledger, plus, literals, withHits, withDelivered}
 use Rattle.model.specs.Slots.{rowIn, entryIn}
 use Rattle.model.specs.Transfers.{Transfer, Delivery, whole, stopped, ticked, receive, changeAt, passesOver, deliverRows}
-use Rattle.slots.specs.Layout.{Stored, Laid}
-use Rattle.contents.specs.Lent.{lent, slotAt}
+use Rattle.slots.specs.Layout.{Stored, Laid, slotAt}
+use Rattle.contents.specs.Lent.{lent}
 use Rattle.contents.proofs.Walks.{slot-code}
 use Rattle.tier.specs.Tier.{hitsAdded, sharedOut}
 use Rattle.keeping.specs.Stood.{Stood}

@@ -13,8 +13,7 @@ use Rattle.model.specs.declared.Header.{Header}
 use Rattle.model.specs.Records.{Entry, Ledger}
 use Rattle.model.specs.Slots.{entryIn, entriesIn}
 use Rattle.model.specs.Transfers.{Transfer, Delivery, deliverRows}
-use Rattle.slots.specs.Layout.{Stored}
-use Rattle.contents.specs.Lent.{slotAt}
+use Rattle.slots.specs.Layout.{Stored, slotAt}
 use Rattle.keeping.specs.Stood.{Stood}
 use Rattle.keeping.proofs.Standing.{stood-accepted, stood-rows, stood-entries}
 use Rattle.transfers.specs.declared.receiving.Reach.{Reach}

@@ -14,8 +14,7 @@ use Rattle.model.specs.declared.Header.{Header}
 use Rattle.model.specs.Records.{maxRows, maxOutputs, slotWords}
 use Rattle.model.specs.Transfers.{Transfer}
 use Rattle.model.specs.Transfers as transfers
-use Rattle.slots.specs.Layout.{Stored}
-use Rattle.contents.specs.Lent.{slotAt}
+use Rattle.slots.specs.Layout.{Stored, slotAt}
 use Rattle.keeping.specs.Stood.{Stood}
 use Rattle.retention.specs.declared.Retained.{Retained}
 use Rattle.transfers.specs.declared.receiving.Reach.{Reach}

@@ -8,7 +8,8 @@ use denote.Ref.{now}
 use lib.ListN.{length, getD}
 use Rattle.model.specs.Records.{Row, Entry}
 use Rattle.model.specs.Slots.{rowIn, entriesIn}
-use Rattle.tier.proofs.Buffer.{no-entry, rows-fit, entries-length}
+use Rattle.model.proofs.Slots.{entries-length}
+use Rattle.tier.proofs.Buffer.{no-entry, rows-fit}
 use Rattle.comparing.proofs.Holding.{held-laid, held-row}
 use Rattle.comparing.proofs.Joining.{Beside}
 use Rattle.comparing.proofs.Advance.{Advance, advance-start, advance-found, advance-declined, advance-stopped, advance-turn, advance-end}

@@ -9,7 +9,8 @@ use lib.ListN.{length, getD}
 use Rattle.words.specs.Region.{has}
 use Rattle.model.specs.Records.{Row, Entry}
 use Rattle.model.specs.Slots.{rowIn, entriesIn}
-use Rattle.tier.proofs.Buffer.{no-entry, rows-fit, entries-length}
+use Rattle.model.proofs.Slots.{entries-length}
+use Rattle.tier.proofs.Buffer.{no-entry, rows-fit}
 use Rattle.comparing.proofs.Holding.{held-laid, held-row}
 use Rattle.comparing.proofs.Sweeping.{Swept}
 use Rattle.comparing.proofs.Sweep.{Sweep, sweep-start, sweep-turn, sweep-not, sweep-end}

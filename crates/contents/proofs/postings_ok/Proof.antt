@@ -9,7 +9,8 @@ use borrow.Author.Needs.{needs}
 use Rattle.lists.specs.Lists.{same, pad}
 use Rattle.lists.proofs.Pads.{rest-part}
 use Rattle.slotcheck.specs.Check.{allZero}
-use Rattle.contents.specs.Lent.{rowsIn, postingsDue}
+use Rattle.slots.specs.Layout.{rowsIn}
+use Rattle.contents.specs.Lent.{postingsDue}
 use Rattle.contents.proofs.Filing.{total-few, stale-all, due-no, due-rest}
 use Rattle.contents.proofs.postings_ok.Statement.{statement}
 use Rattle.contents.proofs.postings_ok.Tie as tie

@@ -9,7 +9,7 @@ use denote.Ref.{now}
 use Rattle.words.specs.Region.{foundAt, nextFrom}
 use Rattle.model.specs.Records.{Entry}
 use Rattle.model.specs.Slots.{entriesIn}
-use Rattle.tier.proofs.Buffer.{entries-length}
+use Rattle.model.proofs.Slots.{entries-length}
 use Rattle.retention.proofs.Places.{room-first, room-after, room-protected, room-victim}
 use Rattle.retention.proofs.find_room.Statement.{statement}
 use Rattle.retention.proofs.find_room.Tie as tie

@@ -8,7 +8,7 @@ use denote.Ref.{now}
 use Rattle.model.specs.Records.{Entry}
 use Rattle.model.specs.Slots.{slotsOf, entriesIn}
 use Rattle.model.specs.Retention.{halved}
-use Rattle.tier.proofs.Buffer.{entries-length}
+use Rattle.model.proofs.Slots.{entries-length}
 use Rattle.retention.proofs.Settling.{settle-over, settle-on}
 use Rattle.retention.proofs.settle.Statement.{statement}
 use Rattle.retention.proofs.settle.Tie as tie

@@ -10,7 +10,7 @@ use Rattle.lists.specs.Counts.{times}
 use Rattle.lists.proofs.Tests.{same-yes, same-no}
 use Rattle.lists.proofs.Walks.{Checked, checked-start, checked-small, checked-back, checked-many, checked-more, checked-end}
 use Rattle.model.specs.Postings.{postingsOf}
-use Rattle.contents.specs.Lent.{rowsIn}
+use Rattle.slots.specs.Layout.{rowsIn}
 use Rattle.contents.proofs.posted.are_postings.Statement.{statement}
 use Rattle.contents.proofs.posted.are_postings.Tie as tie
 

@@ -6,7 +6,7 @@ use lib.Dec.{ltb}
 use borrow.Author.Needs.{needs}
 use Rattle.lists.specs.Counts.{times}
 use Rattle.model.specs.Postings.{postingsOf}
-use Rattle.contents.specs.Lent.{rowsIn}
+use Rattle.slots.specs.Layout.{rowsIn}
 use Rattle.contents.proofs.Filing.{holds-code, posted-none, posted-code, none-less}
 use Rattle.contents.proofs.posted.posted_less.Statement.{statement}
 use Rattle.contents.proofs.posted.posted_less.Tie as tie

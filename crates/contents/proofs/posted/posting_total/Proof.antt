@@ -7,8 +7,9 @@ use lib.ListN.{length}
 use borrow.Author.Needs.{needs}
 use Rattle.model.specs.Slots.{rowIn}
 use Rattle.model.specs.Postings.{postingsFrom, postingsOf}
-use Rattle.contents.specs.Lent.{Holds, slotAt, rowsIn, postedAtoms}
-use Rattle.contents.proofs.Rows.{rowsFrom}
+use Rattle.slots.specs.Layout.{slotAt, rowsIn}
+use Rattle.contents.specs.Lent.{Holds, postedAtoms}
+use Rattle.slots.proofs.Rows.{rowsFrom}
 use Rattle.contents.proofs.Holding.{held-few}
 use Rattle.contents.proofs.Filing.{holds-at, total-start, total-next, total-end}
 use Rattle.contents.proofs.Walks.{slot-code}

@@ -11,9 +11,11 @@ use Rattle.model.specs.Records.{postingWords}
 use Rattle.model.specs.Slots.{rowIn}
 use Rattle.model.specs.Postings.{rowPostings, postingsFrom, postingsOf}
 use Rattle.postings.specs.Steps.{onward, walk}
-use Rattle.postings.specs.Filling.{put, filledTo, posted, slotAt, rowsIn}
+use Rattle.slots.specs.Layout.{slotAt, rowsIn}
+use Rattle.postings.specs.Filling.{put, filledTo, posted}
 use Rattle.postings.proofs.Walking.{walk-none}
-use Rattle.postings.proofs.Rows.{slot-code, rowsFrom, rows-start, rows-end, row-room, row-next, rows-walk}
+use Rattle.slots.proofs.Rows.{slot-code, rowsFrom}
+use Rattle.postings.proofs.Rows.{rows-start, rows-end, row-room, row-next, rows-walk}
 use Rattle.postings.proofs.filling.post_rows.Statement.{statement}
 use Rattle.postings.proofs.filling.post_rows.Tie as tie
 

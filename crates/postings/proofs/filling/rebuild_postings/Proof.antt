@@ -10,7 +10,8 @@ use Rattle.meter.specs.declared.Tick.the-variants.{Ticked, Stopped}
 use Rattle.model.specs.Records.{Row}
 use Rattle.model.specs.Postings.{postingsOf}
 use Rattle.postings.specs.Steps.{Walk, walked, walk}
-use Rattle.postings.specs.Filling.{Filled, put, filledTo, posted, rowsIn}
+use Rattle.slots.specs.Layout.{rowsIn}
+use Rattle.postings.specs.Filling.{Filled, put, filledTo, posted}
 use Rattle.postings.proofs.Filing.{filling-count, filling-front, refiled-whole, refiled-stopped}
 use Rattle.postings.proofs.Standing.{rows-room, here-short, here-low, postings-long}
 use Rattle.postings.proofs.filling.rebuild_postings.Statement.{statement}

@@ -15,7 +15,8 @@ use Rattle.model.specs.declared.CandidatesAnswer.the-variants as answer
 use Rattle.model.specs.Records.{Row, withFull, withStale}
 use Rattle.model.specs.Postings.{postingsOf, filed, searched, searchTicks}
 use Rattle.postings.specs.Steps.{Walk}
-use Rattle.postings.specs.Filling.{Filled, posted, rowsIn}
+use Rattle.slots.specs.Layout.{rowsIn}
+use Rattle.postings.specs.Filling.{Filled, posted}
 use Rattle.postings.specs.Searching.{readyTicks, SearchEnd, searchEnd}
 use Rattle.postings.proofs.Filing.{Ready, refiled-ready, refiled-unready, unready-stale}
 use Rattle.postings.proofs.Standing.{here-short, part-code, here-searchable, postings-long}

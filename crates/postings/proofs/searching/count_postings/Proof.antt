@@ -12,9 +12,8 @@ use Rattle.words.specs.Literal.{atom}
 use Rattle.model.specs.Postings.{postingsOf}
 use Rattle.slots.specs.declared.Side.{Side}
 use Rattle.slots.specs.Cursor.{listOf}
-use Rattle.slots.specs.Layout.{Laid}
+use Rattle.slots.specs.Layout.{Laid, slotAt, rowsIn}
 use Rattle.slots.proofs.Storing.{laid-stored}
-use Rattle.postings.specs.Filling.{slotAt, rowsIn}
 use Rattle.postings.specs.Searching.{zeroFirst}
 use Rattle.postings.proofs.Ends.{Seen, EndsAt, seen-start, seen-zero, seen-some, seen-end}
 use Rattle.postings.proofs.Standing.{here-zeros, here-short, postings-long, posted-some, posted-none}

@@ -4,7 +4,8 @@ use lib.ListN.{length}
 use denote.Ref.{now}
 use borrow.Author.Needs.{needs}
 use Rattle.model.specs.Postings.{postingsOf}
-use Rattle.postings.specs.Filling.{rowsIn, refiled}
+use Rattle.slots.specs.Layout.{rowsIn}
+use Rattle.postings.specs.Filling.{refiled}
 use Rattle.postings.proofs.Filing.{ready-stale, ready-fresh}
 use Rattle.postings.proofs.searching.ready_postings.Statement.{statement}
 use Rattle.postings.proofs.searching.ready_postings.Tie as tie

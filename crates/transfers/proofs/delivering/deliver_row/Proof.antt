@@ -4,9 +4,8 @@ use mathlib.Core.Path.{sym, _∙_, subst}
 use mathlib.Core.List.{List}
 use Prim.Native.Nat.{ℕ}
 use denote.Ref.{now}
-use Rattle.slots.specs.Layout.{Stored}
+use Rattle.slots.specs.Layout.{Stored, slotAt}
 use Rattle.slots.proofs.Storing.{laid-stored}
-use Rattle.contents.specs.Lent.{slotAt}
 use Rattle.contents.proofs.Walks.{slot-code}
 use Rattle.transfers.specs.declared.receiving.Passage.{Passage}
 use Rattle.transfers.proofs.RowDelivered.{row-halted, row-passed, row-handed, ready-ticked}

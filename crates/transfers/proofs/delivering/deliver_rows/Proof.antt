@@ -10,8 +10,8 @@ use Rattle.model.specs.declared.Header.{Header}
 use Rattle.model.specs.Records.{Entry}
 use Rattle.model.specs.Slots.{entryIn, entriesIn}
 use Rattle.model.specs.Transfers.{Transfer, deliverRows}
-use Rattle.contents.specs.Lent.{slotAt}
-use Rattle.contents.proofs.Rows.{length-entries}
+use Rattle.slots.specs.Layout.{slotAt}
+use Rattle.model.proofs.Slots.{entries-length}
 use Rattle.keeping.specs.Stood.{Stood}
 use Rattle.transfers.specs.declared.receiving.Passage.{Passage}
 use Rattle.transfers.specs.Passage.{startBy, Carried}
@@ -65,7 +65,7 @@ module _ (l : tie.At-loop Inv-loop μ-loop) where
   -- a row is left
   module _ (r : l .loop .i < h .rows) where
     some : l .loop .i < length es
-    some = subst (λ (n : ℕ). l .loop .i < n) (sym (length-entries (h .rows) G)) r
+    some = subst (λ (n : ℕ). l .loop .i < n) (sym (entries-length (h .rows) G)) r
 
     at-next : drop (l .loop .i) es ≡ next ∷ drop (l .loop .i + 1) es
     at-next = tier-entry h (l .loop .tier-slots) (t .pre .0 .postings) h (inv .done) es (l .loop .i) (inv .long) stands some
@@ -174,7 +174,7 @@ returns-2 c =
     closing k (h k .rows) (k .loop .passage) (k .loop .store-slots) (k .loop .store-postings) (k .loop .tier-slots)
     (subst (λ (i : ℕ). Delivered (h k .limits .atoms) i (k .loop .passage) (k .loop .store-slots) (k .loop .store-postings) (G k) (k .loop .tier-slots) (es k) (deliverRows (h k .limits) (es k) (v₀ k))) e
     (delivering-end (h k .limits) (es k) (v₀ k) (h k .limits .atoms) (k .loop .i) (k .loop .passage) (k .loop .store-slots) (k .loop .store-postings) (G k) (k .loop .tier-slots) (inv k)
-    (omega (arith, length-entries (h k .rows) (G k)))))
+    (omega (arith, entries-length (h k .rows) (G k)))))
 
 pub deliver-rows-spec : {M : Type 1} → statement M
 deliver-rows-spec =

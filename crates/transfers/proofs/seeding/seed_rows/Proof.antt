@@ -10,7 +10,7 @@ use Rattle.model.specs.declared.Header.{Header}
 use Rattle.model.specs.Records.{Entry}
 use Rattle.model.specs.Slots.{entryIn, entriesIn}
 use Rattle.model.specs.Transfers.{Transfer, seedRows}
-use Rattle.contents.proofs.Rows.{length-entries}
+use Rattle.model.proofs.Slots.{entries-length}
 use Rattle.transfers.specs.declared.receiving.Passage.{Passage}
 use Rattle.transfers.specs.Passage.{startBy, Carried}
 use Rattle.transfers.proofs.Entries.{entries-part}
@@ -152,7 +152,7 @@ returns-2 c =
     closing k (t k .args .rows) (k .loop .passage) (k .loop .slots) (k .loop .postings)
     (subst (λ (i : ℕ). Carried (h k .limits .atoms) i (k .loop .passage) (k .loop .slots) (k .loop .postings) (seedRows (h k .limits) (t k .args .mark) (es k) (v₀ k))) e
     (seeding-end (h k .limits) (t k .args .mark) (es k) (v₀ k) (h k .limits .atoms) (k .loop .i) (k .loop .passage) (k .loop .slots) (k .loop .postings) (k .loop .inv .3)
-    (omega (arith, length-entries (t k .args .rows) (G k)))))
+    (omega (arith, entries-length (t k .args .rows) (G k)))))
 
 pub seed-rows-spec : {M : Type 1} → statement M
 seed-rows-spec =
