@@ -1,0 +1,370 @@
+//! A ledger behind the C boundary (include/ledger.h), with the rows that it took.
+
+use crate::rows::{Ending, Literals, Row};
+
+pub const SLOT_WORDS: usize = 168;
+const POSTING_WORDS: usize = 80;
+pub const ROWS: usize = 11;
+pub const EVICTED: usize = 17;
+pub const STALE: usize = 20;
+pub const FULL: usize = 21;
+pub const HITS: usize = 4;
+pub const UNSHARED: usize = 5;
+/// The answers of an offer from this one on, Subsumed and Added, are those of a row taken.
+const SUBSUMED: u64 = 4;
+
+type Head = [u64; 25];
+type Answer = [u64; 3];
+type Meter = [u64; 2];
+
+#[link(name = "boundary", kind = "static")]
+unsafe extern "C" {
+    fn ledger_make(
+        limits: *const [u64; 10],
+        number: u64,
+        head: *mut Head,
+        answer: *mut Answer,
+        slots: *mut u64,
+        slots_len: usize,
+        postings: *mut u64,
+        postings_len: usize,
+    ) -> u64;
+    fn ledger_hit(
+        head: *mut Head,
+        answer: *mut Answer,
+        slots: *mut u64,
+        slots_len: usize,
+        postings: *const u64,
+        postings_len: usize,
+        position: u64,
+    ) -> u64;
+    fn ledger_offer(
+        head: *mut Head,
+        answer: *mut Answer,
+        meter: *mut Meter,
+        slots: *mut u64,
+        slots_len: usize,
+        postings: *mut u64,
+        postings_len: usize,
+        conditions: *const u64,
+        conditions_len: usize,
+        outputs: *const u64,
+        outputs_len: usize,
+    ) -> u64;
+    fn ledger_seed(
+        tier: *mut Head,
+        store: *mut Head,
+        answer: *mut Answer,
+        meter: *mut Meter,
+        tier_slots: *mut u64,
+        tier_slots_len: usize,
+        tier_postings: *mut u64,
+        tier_postings_len: usize,
+        store_slots: *const u64,
+        store_slots_len: usize,
+        store_postings: *const u64,
+        store_postings_len: usize,
+    ) -> u64;
+    fn ledger_deliver(
+        tier: *mut Head,
+        store: *mut Head,
+        answer: *mut Answer,
+        meter: *mut Meter,
+        tier_slots: *mut u64,
+        tier_slots_len: usize,
+        tier_postings: *const u64,
+        tier_postings_len: usize,
+        store_slots: *mut u64,
+        store_slots_len: usize,
+        store_postings: *mut u64,
+        store_postings_len: usize,
+    ) -> u64;
+    fn ledger_close(
+        head: *mut Head,
+        answer: *mut Answer,
+        meter: *mut Meter,
+        slots: *mut u64,
+        slots_len: usize,
+        postings: *mut u64,
+        postings_len: usize,
+        held: *mut u64,
+        held_len: usize,
+        cut: *mut u64,
+        cut_len: usize,
+        rows: *mut u64,
+        rows_len: usize,
+        atoms: *mut u64,
+        atoms_len: usize,
+    ) -> u64;
+}
+
+#[derive(Clone, Copy, PartialEq, Eq, Debug)]
+pub enum Case {
+    Closed,
+    Conflict,
+    Stopped,
+}
+
+/// What a closing left, beside the ledger.
+#[derive(Clone, Copy, PartialEq, Eq, Debug)]
+pub struct Closing {
+    pub case: Case,
+    pub ticks: u64,
+    pub region: Literals,
+    pub scratch_is_zero: bool,
+}
+
+impl Closing {
+    fn read(answer: Answer, region: Literals, scratch: &[u64]) -> Closing {
+        Closing {
+            case: [Case::Closed, Case::Conflict, Case::Stopped][answer[0] as usize],
+            ticks: answer[2],
+            region,
+            scratch_is_zero: scratch.iter().all(|word| *word == 0),
+        }
+    }
+
+    /// Of a closing that was not stopped.
+    pub fn ending(&self) -> Ending {
+        match self.case {
+            Case::Closed => Ending::Closed(self.region),
+            _ => Ending::Conflict,
+        }
+    }
+}
+
+#[derive(Clone)]
+pub struct Ledger {
+    pub atoms: u64,
+    pub head: Head,
+    pub slots: Vec<u64>,
+    postings: Vec<u64>,
+    /// The rows that were offered or transferred to it, and Added or Subsumed.
+    pub taken: Vec<Row>,
+}
+
+/// Of the limits, what this test varies; there is no floor, no end of attempts, and no row is kept from a transfer.
+#[derive(Clone, Copy)]
+pub struct Limits {
+    pub atoms: u64,
+    pub tier_rows: u64,
+    pub outputs: u64,
+    pub work: u64,
+}
+
+impl Ledger {
+    pub fn make(limits: Limits) -> Ledger {
+        let (atoms, tier_rows, work) = (limits.atoms, limits.tier_rows, limits.work);
+        let words = [
+            atoms,
+            tier_rows,
+            16,
+            limits.outputs,
+            0,
+            u64::MAX,
+            work,
+            u64::MAX,
+            16,
+            0,
+        ];
+        let mut head = [0; 25];
+        let mut slots = vec![1; SLOT_WORDS * tier_rows as usize];
+        let mut postings = vec![1; POSTING_WORDS * tier_rows as usize];
+        // SAFETY: every pointer is to as many words as stand behind it, and no two overlap.
+        let refusal = unsafe {
+            ledger_make(
+                &words,
+                1,
+                &mut head,
+                &mut [0; 3],
+                slots.as_mut_ptr(),
+                slots.len(),
+                postings.as_mut_ptr(),
+                postings.len(),
+            )
+        };
+        assert_eq!(refusal, 0, "make is refused");
+        let taken = Vec::new();
+        Ledger {
+            atoms,
+            head,
+            slots,
+            postings,
+            taken,
+        }
+    }
+
+    pub fn hit(&mut self, position: u64) {
+        let (slots, postings) = (&mut self.slots, &self.postings);
+        let (at, length) = (slots.as_mut_ptr(), slots.len());
+        // SAFETY: as above.
+        let refusal = unsafe {
+            ledger_hit(
+                &mut self.head,
+                &mut [0; 3],
+                at,
+                length,
+                postings.as_ptr(),
+                postings.len(),
+                position,
+            )
+        };
+        assert_eq!(refusal, 0, "hit is refused");
+    }
+
+    /// Offers a row, with a meter that allows so many ticks.
+    pub fn offer(&mut self, row: Row, limit: u64) {
+        let (conditions, outputs) = (row.conditions.codes(), row.outputs.codes());
+        let (slots, postings) = (&mut self.slots, &mut self.postings);
+        let mut answer = [0; 3];
+        // SAFETY: as above.
+        let refusal = unsafe {
+            ledger_offer(
+                &mut self.head,
+                &mut answer,
+                &mut [0, limit],
+                slots.as_mut_ptr(),
+                slots.len(),
+                postings.as_mut_ptr(),
+                postings.len(),
+                conditions.as_ptr(),
+                conditions.len(),
+                outputs.as_ptr(),
+                outputs.len(),
+            )
+        };
+        assert_eq!(refusal, 0, "an offer is refused");
+        if answer[0] >= SUBSUMED {
+            self.taken.push(row);
+        }
+    }
+
+    /// Closes a region, with a meter that allows so many ticks. What stands in the scratch before does not matter: it is `fill`.
+    pub fn close(&mut self, region: Literals, limit: u64, fill: u64) -> Closing {
+        let (mut held, mut cut) = region.held_and_cut();
+        let tier_rows = self.slots.len() / SLOT_WORDS;
+        let mut scratch = vec![fill; tier_rows + self.atoms as usize];
+        let (rows, atoms) = scratch.split_at_mut(tier_rows);
+        let (mut answer, mut meter) = ([0; 3], [0, limit]);
+        // SAFETY: as above.
+        let refusal = unsafe {
+            ledger_close(
+                &mut self.head,
+                &mut answer,
+                &mut meter,
+                self.slots.as_mut_ptr(),
+                self.slots.len(),
+                self.postings.as_mut_ptr(),
+                self.postings.len(),
+                &mut held,
+                1,
+                &mut cut,
+                1,
+                rows.as_mut_ptr(),
+                rows.len(),
+                atoms.as_mut_ptr(),
+                atoms.len(),
+            )
+        };
+        assert_eq!(refusal, 0, "a closing is refused");
+        assert_eq!(meter, [answer[2], limit], "other ticks than are charged");
+        Closing::read(answer, Literals::from_words(held, cut), &scratch)
+    }
+
+    /// Takes the rows of a store. The meter and the account pay for all of them, and each finds a place: all are taken.
+    pub fn seed(&mut self, store: &mut Ledger) {
+        let (slots, postings) = (&mut self.slots, &mut self.postings);
+        let mut answer = [0; 3];
+        // SAFETY: as above.
+        let refusal = unsafe {
+            ledger_seed(
+                &mut self.head,
+                &mut store.head,
+                &mut answer,
+                &mut [0, u64::MAX],
+                slots.as_mut_ptr(),
+                slots.len(),
+                postings.as_mut_ptr(),
+                postings.len(),
+                store.slots.as_ptr(),
+                store.slots.len(),
+                store.postings.as_ptr(),
+                store.postings.len(),
+            )
+        };
+        assert_eq!(
+            (refusal, answer[0]),
+            (0, 0),
+            "a seeding is refused or stopped"
+        );
+        self.taken.extend(store.rows());
+    }
+
+    /// Gives its rows to a store, which takes all of them.
+    pub fn deliver(&mut self, store: &mut Ledger) {
+        let (slots, postings) = (&mut store.slots, &mut store.postings);
+        let mut answer = [0; 3];
+        // SAFETY: as above.
+        let refusal = unsafe {
+            ledger_deliver(
+                &mut self.head,
+                &mut store.head,
+                &mut answer,
+                &mut [0, u64::MAX],
+                self.slots.as_mut_ptr(),
+                self.slots.len(),
+                self.postings.as_ptr(),
+                self.postings.len(),
+                slots.as_mut_ptr(),
+                slots.len(),
+                postings.as_mut_ptr(),
+                postings.len(),
+            )
+        };
+        assert_eq!(
+            (refusal, answer[0]),
+            (0, 0),
+            "a delivery is refused or stopped"
+        );
+        store.taken.extend(self.rows());
+    }
+
+    pub fn has_evicted(&self) -> bool {
+        self.head[EVICTED] != 0
+    }
+
+    /// The rows held, read from the slots by document 01's layout.
+    pub fn rows(&self) -> Vec<Row> {
+        self.slots
+            .chunks(SLOT_WORDS)
+            .take(self.head[ROWS] as usize)
+            .map(row_in)
+            .collect()
+    }
+}
+
+/// The literals of groups of three words: atom / 64 (always 0 here), present bits, absent bits.
+fn of_groups(words: &[u64]) -> Literals {
+    words.chunks(3).fold(Literals::NONE, |set, group| {
+        set.with(Literals::from_words(group[1], group[2]))
+    })
+}
+
+fn row_in(slot: &[u64]) -> Row {
+    let [conditions, outputs, groups, condition_groups] =
+        [0, 1, 2, 3].map(|word| slot[word] as usize);
+    let body = &slot[8..];
+    if groups == 0 {
+        let (first, second) = body[..conditions + outputs].split_at(conditions);
+        Row {
+            conditions: Literals::of(first),
+            outputs: Literals::of(second),
+        }
+    } else {
+        let (first, second) = body[..3 * groups].split_at(3 * condition_groups);
+        Row {
+            conditions: of_groups(first),
+            outputs: of_groups(second),
+        }
+    }
+}

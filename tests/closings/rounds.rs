@@ -1,0 +1,72 @@
+//! Document 01's rounds, for what brute force does not tell: the hits of each row, and what a Conflict keeps.
+
+use crate::rows::{Deduction, Ending, Literals, Row};
+
+/// Up to so many rows every round takes all of them.
+pub const SCAN_ROWS: usize = 64;
+
+pub struct Told {
+    pub ending: Ending,
+    pub region: Literals,
+    pub hits: Vec<u64>,
+}
+
+/// The two signs of every atom of a set: what a row with such an atom meets.
+fn atoms_of(set: Literals) -> Literals {
+    set.with(set.opposite())
+}
+
+impl Told {
+    /// Marks the literals in the order of their codes; false at the first whose opposite is marked.
+    fn decide(&mut self, literals: Literals) -> bool {
+        let fits = |region: Literals, code: u64| !region.contains(Literals::of(&[code]).opposite());
+        for code in literals.codes() {
+            if !fits(self.region, code) {
+                return false;
+            }
+            self.region = self.region.with(Literals::of(&[code]));
+        }
+        true
+    }
+
+    /// A row's turn: false at a Conflict.
+    fn act(&mut self, position: usize, row: Row) -> bool {
+        let literals = match row.deduction(self.region) {
+            Deduction::Nothing => return true,
+            Deduction::Force => row.outputs,
+            Deduction::Require(literal) => literal,
+        };
+        self.hits[position] += 1;
+        self.decide(literals)
+    }
+
+    /// A round over the rows that the atoms decided before it touch.
+    fn round(&mut self, rows: &[Row], decided: Literals, all: bool) -> bool {
+        let touched = |row: &Row| all || atoms_of(row.conditions.with(row.outputs)).meets(decided);
+        rows.iter()
+            .enumerate()
+            .filter(|(_, row)| touched(row))
+            .all(|(position, row)| self.act(position, *row))
+    }
+}
+
+pub fn close(rows: &[Row], given: Literals) -> Told {
+    let mut told = Told {
+        ending: Ending::Conflict,
+        region: given,
+        hits: vec![0; rows.len()],
+    };
+    let (mut all, mut decided) = (true, Literals::NONE);
+    loop {
+        let before = told.region;
+        if !told.round(rows, decided, all) {
+            return told;
+        }
+        decided = told.region.without(before);
+        all = rows.len() <= SCAN_ROWS;
+        if decided == Literals::NONE {
+            told.ending = Ending::Closed(told.region);
+            return told;
+        }
+    }
+}
