@@ -1,0 +1,134 @@
+//! Faults that the verified side is given on purpose, to see that the comparison finds each of them.
+
+use crate::call::Call;
+use crate::end::Scratch;
+use crate::host::Lent;
+use crate::layout::{HEAD, SLOT};
+
+#[derive(Clone, Copy, Debug, PartialEq, Eq)]
+pub enum Fault {
+    /// A Subsumed offer is charged a tick less in its answer.
+    Ticks,
+    /// The same in the meter.
+    Meter,
+    /// A required literal has the wrong sign.
+    Sign,
+    /// An eviction is not counted.
+    Evicted,
+    /// An offer that is Stopped gives its attempt back.
+    Attempts,
+    /// A hit counts twice.
+    Hits,
+    /// A new row leaves a word in the slot behind it.
+    Unused,
+    /// The last posting is left out.
+    Posting,
+    /// The positions that are found descend.
+    Found,
+    /// After an output the cursor has lost its group.
+    Cursor,
+    /// A conflict loses what was decided.
+    Region,
+    /// A closing leaves a word in its scratch.
+    Scratch,
+    /// A refused call writes its answer.
+    Refused,
+    /// A stopped seeding moves the mark.
+    Mark,
+    /// A delivered row keeps what is unshared.
+    Unshared,
+    /// A stopped delivery pays nothing.
+    Sharing,
+}
+
+impl Fault {
+    pub const ALL: [Self; 16] = [
+        Self::Ticks,
+        Self::Meter,
+        Self::Sign,
+        Self::Evicted,
+        Self::Attempts,
+        Self::Hits,
+        Self::Unused,
+        Self::Posting,
+        Self::Found,
+        Self::Cursor,
+        Self::Region,
+        Self::Scratch,
+        Self::Refused,
+        Self::Mark,
+        Self::Unshared,
+        Self::Sharing,
+    ];
+
+    /// Alters what a call left. `head` is the tier's header before it.
+    pub fn alter(self, call: &Call, head: &[u64; HEAD], lent: &mut Lent) {
+        let answer = &mut lent.end.answer;
+        if lent.end.result != 0 {
+            answer[0] ^= u64::from(self == Self::Refused);
+            return;
+        }
+        match call {
+            Call::Offer { .. } => self.alter_offer(head, lent),
+            Call::Deduce { .. } if self == Self::Sign && answer[0] == 3 => answer[1] ^= 1,
+            Call::Hit { position, .. } if self == Self::Hits && *position > 0 => {
+                lent.tier.slots[SLOT * *position as usize + 4] += 1;
+            }
+            Call::Next { .. } if self == Self::Cursor && answer[0] == 1 => lent.end.cursor[1] = 0,
+            Call::Candidates { .. } => self.alter_search(lent),
+            Call::Close { .. } => self.alter_closing(lent),
+            Call::Seed { .. } | Call::Deliver { .. } => self.alter_transfer(call, head, lent),
+            _ => {}
+        }
+    }
+
+    fn alter_offer(self, head: &[u64; HEAD], lent: &mut Lent) {
+        let (tier, end) = (&mut lent.tier, &mut lent.end);
+        let [case, value, _] = end.answer;
+        match self {
+            Self::Ticks if case == 4 => end.answer[2] -= 1,
+            Self::Meter if case == 4 => end.meter[0] -= 1,
+            Self::Evicted => tier.head[17] = head[17],
+            Self::Attempts if case == 2 => tier.head[14] = head[14],
+            Self::Unused if case == 5 && value > 0 => {
+                let last = SLOT * (value as usize + 1) - 1;
+                tier.slots[last] = 1;
+            }
+            _ => {}
+        }
+    }
+
+    fn alter_search(self, lent: &mut Lent) {
+        let postings = &mut lent.tier.postings;
+        let last = postings.iter_mut().rev().find(|word| **word != 0);
+        match (self, last) {
+            (Self::Posting, Some(last)) => *last = 0,
+            (Self::Found, _) => lent.end.found[..lent.end.answer[1] as usize].reverse(),
+            _ => {}
+        }
+    }
+
+    fn alter_closing(self, lent: &mut Lent) {
+        let end = &mut lent.end;
+        let held = end.region.held.iter_mut().find(|word| **word != 0);
+        match (self, end.answer[0], held) {
+            (Self::Region, 1, Some(word)) => *word &= *word - 1,
+            (Self::Scratch, 0, _) => end.scratch = Scratch::Else,
+            _ => {}
+        }
+    }
+
+    fn alter_transfer(self, call: &Call, head: &[u64; HEAD], lent: &mut Lent) {
+        let tier = &mut lent.tier;
+        let seeds = matches!(call, Call::Seed { .. });
+        let stopped = lent.end.answer[0] == 2;
+        match self {
+            Self::Mark if seeds && stopped => tier.head[22] = 1,
+            Self::Sharing if !seeds && stopped => tier.head[16] = head[16],
+            Self::Unshared if !seeds && head[11] > 0 => {
+                tier.slots[5] += u64::from(tier.slots[7] == 1);
+            }
+            _ => {}
+        }
+    }
+}
