@@ -14,8 +14,9 @@
  *      do not ascend, or conditions whose atoms do not ascend
  *   5  no row at the position
  *   6  held and cut are no region: each is (atoms + 63) / 64 words, with no common bit and no bit at `atoms` or above
+ *   7  a tier and a store over different numbers of atoms
  *   8  a cursor that is not of this row
- * They are tested in this order; the first that applies is the result.
+ * They are tested in this order; the first that applies is the result. Of two ledgers the tier's 1, 2, 3 come first, then the store's.
  *
  * A call that is not refused writes `answer`: its case, a value where the case has one, and the ticks that it charged.
  */
@@ -164,6 +165,30 @@ uint64_t ledger_close(uint64_t head[25], uint64_t answer[3], uint64_t meter[2],
                       uint64_t *slots, size_t slots_len, uint64_t *postings, size_t postings_len,
                       uint64_t *held, size_t held_len, uint64_t *cut, size_t cut_len,
                       uint64_t *rows, size_t rows_len, uint64_t *atoms, size_t atoms_len);
+
+/*
+ * Seed. Lent: two ledgers that share no word, a tier and a store, and a meter. Any ledger may stand as the store.
+ * Back: the tier has taken the store's rows in turn, each with its hits; those born up to its seed mark are passed over, if the mark has the store's
+ * number. The reads are paid from the tier's sharing account. `answer` is 0 Done, also where it ended at a row that the account did not pay for or
+ * that found no place; or 2 Stopped. What was taken stays. `tier`, `tier_slots` and `tier_postings` are the tier after it, marked with the store's
+ * number and born if it came to the end. `store` has the rows added counted under seeded. `meter` has the ticks charged.
+ * Refused: the tier's 1, 2, 3; the store's 1, 2, 3; 7.
+ */
+uint64_t ledger_seed(uint64_t tier[25], uint64_t store[25], uint64_t answer[3], uint64_t meter[2],
+                     uint64_t *tier_slots, size_t tier_slots_len, uint64_t *tier_postings, size_t tier_postings_len,
+                     const uint64_t *store_slots, size_t store_slots_len, const uint64_t *store_postings, size_t store_postings_len);
+
+/*
+ * Deliver. Lent: as Seed.
+ * Back: the store has taken the tier's rows in turn, each with its unshared hits. Passed over are those delivered with none unshared, and those with
+ * more conditions than the tier's share_conditions and fewer hits than its share_hits. The reads are paid from the tier's sharing account. `answer`
+ * is as Seed's. What was taken stays. `tier` has what is left of the account; in `tier_slots` a row taken is delivered, with none unshared. `store`,
+ * `store_slots` and `store_postings` are the store after it, with the rows added counted under deliveries. `meter` has the ticks charged.
+ * Refused: as Seed.
+ */
+uint64_t ledger_deliver(uint64_t tier[25], uint64_t store[25], uint64_t answer[3], uint64_t meter[2],
+                        uint64_t *tier_slots, size_t tier_slots_len, const uint64_t *tier_postings, size_t tier_postings_len,
+                        uint64_t *store_slots, size_t store_slots_len, uint64_t *store_postings, size_t store_postings_len);
 
 #ifdef __cplusplus
 }

@@ -13,19 +13,33 @@ struct lent {
     uint64_t cursor[LEDGER_CURSOR_WORDS], e, slots[SLOTS], f, postings[POSTINGS], g, held[2], h, cut[2], i, found[ROWS], j, atoms[128], k;
 };
 
+/* Two ledgers; the tier's answer and meter are lent. */
+struct two {
+    struct lent tier, store;
+};
+
 static int calls, wrong;
 
-/* The call gave `result`, and left exactly `after`. */
-static void same(const char *what, uint64_t want, uint64_t result, const struct lent *now, const struct lent *after)
+/* The call gave `result`, and left exactly the words `after`. */
+static void same_words(const char *what, uint64_t want, uint64_t result, const void *now, const void *after, size_t bytes)
 {
+    const uint64_t *left = now, *expected = after;
     calls++;
-    if (want == result && memcmp(now, after, sizeof *now) == 0)
+    if (want == result && memcmp(now, after, bytes) == 0)
         return;
     wrong++;
     printf("%s: %" PRIu64 " for %" PRIu64 "\n", what, result, want);
-    for (size_t k = 0; k < sizeof *now / sizeof(uint64_t); k++)
-        if (((const uint64_t *)now)[k] != ((const uint64_t *)after)[k])
-            printf("  word %zu: %" PRIx64 " for %" PRIx64 "\n", k, ((const uint64_t *)now)[k], ((const uint64_t *)after)[k]);
+    for (size_t k = 0; k < bytes / sizeof(uint64_t); k++)
+        if (left[k] != expected[k])
+            printf("  word %zu: %" PRIx64 " for %" PRIx64 "\n", k, left[k], expected[k]);
+}
+static void same(const char *what, uint64_t want, uint64_t result, const struct lent *now, const struct lent *after)
+{
+    same_words(what, want, result, now, after, sizeof *now);
+}
+static void same_two(const char *what, uint64_t want, uint64_t result, const struct two *now, const struct two *after)
+{
+    same_words(what, want, result, now, after, sizeof *now);
 }
 
 static uint64_t make(struct lent *l, size_t slots, size_t postings)
@@ -58,6 +72,16 @@ static uint64_t candidates(struct lent *l, size_t found)
 static uint64_t close(struct lent *l, size_t atoms)
 {
     return ledger_close(l->head, l->answer, l->meter, l->slots, SLOTS, l->postings, POSTINGS, l->held, 2, l->cut, 2, l->found, ROWS, l->atoms, atoms);
+}
+static uint64_t seed(struct two *l, size_t slots)
+{
+    return ledger_seed(l->tier.head, l->store.head, l->tier.answer, l->tier.meter, l->tier.slots, SLOTS, l->tier.postings, POSTINGS,
+                       l->store.slots, slots, l->store.postings, POSTINGS);
+}
+static uint64_t deliver(struct two *l, size_t postings)
+{
+    return ledger_deliver(l->tier.head, l->store.head, l->tier.answer, l->tier.meter, l->tier.slots, SLOTS, l->tier.postings, POSTINGS,
+                          l->store.slots, SLOTS, l->store.postings, postings);
 }
 
 static void answer(struct lent *l, uint64_t number, uint64_t value, uint64_t ticks)
@@ -293,6 +317,91 @@ static void closings(void)
     same("close", 0, close(&l, 128), &l, &k);
 }
 
+/* A store, number 4, and a tier, number 9, one with the two rows, the first hit five times, and one with none. */
+static struct two giver_and_receiver(int seeding)
+{
+    struct lent giver = two_rows(), receiver = two_rows();
+    giver.slots[4] = giver.slots[5] = 5;
+    make(&receiver, SLOTS, POSTINGS);
+    struct two l = seeding ? (struct two){receiver, giver} : (struct two){giver, receiver};
+    l.store.head[LEDGER_NUMBER] = 4;
+    return l;
+}
+
+/* Both rows taken: born anew, and the hits that came with them halved, for the tier has two rows. */
+static void took_both(struct lent *l)
+{
+    const uint64_t scalar[] = {1, 1, 0, 0, 2, 0, 1, 0, 7, 140}, packed[] = {2, 2, 2, 1, 0, 0, 2, 0, 0, 3, 0, 1, 0, 0xc0};
+    memcpy(l->slots, scalar, sizeof scalar);
+    memcpy(l->slots + LEDGER_SLOT_WORDS, packed, sizeof packed);
+    l->head[LEDGER_ROWS] = l->head[LEDGER_BORN] = 2;
+}
+
+/* Each ledger's refusals, the tier's first; the tier and the store are each made unfit and then fit again. */
+static void unfit(const char *what, uint64_t (*call)(struct two *, size_t), size_t length)
+{
+    struct two l = giver_and_receiver(1), k;
+    l.tier.head[LEDGER_EPOCH] = ROWS;
+    l.store.head[LEDGER_ATOMS] = 0;
+    k = l;
+    same_two(what, 3, call(&l, length), &l, &k);
+    l.tier.head[LEDGER_EPOCH] = k.tier.head[LEDGER_EPOCH] = 0;
+    same_two(what, 1, call(&l, length), &l, &k);
+    l.store.head[LEDGER_ATOMS] = k.store.head[LEDGER_ATOMS] = 127;
+    same_two(what, 2, call(&l, length - 1), &l, &k);
+    same_two(what, 7, call(&l, length), &l, &k);
+    l.store.slots[7] = k.store.slots[7] = 2;
+    same_two(what, 3, call(&l, length), &l, &k);
+    l.tier.head[LEDGER_TIER_ROWS] = k.tier.head[LEDGER_TIER_ROWS] = ROWS + 1;
+    same_two(what, 2, call(&l, length), &l, &k);
+    l.tier.head[LEDGER_FOUNDED_OUTPUTS] = k.tier.head[LEDGER_FOUNDED_OUTPUTS] = 65;
+    same_two(what, 1, call(&l, length), &l, &k);
+}
+
+static void seedings(void)
+{
+    struct two l = giver_and_receiver(1), k = l;
+    answer(&k.tier, LEDGER_DONE, 0, 20); /* 3 and 5 to read the rows, 2 to compare the second with the first, 2 and 8 to write them */
+    took_both(&k.tier);
+    k.tier.slots[7] = k.tier.slots[LEDGER_SLOT_WORDS + 7] = 1;
+    k.tier.head[LEDGER_SHARING] -= 20;
+    k.tier.head[LEDGER_MARKED] = 1;
+    k.tier.head[LEDGER_MARK_NUMBER] = 4;
+    k.tier.head[LEDGER_MARK_BORN] = 2;
+    k.store.head[LEDGER_SEEDED] = 2;
+    same_two("seed", 0, seed(&l, SLOTS), &l, &k);
+    answer(&k.tier, LEDGER_DONE, 0, 2);
+    same_two("seed again", 0, seed(&l, SLOTS), &l, &k);
+    l.tier.meter[LEDGER_CHARGED] = k.tier.meter[LEDGER_CHARGED] = 1999;
+    answer(&k.tier, LEDGER_STOPPED, 0, 1);
+    same_two("seed, stopped", 0, seed(&l, SLOTS), &l, &k);
+    unfit("seed, unfit", seed, SLOTS);
+}
+
+static void deliveries(void)
+{
+    struct two l = giver_and_receiver(0), k = l;
+    answer(&k.tier, LEDGER_DONE, 0, 22); /* as seed, and 1 for each row */
+    took_both(&k.store);
+    k.tier.slots[5] = 0;
+    k.tier.slots[7] = k.tier.slots[LEDGER_SLOT_WORDS + 7] = 1;
+    k.tier.head[LEDGER_SHARING] -= 20;
+    k.store.head[LEDGER_DELIVERIES] = 2;
+    same_two("deliver", 0, deliver(&l, POSTINGS), &l, &k);
+    answer(&k.tier, LEDGER_DONE, 0, 2);
+    same_two("deliver again", 0, deliver(&l, POSTINGS), &l, &k);
+    l.tier.slots[4] = k.tier.slots[4] = 6;
+    l.tier.slots[5] = 1;
+    answer(&k.tier, LEDGER_DONE, 0, 8); /* 1 for each row, 3 to read the first, 3 to find it subsumed */
+    k.tier.head[LEDGER_SHARING] -= 6;
+    k.store.slots[4] = 3;
+    same_two("deliver, a hit more", 0, deliver(&l, POSTINGS), &l, &k);
+    l.tier.meter[LEDGER_CHARGED] = k.tier.meter[LEDGER_CHARGED] = 1999;
+    answer(&k.tier, LEDGER_STOPPED, 0, 1);
+    same_two("deliver, stopped", 0, deliver(&l, POSTINGS), &l, &k);
+    unfit("deliver, unfit", deliver, POSTINGS);
+}
+
 int main(void)
 {
     made();
@@ -304,6 +413,8 @@ int main(void)
     offers();
     searches();
     closings();
+    seedings();
+    deliveries();
     printf("%d calls, %d wrong\n", calls, wrong);
     return wrong != 0;
 }

@@ -3,3 +3,5 @@ pub mod Keeping
 pub mod Calling
 pub mod LearningKeeps
 pub mod LearningCalls
+pub mod SharingKeeps
+pub mod SharingCalls

@@ -4,6 +4,7 @@ ghost use mathlib.Core.Path.{_≡_};
 ghost use mathlib.Core.List.{[], _∷_};
 ghost use Rattle.boundary.specs.Calls.{left, makeCall, beginCall, hitCall, deduceCall, outputCall, decideCall};
 ghost use Rattle.boundary.specs.Learning.{offerCall, candidatesCall, closeCall};
+ghost use Rattle.boundary.specs.Sharing.{seedCall, deliverCall};
 use closing::close;
 use offer::offer;
 use operations::begin;
@@ -13,6 +14,8 @@ use operations::hit;
 use operations::make;
 use operations::next_output;
 use search::candidates;
+use transfers::deliver;
+use transfers::seed;
 use wire::begin_reply;
 use wire::candidates_reply;
 use wire::close_reply;
@@ -31,6 +34,7 @@ use wire::put_cursor;
 use wire::put_header;
 use wire::put_made;
 use wire::put_meter;
+use wire::transfer_reply;
 
 // Make: the fresh header, every slot and posting 0; refused by 1 or 2.
 #[no_mangle]
@@ -214,7 +218,7 @@ pub extern "C" fn ledger_offer(
     ensures { λ r. ⌜ left r (now (head .exit) ∷ now (answer .exit) ∷ now (meter .exit) ∷ now (slots .exit) ∷ now (postings .exit) ∷ [])
         ≡ offerCall (now (head .entry)) (now (answer .entry)) (now (meter .entry)) (now (slots .entry)) (now (postings .entry)) (now (conditions .entry)) (now (outputs .entry)) ⌝ }
 {
-    let done = offer(
+    let offered = offer(
         header_of(head),
         slots,
         postings,
@@ -222,15 +226,15 @@ pub extern "C" fn ledger_offer(
         outputs,
         meter_of(meter),
     );
-    let a = done.answer;
+    let a = offered.answer;
     let reply = offer_reply(a);
     if reply.refusal != 0 {
         return reply.refusal;
     }
-    let header = done.header;
-    let work = done.meter;
+    let header = offered.header;
+    let work = offered.meter;
     put_header(header, head);
-    put_answer(reply, done.ticks, answer);
+    put_answer(reply, offered.ticks, answer);
     put_meter(work, meter);
     0
 }
@@ -249,7 +253,7 @@ pub extern "C" fn ledger_candidates(
     ensures { λ r. ⌜ left r (now (head .exit) ∷ now (answer .exit) ∷ now (meter .exit) ∷ now (postings .exit) ∷ now (found .exit) ∷ [])
         ≡ candidatesCall (now (head .entry)) (now (answer .entry)) (now (meter .entry)) (now (slots .entry)) (now (postings .entry)) (now (atoms .entry)) (now (found .entry)) ⌝ }
 {
-    let done = candidates(
+    let searched = candidates(
         header_of(head),
         slots,
         postings,
@@ -257,15 +261,15 @@ pub extern "C" fn ledger_candidates(
         found,
         meter_of(meter),
     );
-    let a = done.answer;
+    let a = searched.answer;
     let reply = candidates_reply(a);
     if reply.refusal != 0 {
         return reply.refusal;
     }
-    let header = done.header;
-    let work = done.meter;
+    let header = searched.header;
+    let work = searched.meter;
     put_header(header, head);
-    put_answer(reply, done.ticks, answer);
+    put_answer(reply, searched.ticks, answer);
     put_meter(work, meter);
     0
 }
@@ -286,7 +290,7 @@ pub extern "C" fn ledger_close(
     ensures { λ r. ⌜ left r (now (head .exit) ∷ now (answer .exit) ∷ now (meter .exit) ∷ now (slots .exit) ∷ now (postings .exit) ∷ now (held .exit) ∷ now (cut .exit) ∷ now (rows .exit) ∷ now (atoms .exit) ∷ [])
         ≡ closeCall (now (head .entry)) (now (answer .entry)) (now (meter .entry)) (now (slots .entry)) (now (postings .entry)) (now (held .entry)) (now (cut .entry)) (now (rows .entry)) (now (atoms .entry)) ⌝ }
 {
-    let done = close(
+    let closed = close(
         header_of(head),
         slots,
         postings,
@@ -296,15 +300,93 @@ pub extern "C" fn ledger_close(
         atoms,
         meter_of(meter),
     );
-    let a = done.answer;
+    let a = closed.answer;
     let reply = close_reply(a);
     if reply.refusal != 0 {
         return reply.refusal;
     }
-    let header = done.header;
-    let work = done.meter;
+    let header = closed.header;
+    let work = closed.meter;
     put_header(header, head);
-    put_answer(reply, done.ticks, answer);
+    put_answer(reply, closed.ticks, answer);
+    put_meter(work, meter);
+    0
+}
+
+// Seed: a tier takes the rows of a store; refused by the tier's 1, 2 or 3, the store's 1, 2 or 3, or 7.
+#[no_mangle]
+pub extern "C" fn ledger_seed(
+    tier: &mut [u64; 25],
+    store: &mut [u64; 25],
+    answer: &mut [u64; 3],
+    meter: &mut [u64; 2],
+    tier_slots: &mut [u64],
+    tier_postings: &mut [u64],
+    store_slots: &[u64],
+    store_postings: &[u64],
+) -> u64
+    ensures { λ r. ⌜ left r (now (tier .exit) ∷ now (store .exit) ∷ now (answer .exit) ∷ now (meter .exit) ∷ now («tier_slots» .exit) ∷ now («tier_postings» .exit) ∷ [])
+        ≡ seedCall (now (tier .entry)) (now (store .entry)) (now (answer .entry)) (now (meter .entry)) (now («tier_slots» .entry)) (now («tier_postings» .entry)) (now («store_slots» .entry)) (now («store_postings» .entry)) ⌝ }
+{
+    let seeded = seed(
+        header_of(tier),
+        tier_slots,
+        tier_postings,
+        header_of(store),
+        store_slots,
+        store_postings,
+        meter_of(meter),
+    );
+    let a = seeded.answer;
+    let reply = transfer_reply(a);
+    if reply.refusal != 0 {
+        return reply.refusal;
+    }
+    let receiver = seeded.tier;
+    let giver = seeded.store;
+    let work = seeded.meter;
+    put_header(receiver, tier);
+    put_header(giver, store);
+    put_answer(reply, seeded.ticks, answer);
+    put_meter(work, meter);
+    0
+}
+
+// Deliver: a store takes the rows of a tier; refused as Seed is.
+#[no_mangle]
+pub extern "C" fn ledger_deliver(
+    tier: &mut [u64; 25],
+    store: &mut [u64; 25],
+    answer: &mut [u64; 3],
+    meter: &mut [u64; 2],
+    tier_slots: &mut [u64],
+    tier_postings: &[u64],
+    store_slots: &mut [u64],
+    store_postings: &mut [u64],
+) -> u64
+    ensures { λ r. ⌜ left r (now (tier .exit) ∷ now (store .exit) ∷ now (answer .exit) ∷ now (meter .exit) ∷ now («tier_slots» .exit) ∷ now («store_slots» .exit) ∷ now («store_postings» .exit) ∷ [])
+        ≡ deliverCall (now (tier .entry)) (now (store .entry)) (now (answer .entry)) (now (meter .entry)) (now («tier_slots» .entry)) (now («tier_postings» .entry)) (now («store_slots» .entry)) (now («store_postings» .entry)) ⌝ }
+{
+    let delivered = deliver(
+        header_of(tier),
+        tier_slots,
+        tier_postings,
+        header_of(store),
+        store_slots,
+        store_postings,
+        meter_of(meter),
+    );
+    let a = delivered.answer;
+    let reply = transfer_reply(a);
+    if reply.refusal != 0 {
+        return reply.refusal;
+    }
+    let giver = delivered.tier;
+    let receiver = delivered.store;
+    let work = delivered.meter;
+    put_header(giver, tier);
+    put_header(receiver, store);
+    put_answer(reply, delivered.ticks, answer);
     put_meter(work, meter);
     0
 }

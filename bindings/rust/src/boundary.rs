@@ -1,0 +1,171 @@
+//! The functions of the static library, as `include/ledger.h` declares them. A lent array is a reference; a lent slice is a
+//! pointer and a length. Nothing checks these lines against the library: tests/calls.rs calls each of them.
+
+#[cfg(not(target_arch = "x86_64"))]
+compile_error!("the static library of the ledger is made for x86-64");
+
+/// The words of a header: the limits, number, rows, born, epoch, attempts, remaining, sharing, evicted, deliveries, seeded,
+/// stale, full, and the three of the mark.
+pub type Header = [u64; 25];
+/// The limits in the header's order.
+pub type Limits = [u64; 10];
+/// Case, value, ticks.
+pub type Answer = [u64; 3];
+/// Charged, limit.
+pub type MeterWords = [u64; 2];
+/// Next, word, present, absent.
+pub type CursorWords = [u64; 4];
+
+pub const SLOT_WORDS: usize = 168;
+pub const POSTING_WORDS: usize = 80;
+
+#[link(name = "boundary", kind = "static")]
+unsafe extern "C" {
+    pub fn ledger_make(
+        limits: &Limits,
+        number: u64,
+        head: &mut Header,
+        answer: &mut Answer,
+        slots: *mut u64,
+        slots_len: usize,
+        postings: *mut u64,
+        postings_len: usize,
+    ) -> u64;
+
+    pub fn ledger_begin(
+        head: &mut Header,
+        answer: &mut Answer,
+        slots: *const u64,
+        slots_len: usize,
+        postings: *const u64,
+        postings_len: usize,
+    ) -> u64;
+
+    pub fn ledger_hit(
+        head: &mut Header,
+        answer: &mut Answer,
+        slots: *mut u64,
+        slots_len: usize,
+        postings: *const u64,
+        postings_len: usize,
+        position: u64,
+    ) -> u64;
+
+    pub fn ledger_deduce(
+        head: &Header,
+        answer: &mut Answer,
+        meter: &mut MeterWords,
+        slots: *const u64,
+        slots_len: usize,
+        postings: *const u64,
+        postings_len: usize,
+        position: u64,
+        held: *const u64,
+        held_len: usize,
+        cut: *const u64,
+        cut_len: usize,
+    ) -> u64;
+
+    pub fn ledger_next_output(
+        head: &Header,
+        answer: &mut Answer,
+        meter: &mut MeterWords,
+        cursor: &mut CursorWords,
+        slots: *const u64,
+        slots_len: usize,
+        postings: *const u64,
+        postings_len: usize,
+        position: u64,
+        held: *const u64,
+        held_len: usize,
+        cut: *const u64,
+        cut_len: usize,
+    ) -> u64;
+
+    pub fn ledger_decide(
+        answer: &mut Answer,
+        atoms: u64,
+        held: *mut u64,
+        held_len: usize,
+        cut: *mut u64,
+        cut_len: usize,
+        atom: u64,
+        value: u64,
+    ) -> u64;
+
+    pub fn ledger_offer(
+        head: &mut Header,
+        answer: &mut Answer,
+        meter: &mut MeterWords,
+        slots: *mut u64,
+        slots_len: usize,
+        postings: *mut u64,
+        postings_len: usize,
+        conditions: *const u64,
+        conditions_len: usize,
+        outputs: *const u64,
+        outputs_len: usize,
+    ) -> u64;
+
+    pub fn ledger_candidates(
+        head: &mut Header,
+        answer: &mut Answer,
+        meter: &mut MeterWords,
+        slots: *const u64,
+        slots_len: usize,
+        postings: *mut u64,
+        postings_len: usize,
+        atoms: *const u64,
+        atoms_len: usize,
+        found: *mut u64,
+        found_len: usize,
+    ) -> u64;
+
+    pub fn ledger_close(
+        head: &mut Header,
+        answer: &mut Answer,
+        meter: &mut MeterWords,
+        slots: *mut u64,
+        slots_len: usize,
+        postings: *mut u64,
+        postings_len: usize,
+        held: *mut u64,
+        held_len: usize,
+        cut: *mut u64,
+        cut_len: usize,
+        rows: *mut u64,
+        rows_len: usize,
+        atoms: *mut u64,
+        atoms_len: usize,
+    ) -> u64;
+
+    pub fn ledger_seed(
+        tier: &mut Header,
+        store: &mut Header,
+        answer: &mut Answer,
+        meter: &mut MeterWords,
+        tier_slots: *mut u64,
+        tier_slots_len: usize,
+        tier_postings: *mut u64,
+        tier_postings_len: usize,
+        store_slots: *const u64,
+        store_slots_len: usize,
+        store_postings: *const u64,
+        store_postings_len: usize,
+    ) -> u64;
+
+    pub fn ledger_deliver(
+        tier: &mut Header,
+        store: &mut Header,
+        answer: &mut Answer,
+        meter: &mut MeterWords,
+        tier_slots: *mut u64,
+        tier_slots_len: usize,
+        tier_postings: *const u64,
+        tier_postings_len: usize,
+        store_slots: *mut u64,
+        store_slots_len: usize,
+        store_postings: *mut u64,
+        store_postings_len: usize,
+    ) -> u64;
+}

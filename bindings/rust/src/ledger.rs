@@ -1,0 +1,452 @@
+//! A ledger and its calls.
+
+use crate::answers::{
+    Candidates, Charged, Closing, Deduction, NextOutput, Offer, Refusal, Transfer,
+};
+use crate::boundary::{
+    CursorWords, Header, MeterWords, POSTING_WORDS, SLOT_WORDS, ledger_begin, ledger_candidates,
+    ledger_close, ledger_deduce, ledger_deliver, ledger_hit, ledger_make, ledger_next_output,
+    ledger_offer, ledger_seed,
+};
+use crate::limits::LearningLimits;
+use crate::region::{Literal, Region};
+
+/// What is charged so far, and the limit that it may not pass.
+#[derive(Clone, Copy, Debug, PartialEq, Eq)]
+pub struct Meter {
+    words: MeterWords,
+}
+
+impl Meter {
+    /// Nothing charged yet.
+    pub const fn new(limit: u64) -> Meter {
+        Meter { words: [0, limit] }
+    }
+
+    /// The ticks charged so far.
+    pub const fn charged(&self) -> u64 {
+        self.words[0]
+    }
+
+    /// The limit.
+    pub const fn limit(&self) -> u64 {
+        self.words[1]
+    }
+}
+
+/// A place among the outputs of a row. The default one is the start.
+#[derive(Clone, Copy, Debug, Default, PartialEq, Eq)]
+pub struct Cursor {
+    words: CursorWords,
+}
+
+/// A store that a tier was seeded from, whole: its number, and its born then.
+#[derive(Clone, Copy, Debug, PartialEq, Eq)]
+pub struct Mark {
+    /// The store's number.
+    pub number: u64,
+    /// The store's born.
+    pub born: u64,
+}
+
+/// A ledger with its words: the header, the slots and the postings, and two buffers that a closing works in.
+///
+/// The words are always a ledger's: they come from [`Ledger::make`] or were tested by [`Ledger::from_words`], and nothing but
+/// the proved functions writes them. So its methods are refused for what is given to them alone.
+#[derive(Clone, Debug)]
+pub struct Ledger {
+    header: Header,
+    slots: Vec<u64>,
+    postings: Vec<u64>,
+    row_words: Vec<u64>,
+    atom_words: Vec<u64>,
+}
+
+impl Ledger {
+    /// Makes an empty ledger, with a number for good. Refused by 1 for limits outside their ranges.
+    pub fn make(limits: &LearningLimits, number: u64) -> Result<Ledger, Refusal> {
+        // Limits out of range are refused whatever is lent: nothing then.
+        let rows = if limits.tier_rows <= 4_096 {
+            limits.tier_rows as usize
+        } else {
+            0
+        };
+        let mut header = [0; 25];
+        let mut slots = vec![0; SLOT_WORDS * rows];
+        let mut postings = vec![0; POSTING_WORDS * rows];
+        let mut answer = [0; 3];
+        // SAFETY: both lengths are those of the vectors, which are this function's own, and overlap nothing.
+        let result = unsafe {
+            ledger_make(
+                &limits.words(),
+                number,
+                &mut header,
+                &mut answer,
+                slots.as_mut_ptr(),
+                slots.len(),
+                postings.as_mut_ptr(),
+                postings.len(),
+            )
+        };
+        Refusal::of(result)?;
+        Ok(Ledger::with_buffers(header, slots, postings))
+    }
+
+    /// The ledger of given words, as [`Ledger::header`], [`Ledger::slots`] and [`Ledger::postings`] give them. Refused by 1, 2
+    /// or 3 if they are no ledger's.
+    pub fn from_words(
+        header: [u64; 25],
+        slots: Vec<u64>,
+        postings: Vec<u64>,
+    ) -> Result<Ledger, Refusal> {
+        // Begin has no refusal but these, and writes the header alone: a copy of it.
+        let mut copy = header;
+        Refusal::of(begin(&mut copy, &slots, &postings))?;
+        Ok(Ledger::with_buffers(header, slots, postings))
+    }
+
+    /// Of accepted words: there are at most 4,096 rows and 32,768 atoms.
+    fn with_buffers(header: Header, slots: Vec<u64>, postings: Vec<u64>) -> Ledger {
+        let limits = LearningLimits::of(&header);
+        Ledger {
+            header,
+            slots,
+            postings,
+            row_words: vec![0; limits.tier_rows as usize],
+            atom_words: vec![0; limits.atoms as usize],
+        }
+    }
+
+    /// Offers a row: conditions and outputs by ascending codes. Refused by 4 if they are no row, or larger than
+    /// founded_conditions and founded_outputs.
+    pub fn offer(
+        &mut self,
+        meter: &mut Meter,
+        conditions: &[Literal],
+        outputs: &[Literal],
+    ) -> Result<Charged<Offer>, Refusal> {
+        let mut answer = [0; 3];
+        // SAFETY: every length is that of its slice or vector; a literal is one word; `self` and `meter` are borrowed mutably,
+        // so that nothing written overlaps anything else.
+        let result = unsafe {
+            ledger_offer(
+                &mut self.header,
+                &mut answer,
+                &mut meter.words,
+                self.slots.as_mut_ptr(),
+                self.slots.len(),
+                self.postings.as_mut_ptr(),
+                self.postings.len(),
+                conditions.as_ptr().cast(),
+                conditions.len(),
+                outputs.as_ptr().cast(),
+                outputs.len(),
+            )
+        };
+        Refusal::of(result)?;
+        Ok(Charged::new(Offer::of(answer), answer))
+    }
+
+    /// Counts one hit more for the row at a position, and one more that is not shared yet. Refused by 5.
+    pub fn hit(&mut self, position: usize) -> Result<(), Refusal> {
+        let mut answer = [0; 3];
+        // SAFETY: both lengths are those of the vectors, and `self` is borrowed mutably.
+        let result = unsafe {
+            ledger_hit(
+                &mut self.header,
+                &mut answer,
+                self.slots.as_mut_ptr(),
+                self.slots.len(),
+                self.postings.as_ptr(),
+                self.postings.len(),
+                position as u64,
+            )
+        };
+        Refusal::of(result)
+    }
+
+    /// Has the next search take all rows. Refused by nothing: the words are a ledger's.
+    pub fn begin(&mut self) -> Result<(), Refusal> {
+        Refusal::of(begin(&mut self.header, &self.slots, &self.postings))
+    }
+
+    /// The rows to be looked at after these atoms were decided; all rows, if there are at most 64, or after
+    /// [`Ledger::begin`]. Refused by nothing: the words are a ledger's.
+    pub fn candidates(
+        &mut self,
+        meter: &mut Meter,
+        atoms: &[u64],
+    ) -> Result<Charged<Candidates>, Refusal> {
+        let mut answer = [0; 3];
+        // SAFETY: every length is that of its slice or vector; `self` and `meter` are borrowed mutably, so that nothing written
+        // overlaps anything else.
+        let result = unsafe {
+            ledger_candidates(
+                &mut self.header,
+                &mut answer,
+                &mut meter.words,
+                self.slots.as_ptr(),
+                self.slots.len(),
+                self.postings.as_mut_ptr(),
+                self.postings.len(),
+                atoms.as_ptr(),
+                atoms.len(),
+                self.row_words.as_mut_ptr(),
+                self.row_words.len(),
+            )
+        };
+        Refusal::of(result)?;
+        let found = match answer[0] {
+            0 => Candidates::Rows(
+                self.row_words
+                    .iter()
+                    .take(answer[1] as usize)
+                    .map(|&row| row as usize)
+                    .collect(),
+            ),
+            _ => Candidates::Stopped,
+        };
+        Ok(Charged::new(found, answer))
+    }
+
+    /// What the row at a position says of a region. Refused by 5 and 6.
+    pub fn deduce(
+        &self,
+        meter: &mut Meter,
+        position: usize,
+        region: &Region,
+    ) -> Result<Charged<Deduction>, Refusal> {
+        let mut answer = [0; 3];
+        // SAFETY: every length is that of its vector; what is written is `answer` and `meter`, which is borrowed mutably.
+        let result = unsafe {
+            ledger_deduce(
+                &self.header,
+                &mut answer,
+                &mut meter.words,
+                self.slots.as_ptr(),
+                self.slots.len(),
+                self.postings.as_ptr(),
+                self.postings.len(),
+                position as u64,
+                region.held.as_ptr(),
+                region.held.len(),
+                region.cut.as_ptr(),
+                region.cut.len(),
+            )
+        };
+        Refusal::of(result)?;
+        Ok(Charged::new(Deduction::of(answer), answer))
+    }
+
+    /// The next output of the row at a position, and the cursor past it; a packed row's outputs that the region has already
+    /// are passed over. Refused by 5, 6, and 8 for another row's cursor.
+    pub fn next_output(
+        &self,
+        meter: &mut Meter,
+        position: usize,
+        cursor: &mut Cursor,
+        region: &Region,
+    ) -> Result<Charged<NextOutput>, Refusal> {
+        let mut answer = [0; 3];
+        // SAFETY: every length is that of its vector; what is written is `answer`, and `meter` and `cursor`, which are borrowed
+        // mutably.
+        let result = unsafe {
+            ledger_next_output(
+                &self.header,
+                &mut answer,
+                &mut meter.words,
+                &mut cursor.words,
+                self.slots.as_ptr(),
+                self.slots.len(),
+                self.postings.as_ptr(),
+                self.postings.len(),
+                position as u64,
+                region.held.as_ptr(),
+                region.held.len(),
+                region.cut.as_ptr(),
+                region.cut.len(),
+            )
+        };
+        Refusal::of(result)?;
+        Ok(Charged::new(NextOutput::of(answer), answer))
+    }
+
+    /// Closes a region under the rows: all that they force or require is marked in it. Refused by 6.
+    pub fn close(
+        &mut self,
+        meter: &mut Meter,
+        region: &mut Region,
+    ) -> Result<Charged<Closing>, Refusal> {
+        let mut answer = [0; 3];
+        // SAFETY: every length is that of its vector; `self`, `meter` and `region` are borrowed mutably, so that nothing written
+        // overlaps anything else.
+        let result = unsafe {
+            ledger_close(
+                &mut self.header,
+                &mut answer,
+                &mut meter.words,
+                self.slots.as_mut_ptr(),
+                self.slots.len(),
+                self.postings.as_mut_ptr(),
+                self.postings.len(),
+                region.held.as_mut_ptr(),
+                region.held.len(),
+                region.cut.as_mut_ptr(),
+                region.cut.len(),
+                self.row_words.as_mut_ptr(),
+                self.row_words.len(),
+                self.atom_words.as_mut_ptr(),
+                self.atom_words.len(),
+            )
+        };
+        Refusal::of(result)?;
+        Ok(Charged::new(Closing::of(answer), answer))
+    }
+
+    /// This ledger, the tier, takes the rows of a store, paid from its own sharing account. Rows up to its seed mark are passed
+    /// over. Refused by 7 for ledgers over different numbers of atoms.
+    pub fn seed(
+        &mut self,
+        store: &mut Ledger,
+        meter: &mut Meter,
+    ) -> Result<Charged<Transfer>, Refusal> {
+        let mut answer = [0; 3];
+        // SAFETY: every length is that of its vector; `self`, `store` and `meter` are borrowed mutably, so that nothing written
+        // overlaps anything else.
+        let result = unsafe {
+            ledger_seed(
+                &mut self.header,
+                &mut store.header,
+                &mut answer,
+                &mut meter.words,
+                self.slots.as_mut_ptr(),
+                self.slots.len(),
+                self.postings.as_mut_ptr(),
+                self.postings.len(),
+                store.slots.as_ptr(),
+                store.slots.len(),
+                store.postings.as_ptr(),
+                store.postings.len(),
+            )
+        };
+        Refusal::of(result)?;
+        Ok(Charged::new(Transfer::of(answer), answer))
+    }
+
+    /// A store takes the rows of this ledger, the tier, paid from the tier's sharing account. Rows without news, and wide ones
+    /// with few hits, are passed over. Refused by 7 for ledgers over different numbers of atoms.
+    pub fn deliver(
+        &mut self,
+        store: &mut Ledger,
+        meter: &mut Meter,
+    ) -> Result<Charged<Transfer>, Refusal> {
+        let mut answer = [0; 3];
+        // SAFETY: every length is that of its vector; `self`, `store` and `meter` are borrowed mutably, so that nothing written
+        // overlaps anything else.
+        let result = unsafe {
+            ledger_deliver(
+                &mut self.header,
+                &mut store.header,
+                &mut answer,
+                &mut meter.words,
+                self.slots.as_mut_ptr(),
+                self.slots.len(),
+                self.postings.as_ptr(),
+                self.postings.len(),
+                store.slots.as_mut_ptr(),
+                store.slots.len(),
+                store.postings.as_mut_ptr(),
+                store.postings.len(),
+            )
+        };
+        Refusal::of(result)?;
+        Ok(Charged::new(Transfer::of(answer), answer))
+    }
+
+    /// The limits that it was made with.
+    pub fn limits(&self) -> LearningLimits {
+        LearningLimits::of(&self.header)
+    }
+
+    /// The number given when it was made.
+    pub fn number(&self) -> u64 {
+        self.header[10]
+    }
+
+    /// How many rows there are.
+    pub fn rows(&self) -> usize {
+        self.header[11] as usize
+    }
+
+    /// How many rows were ever added.
+    pub fn born(&self) -> u64 {
+        self.header[12]
+    }
+
+    /// How many rows were offered.
+    pub fn attempts(&self) -> u64 {
+        self.header[14]
+    }
+
+    /// The reads left for offers.
+    pub fn remaining(&self) -> u64 {
+        self.header[15]
+    }
+
+    /// The reads left for transfers.
+    pub fn sharing(&self) -> u64 {
+        self.header[16]
+    }
+
+    /// How many rows were evicted.
+    pub fn evicted(&self) -> u64 {
+        self.header[17]
+    }
+
+    /// How many rows were added to it, as a store, by deliveries.
+    pub fn deliveries(&self) -> u64 {
+        self.header[18]
+    }
+
+    /// How many rows of it, as a store, were added to tiers by seedings.
+    pub fn seeded(&self) -> u64 {
+        self.header[19]
+    }
+
+    /// The store that it was last seeded from, whole.
+    pub fn mark(&self) -> Option<Mark> {
+        let [set, number, born] = [self.header[22], self.header[23], self.header[24]];
+        (set != 0).then_some(Mark { number, born })
+    }
+
+    /// The words of the header, in the order of include/ledger.h.
+    pub fn header(&self) -> &[u64; 25] {
+        &self.header
+    }
+
+    /// The words of the slots, 168 a row.
+    pub fn slots(&self) -> &[u64] {
+        &self.slots
+    }
+
+    /// The words of the postings, 80 a row.
+    pub fn postings(&self) -> &[u64] {
+        &self.postings
+    }
+}
+
+/// The result of `ledger_begin`.
+fn begin(header: &mut Header, slots: &[u64], postings: &[u64]) -> u64 {
+    let mut answer = [0; 3];
+    // SAFETY: both lengths are those of the slices; what is written is `answer` and the header, which is borrowed mutably.
+    unsafe {
+        ledger_begin(
+            header,
+            &mut answer,
+            slots.as_ptr(),
+            slots.len(),
+            postings.as_ptr(),
+            postings.len(),
+        )
+    }
+}

@@ -1,0 +1,141 @@
+//! Literals, and the marks of a plan.
+
+use crate::answers::Refusal;
+use crate::boundary::ledger_decide;
+use std::ops::Not;
+
+/// An atom with a sign: held, or cut. It is one word, the code 2 × atom, plus 1 for held.
+#[derive(Clone, Copy, Debug, PartialEq, Eq, PartialOrd, Ord, Hash)]
+#[repr(transparent)]
+pub struct Literal(u64);
+
+impl Literal {
+    /// The atom held. An atom that no code has gives the greatest code, which is refused wherever it is offered.
+    pub const fn held(atom: u64) -> Literal {
+        Literal(atom.saturating_mul(2).saturating_add(1))
+    }
+
+    /// The atom cut. An atom that no code has gives the greatest code, which is refused wherever it is offered.
+    pub const fn cut(atom: u64) -> Literal {
+        Literal(atom.saturating_mul(2))
+    }
+
+    /// The literal of a code.
+    pub const fn from_code(code: u64) -> Literal {
+        Literal(code)
+    }
+
+    /// Its code.
+    pub const fn code(self) -> u64 {
+        self.0
+    }
+
+    /// Its atom.
+    pub const fn atom(self) -> u64 {
+        self.0 / 2
+    }
+
+    /// Whether it holds its atom; else it cuts it.
+    pub const fn is_held(self) -> bool {
+        self.0 % 2 == 1
+    }
+}
+
+/// The same atom with the opposite sign.
+impl Not for Literal {
+    type Output = Literal;
+
+    fn not(self) -> Literal {
+        Literal(self.0 ^ 1)
+    }
+}
+
+/// The marks of a plan over some atoms: each is held, cut, or undecided.
+#[derive(Clone, Debug, PartialEq, Eq)]
+pub struct Region {
+    atoms: u64,
+    pub(crate) held: Vec<u64>,
+    pub(crate) cut: Vec<u64>,
+}
+
+impl Region {
+    /// Nothing decided. Refused by 6 for `atoms` outside 1 to 32,768.
+    pub fn new(atoms: u64) -> Result<Region, Refusal> {
+        let words = if atoms <= 32_768 {
+            atoms.div_ceil(64) as usize
+        } else {
+            0
+        };
+        Region::from_words(atoms, vec![0; words], vec![0; words])
+    }
+
+    /// The region of given words, a bit an atom. Refused by 6 if they are none: each is ⌈atoms / 64⌉ words, with no common bit
+    /// and no bit at `atoms` or above.
+    pub fn from_words(atoms: u64, held: Vec<u64>, cut: Vec<u64>) -> Result<Region, Refusal> {
+        let mut region = Region { atoms, held, cut };
+        // No region has this atom, so that nothing is marked.
+        Refusal::of(region.ask(Literal::cut(atoms)).0)?;
+        Ok(region)
+    }
+
+    /// Marks a literal. False, and nothing is changed, if the opposite is marked or the atom is none of the region's.
+    pub fn decide(&mut self, literal: Literal) -> bool {
+        // A region is never refused: it was tested when it was made.
+        self.ask(literal) == (0, 1)
+    }
+
+    /// The result of `ledger_decide`, and the case answered.
+    fn ask(&mut self, literal: Literal) -> (u64, u64) {
+        let mut answer = [0; 3];
+        // SAFETY: both lengths are those of the vectors, and `self` is borrowed mutably, so that nothing written overlaps
+        // anything else.
+        let result = unsafe {
+            ledger_decide(
+                &mut answer,
+                self.atoms,
+                self.held.as_mut_ptr(),
+                self.held.len(),
+                self.cut.as_mut_ptr(),
+                self.cut.len(),
+                literal.atom(),
+                literal.is_held() as u64,
+            )
+        };
+        (result, answer[0])
+    }
+
+    /// How many atoms there are.
+    pub fn atoms(&self) -> u64 {
+        self.atoms
+    }
+
+    /// Whether the literal is marked.
+    pub fn contains(&self, literal: Literal) -> bool {
+        let words = if literal.is_held() {
+            &self.held
+        } else {
+            &self.cut
+        };
+        let atom = literal.atom();
+        words
+            .get((atom / 64) as usize)
+            .is_some_and(|word| word >> (atom % 64) & 1 == 1)
+    }
+
+    /// The literals marked, by ascending codes.
+    pub fn literals(&self) -> impl Iterator<Item = Literal> {
+        (0..2 * self.atoms)
+            .map(Literal)
+            .filter(|&literal| self.contains(literal))
+    }
+
+    /// The words of the atoms held.
+    pub fn held(&self) -> &[u64] {
+        &self.held
+    }
+
+    /// The words of the atoms cut.
+    pub fn cut(&self) -> &[u64] {
+        &self.cut
+    }
+}

@@ -1,0 +1,505 @@
+//! Every method through the linked library. The figures are document 01's bench cards, or counted by hand from its modules.
+//! That the functions meet their definitions is proved; what is tried here is that the wrapper lends the right words.
+
+use ledger::{
+    Candidates, Charged, Closing, Cursor, Deduction, LearningLimits, Ledger, Literal, Mark, Meter,
+    NextOutput, Offer, Refusal, Region, Transfer,
+};
+
+fn codes<const N: usize>(codes: [u64; N]) -> [Literal; N] {
+    codes.map(Literal::from_code)
+}
+
+fn charged<T>(answer: T, ticks: u64) -> Result<Charged<T>, Refusal> {
+    Ok(Charged { answer, ticks })
+}
+
+/// Limits over 128 atoms with room for so many rows.
+fn limits(tier_rows: u64) -> LearningLimits {
+    LearningLimits {
+        tier_rows,
+        founded_floor: 1,
+        share_hits: 3,
+        ..LearningLimits::tier(128)
+    }
+}
+
+/// Two rows over 128 atoms: 7 → 140, scalar, and 1, 3 → 140, 142, packed.
+fn two_rows(number: u64) -> Ledger {
+    let mut ledger = Ledger::make(&limits(2), number).unwrap();
+    let mut meter = Meter::new(1000);
+    assert_eq!(
+        ledger.offer(&mut meter, &codes([7]), &codes([140])),
+        charged(Offer::Added(0), 2)
+    );
+    // 2 to compare it with the first row, 8 to write it.
+    assert_eq!(
+        ledger.offer(&mut meter, &codes([1, 3]), &codes([140, 142])),
+        charged(Offer::Added(1), 10)
+    );
+    assert_eq!(meter.charged(), 12);
+    ledger
+}
+
+fn region(literals: &[Literal]) -> Region {
+    let mut region = Region::new(128).unwrap();
+    for &literal in literals {
+        assert!(region.decide(literal));
+    }
+    region
+}
+
+fn same_words(a: &Ledger, b: &Ledger) -> bool {
+    a.header() == b.header() && a.slots() == b.slots() && a.postings() == b.postings()
+}
+
+#[test]
+fn limits_are_those_of_document_01() {
+    let tier = LearningLimits::tier(128);
+    assert_eq!(
+        LearningLimits::DEFAULT,
+        LearningLimits {
+            atoms: 32_768,
+            tier_rows: 64,
+            founded_conditions: 16,
+            founded_outputs: 64,
+            founded_floor: 64,
+            founded_attempts: 256,
+            founded_work: 131_072,
+            share_work: 131_072,
+            share_conditions: 8,
+            share_hits: 2,
+        }
+    );
+    assert_eq!(
+        tier,
+        LearningLimits {
+            atoms: 128,
+            ..LearningLimits::DEFAULT
+        }
+    );
+    assert_eq!(
+        LearningLimits::store(128),
+        LearningLimits {
+            tier_rows: 256,
+            founded_floor: 0,
+            ..tier
+        }
+    );
+    assert_eq!(Ledger::make(&tier, 5).unwrap().limits(), tier);
+}
+
+#[test]
+fn a_ledger_is_made_empty_or_refused() {
+    let ledger = Ledger::make(&limits(2), 9).unwrap();
+    assert_eq!(
+        (
+            ledger.number(),
+            ledger.rows(),
+            ledger.born(),
+            ledger.attempts(),
+            ledger.evicted()
+        ),
+        (9, 0, 0, 0, 0)
+    );
+    assert_eq!(
+        (
+            ledger.remaining(),
+            ledger.sharing(),
+            ledger.deliveries(),
+            ledger.seeded()
+        ),
+        (131_072, 131_072, 0, 0)
+    );
+    assert_eq!(ledger.mark(), None);
+    assert!(
+        ledger
+            .slots()
+            .iter()
+            .chain(ledger.postings())
+            .all(|&word| word == 0)
+    );
+    assert_eq!((ledger.slots().len(), ledger.postings().len()), (336, 160));
+    for rows in [0, 4097, u64::MAX] {
+        assert_eq!(Ledger::make(&limits(rows), 9).err(), Some(Refusal(1)));
+    }
+    for atoms in [0, 32_769, u64::MAX] {
+        assert_eq!(
+            Ledger::make(&LearningLimits::tier(atoms), 9).err(),
+            Some(Refusal(1))
+        );
+    }
+}
+
+#[test]
+fn words_are_taken_back_or_refused() {
+    let ledger = two_rows(9);
+    let (header, slots, postings) = (
+        *ledger.header(),
+        ledger.slots().to_vec(),
+        ledger.postings().to_vec(),
+    );
+    assert!(same_words(
+        &Ledger::from_words(header, slots.clone(), postings.clone()).unwrap(),
+        &ledger
+    ));
+    let mut wide = header;
+    wide[0] = u64::MAX;
+    assert_eq!(
+        Ledger::from_words(wide, slots.clone(), postings.clone()).err(),
+        Some(Refusal(1))
+    );
+    assert_eq!(
+        Ledger::from_words(header, slots[1..].to_vec(), postings.clone()).err(),
+        Some(Refusal(2))
+    );
+    assert_eq!(
+        Ledger::from_words(header, slots.clone(), vec![]).err(),
+        Some(Refusal(2))
+    );
+    let mut damaged = slots;
+    damaged[7] = 2;
+    assert_eq!(
+        Ledger::from_words(header, damaged, postings).err(),
+        Some(Refusal(3))
+    );
+}
+
+#[test]
+fn offers_are_added_joined_subsumed_shut_declined_and_stopped() {
+    let mut ledger = Ledger::make(&limits(64), 9).unwrap();
+    let mut meter = Meter::new(1000);
+    assert_eq!(
+        ledger.offer(&mut meter, &codes([7]), &codes([140])),
+        charged(Offer::Added(0), 2)
+    );
+    assert_eq!(
+        ledger.offer(&mut meter, &codes([7]), &codes([140])),
+        charged(Offer::Subsumed(0), 3)
+    );
+    assert_eq!(
+        ledger.offer(&mut meter, &codes([7]), &codes([142])),
+        charged(Offer::Added(0), 14)
+    );
+    assert_eq!(
+        (
+            ledger.rows(),
+            ledger.born(),
+            ledger.attempts(),
+            ledger.remaining()
+        ),
+        (1, 2, 3, 131_072 - 19)
+    );
+    assert_eq!((meter.charged(), meter.limit()), (19, 1000));
+    assert_eq!(
+        ledger.offer(&mut Meter::new(1), &codes([9]), &codes([140])),
+        charged(Offer::Stopped, 1)
+    );
+    let mut poor = Ledger::make(
+        &LearningLimits {
+            founded_attempts: 1,
+            founded_work: 1,
+            ..limits(2)
+        },
+        9,
+    )
+    .unwrap();
+    assert_eq!(
+        poor.offer(&mut meter, &codes([7]), &codes([140])),
+        charged(Offer::Declined, 1)
+    );
+    assert_eq!(
+        poor.offer(&mut meter, &codes([7]), &codes([140])),
+        charged(Offer::Shut, 0)
+    );
+}
+
+#[test]
+fn a_refused_offer_changes_nothing() {
+    let before = two_rows(9);
+    let mut ledger = before.clone();
+    let mut meter = Meter::new(1000);
+    for (conditions, outputs) in [
+        (vec![Literal::held(128)], vec![Literal::cut(70)]),
+        (vec![Literal::held(u64::MAX)], vec![]),
+        (codes([9, 7]).to_vec(), vec![]),
+        (codes([6, 7]).to_vec(), vec![]),
+        (vec![], codes([140, 140]).to_vec()),
+        ((0..17).map(Literal::held).collect(), vec![]),
+        (vec![], (0..65).map(Literal::held).collect()),
+    ] {
+        assert_eq!(
+            ledger.offer(&mut meter, &conditions, &outputs),
+            Err(Refusal(4))
+        );
+        assert!(same_words(&ledger, &before));
+        assert_eq!(meter, Meter::new(1000));
+    }
+}
+
+#[test]
+fn hits_are_counted_in_the_row_named() {
+    let mut ledger = two_rows(9);
+    assert_eq!(ledger.hit(1), Ok(()));
+    assert_eq!(
+        (
+            ledger.slots()[4],
+            ledger.slots()[168 + 4],
+            ledger.slots()[168 + 5]
+        ),
+        (0, 1, 1)
+    );
+    assert_eq!(ledger.hit(2), Err(Refusal(5)));
+    assert_eq!(ledger.hit(usize::MAX), Err(Refusal(5)));
+}
+
+#[test]
+fn rows_are_deduced() {
+    let ledger = two_rows(9);
+    let deduced =
+        |limit, position, region: &Region| ledger.deduce(&mut Meter::new(limit), position, region);
+    let (three, seventy) = (Literal::held(3), Literal::held(70));
+    assert_eq!(
+        deduced(1000, 0, &region(&[three])),
+        charged(Deduction::Force, 2)
+    );
+    assert_eq!(
+        deduced(1000, 0, &region(&[seventy])),
+        charged(Deduction::Require(Literal::cut(3)), 3)
+    );
+    assert_eq!(
+        deduced(1000, 0, &region(&[Literal::cut(3)])),
+        charged(Deduction::Nothing, 2)
+    );
+    assert_eq!(
+        deduced(1000, 0, &region(&[])),
+        charged(Deduction::Nothing, 3)
+    );
+    let both = region(&[Literal::held(0), Literal::held(71)]);
+    assert_eq!(
+        deduced(1000, 1, &both),
+        charged(Deduction::Require(Literal::cut(1)), 3)
+    );
+    assert_eq!(deduced(1, 0, &both), charged(Deduction::Stopped, 1));
+    assert_eq!(deduced(1000, 2, &both), Err(Refusal(5)));
+    assert_eq!(
+        deduced(1000, 0, &Region::new(129).unwrap()),
+        Err(Refusal(6))
+    );
+}
+
+#[test]
+fn outputs_come_one_by_one() {
+    let ledger = two_rows(9);
+    let (mut meter, mut cursor, empty) = (Meter::new(4), Cursor::default(), region(&[]));
+    assert_eq!(
+        ledger.next_output(&mut meter, 0, &mut cursor, &empty),
+        charged(NextOutput::Output(Literal::cut(70)), 1)
+    );
+    assert_eq!(
+        ledger.next_output(&mut meter, 0, &mut cursor, &empty),
+        charged(NextOutput::End, 0)
+    );
+    assert_eq!(
+        ledger.next_output(&mut meter, 1, &mut cursor, &empty),
+        Err(Refusal(8))
+    );
+    // The packed row: a tick for the group and one for the output; 140 holds already.
+    cursor = Cursor::default();
+    let known = region(&[Literal::cut(70)]);
+    assert_eq!(
+        ledger.next_output(&mut meter, 1, &mut cursor, &known),
+        charged(NextOutput::Output(Literal::cut(71)), 2)
+    );
+    assert_eq!(
+        ledger.next_output(&mut meter, 1, &mut Cursor::default(), &known),
+        charged(NextOutput::Stopped, 1)
+    );
+}
+
+#[test]
+fn candidates_are_all_rows_or_those_of_the_atoms() {
+    let mut ledger = Ledger::make(&limits(65), 9).unwrap();
+    let mut meter = Meter::new(1_000_000);
+    for atom in 0..65 {
+        let added = ledger
+            .offer(&mut meter, &[Literal::held(atom)], &[Literal::cut(127)])
+            .unwrap();
+        assert_eq!(added.answer, Offer::Added(atom as usize));
+    }
+    let all = || Candidates::Rows((0..65).collect());
+    assert_eq!(ledger.candidates(&mut meter, &[]), charged(all(), 0));
+    assert_eq!(
+        ledger.candidates(&mut Meter::new(5), &[3]),
+        charged(Candidates::Stopped, 5)
+    );
+    // 130 postings are built; then a tick an atom and a posting.
+    assert_eq!(
+        ledger.candidates(&mut meter, &[3, 200, 3]),
+        charged(Candidates::Rows(vec![3]), 130 + 3 + 2)
+    );
+    assert_eq!(ledger.candidates(&mut meter, &[127]), charged(all(), 66));
+    assert_eq!(ledger.begin(), Ok(()));
+    assert_eq!(ledger.candidates(&mut meter, &[3]), charged(all(), 0));
+}
+
+#[test]
+fn regions_are_closed() {
+    let mut ledger = two_rows(9);
+    let mut plan = region(&[Literal::held(3)]);
+    // Two rounds: 2 to deduce each row, 1 for the output of the first.
+    assert_eq!(
+        ledger.close(&mut Meter::new(1000), &mut plan),
+        charged(Closing::Closed, 10)
+    );
+    assert!(plan.literals().eq([Literal::held(3), Literal::cut(70)]));
+    assert_eq!(ledger.slots()[4], 2);
+    let mut against = region(&[Literal::held(3), Literal::held(70)]);
+    assert_eq!(
+        ledger
+            .close(&mut Meter::new(1000), &mut against)
+            .map(|c| c.answer),
+        Ok(Closing::Conflict)
+    );
+    assert_eq!(
+        ledger.close(&mut Meter::new(0), &mut plan),
+        charged(Closing::Stopped, 0)
+    );
+    assert_eq!(
+        ledger.close(&mut Meter::new(1000), &mut Region::new(200).unwrap()),
+        Err(Refusal(6))
+    );
+}
+
+#[test]
+fn a_tier_is_seeded_from_a_store() {
+    let mut store = two_rows(4);
+    for _ in 0..5 {
+        store.hit(0).unwrap();
+    }
+    let mut tier = Ledger::make(&limits(2), 9).unwrap();
+    let mut meter = Meter::new(1000);
+    // 3 and 5 to read the rows, 2 to compare the second with the first, 2 and 8 to write them.
+    assert_eq!(
+        tier.seed(&mut store, &mut meter),
+        charged(Transfer::Done, 20)
+    );
+    assert_eq!(
+        (tier.rows(), tier.sharing(), tier.mark()),
+        (2, 131_072 - 20, Some(Mark { number: 4, born: 2 }))
+    );
+    // Two additions in a tier of two rows halve the hits that came along.
+    assert_eq!(
+        (tier.slots()[4], tier.slots()[5], tier.slots()[7]),
+        (2, 0, 1)
+    );
+    assert_eq!((store.seeded(), store.sharing()), (2, 131_072));
+    assert_eq!(
+        tier.seed(&mut store, &mut meter),
+        charged(Transfer::Done, 2)
+    );
+    assert_eq!(
+        tier.seed(&mut store, &mut Meter::new(1)),
+        charged(Transfer::Stopped, 1)
+    );
+    let mut wide = Ledger::make(&LearningLimits::store(129), 5).unwrap();
+    assert_eq!(tier.seed(&mut wide, &mut meter), Err(Refusal(7)));
+}
+
+#[test]
+fn a_store_takes_what_is_delivered() {
+    let mut tier = two_rows(9);
+    for _ in 0..5 {
+        tier.hit(0).unwrap();
+    }
+    let mut store = Ledger::make(&limits(2), 4).unwrap();
+    let mut meter = Meter::new(1000);
+    // As a seeding, and 1 for each row.
+    assert_eq!(
+        tier.deliver(&mut store, &mut meter),
+        charged(Transfer::Done, 22)
+    );
+    assert_eq!(
+        (store.rows(), store.deliveries(), store.slots()[4]),
+        (2, 2, 2)
+    );
+    assert_eq!(
+        (
+            tier.sharing(),
+            tier.slots()[4],
+            tier.slots()[5],
+            tier.slots()[7]
+        ),
+        (131_072 - 20, 5, 0, 1)
+    );
+    tier.hit(0).unwrap();
+    // 1 for each row, 3 to read the first, 3 to find it subsumed.
+    assert_eq!(
+        tier.deliver(&mut store, &mut meter),
+        charged(Transfer::Done, 8)
+    );
+    assert_eq!((store.rows(), store.slots()[4]), (2, 3));
+    assert_eq!(
+        tier.deliver(&mut store, &mut Meter::new(1)),
+        charged(Transfer::Stopped, 1)
+    );
+    let mut wide = Ledger::make(&LearningLimits::store(129), 5).unwrap();
+    assert_eq!(tier.deliver(&mut wide, &mut meter), Err(Refusal(7)));
+}
+
+#[test]
+fn a_region_is_decided_or_refused() {
+    let mut plan = Region::new(128).unwrap();
+    assert!(plan.decide(Literal::held(66)));
+    assert!(plan.decide(Literal::held(66)));
+    assert!(plan.decide(Literal::cut(0)));
+    assert!(!plan.decide(Literal::held(0)));
+    assert!(!plan.decide(Literal::held(128)));
+    assert!(!plan.decide(Literal::cut(u64::MAX)));
+    assert_eq!(
+        (plan.atoms(), plan.held(), plan.cut()),
+        (128, &[0, 4][..], &[1, 0][..])
+    );
+    assert!(plan.literals().eq([Literal::cut(0), Literal::held(66)]));
+    assert!(
+        plan.contains(Literal::held(66))
+            && !plan.contains(Literal::cut(66))
+            && !plan.contains(Literal::held(u64::MAX))
+    );
+    for atoms in [0, 32_769, u64::MAX] {
+        assert_eq!(Region::new(atoms), Err(Refusal(6)));
+    }
+    assert_eq!(
+        Region::from_words(128, vec![1, 0], vec![1, 0]),
+        Err(Refusal(6))
+    );
+    assert_eq!(
+        Region::from_words(100, vec![0, 1 << 36], vec![0, 0]),
+        Err(Refusal(6))
+    );
+    assert_eq!(Region::from_words(128, vec![1], vec![2]), Err(Refusal(6)));
+    assert_eq!(Region::from_words(128, vec![0, 4], vec![1, 0]), Ok(plan));
+}
+
+#[test]
+fn literals_and_refusals_say_what_they_are() {
+    assert_eq!(
+        (Literal::held(70).code(), Literal::cut(70).code()),
+        (141, 140)
+    );
+    assert_eq!(
+        (
+            Literal::from_code(141).atom(),
+            Literal::from_code(141).is_held()
+        ),
+        (70, true)
+    );
+    assert_eq!(
+        (!Literal::held(70), !Literal::cut(70)),
+        (Literal::cut(70), Literal::held(70))
+    );
+    assert_eq!(
+        Refusal(7).to_string(),
+        "refused by 7: tier and store over different numbers of atoms"
+    );
+}
