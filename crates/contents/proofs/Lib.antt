@@ -5,4 +5,5 @@ pub mod Walks
 pub mod Limits
 pub mod Holding
 pub mod Filing
+pub mod Places
 pub mod Accepting

@@ -123,7 +123,7 @@ module _ (k : ℕ) (ws : List ℕ) (at : ℕ) where
   abbrev here : List ℕ
   here = codesOf (getD ws at 0) (getD ws (at + 1) 0) (getD ws (at + 2) 0)
 
-  group-at : 3 ≤ length ws - at → hasAtom k (ungroup (drop at ws)) ≡ (hasAtom k here || hasAtom k (ungroup (drop (at + 3) ws)))
+  pub group-at : 3 ≤ length ws - at → hasAtom k (ungroup (drop at ws)) ≡ (hasAtom k here || hasAtom k (ungroup (drop (at + 3) ws)))
   unfolding ungroup hasAtom
   group-at l = ap (λ (l : List ℕ). hasAtom k (ungroup l)) (drop-three ws at (omega arith)) ∙ any-append (λ c. eqb (atom c) k) here (ungroup (drop (at + 3) ws))
 
@@ -135,7 +135,7 @@ module _ (k : ℕ) (ws : List ℕ) (at : ℕ) where
       ∙ or-assoc (not (eqb bits 0)) (not (eqb mark 0)) (hasAtom k (ungroup (drop (at + 3) ws)))
       ∙ ap (λ (b : Bool). not (eqb bits 0) || b) (ap (λ (b : Bool). b || hasAtom k (ungroup (drop (at + 3) ws))) e ∙ sym (group-at l))
 
-  group-none : length ws - at < 3 → hasAtom k (ungroup (drop at ws)) ≡ false
+  pub group-none : length ws - at < 3 → hasAtom k (ungroup (drop at ws)) ≡ false
   unfolding ungroup hasAtom any
   group-none l = ends (drop at ws) (length-drop at ws)
     where

@@ -10,12 +10,13 @@ ghost use Rattle.model.specs.Refusals.{refusal, accepts, countsOk};
 ghost use Rattle.slots.specs.Layout.{rowsIn};
 ghost use Rattle.contents.specs.Lent.{lent, verdict, slotsOk, postingsDue, Rows};
 
+mod placed;
 mod posted;
 
 use lists::all_zero;
 use model::Header;
 use model::LearningLimits;
-use posted::are_postings;
+use placed::are_postings;
 use posted::posting_total;
 use slotcheck::is_slot;
 use words::MAX_ATOMS;

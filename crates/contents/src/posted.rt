@@ -167,7 +167,7 @@ fn posted_less(slots: &[u64], rows: usize, posting: u64, often: u64) -> bool
 
 // Whether the words, as many as the first rows have postings, are those postings ascending: they ascend, and none stands more often
 // than its row is posted under its atom.
-pub fn are_postings(words: &[u64], slots: &[u64], rows: usize) -> bool
+pub fn are_posted(words: &[u64], slots: &[u64], rows: usize) -> bool
     requires { ⌜ Rows rows (now slots) ⌝ ∗ ⌜ length (now words) ≡ length (postingsOf (rowsIn rows (now slots))) ⌝ }
     ensures { λ r. ⌜ r ≡ same (now (words .entry)) (sortOf (postingsOf (rowsIn rows (now (slots .entry))))) ⌝ }
 {

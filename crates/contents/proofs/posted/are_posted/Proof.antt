@@ -1,4 +1,4 @@
--- `contents::posted::are_postings`. The loop is the check of a sorted list of `lists`. Assumes nothing.
+-- `contents::posted::are_posted`. The loop is the check of a sorted list of `lists`. Assumes nothing.
 use mathlib.Core.Path.{sym, ap, _∙_, subst}
 use Prim.Native.Nat.{_+_, _-_}
 use native.Mathlib.Omega.{arith}
@@ -11,8 +11,8 @@ use Rattle.lists.proofs.Tests.{same-yes, same-no}
 use Rattle.lists.proofs.Walks.{Checked, checked-start, checked-small, checked-back, checked-many, checked-more, checked-end}
 use Rattle.model.specs.Postings.{postingsOf}
 use Rattle.slots.specs.Layout.{rowsIn}
-use Rattle.contents.proofs.posted.are_postings.Statement.{statement}
-use Rattle.contents.proofs.posted.are_postings.Tie as tie
+use Rattle.contents.proofs.posted.are_posted.Statement.{statement}
+use Rattle.contents.proofs.posted.are_posted.Tie as tie
 
 abbrev Inv-loop : tie.InvT-loop
 Inv-loop words slots rows run₀ i₀ run i = Checked words (postingsOf (rowsIn rows slots)) run i
@@ -64,8 +64,8 @@ loop-again c =
 returns-3 : tie.Need-returns-3 Inv-loop μ-loop
 returns-3 c = sym (same-yes _ _ (checked-end _ _ _ _ (c .before .loop .inv) (c .loop-test .left)))
 
-pub are-postings-spec : {M : Type 1} → statement M
-are-postings-spec =
+pub are-posted-spec : {M : Type 1} → statement M
+are-posted-spec =
     tie.close
     (tie.spec
     Inv-loop

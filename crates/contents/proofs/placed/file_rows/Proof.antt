@@ -1,0 +1,106 @@
+-- `contents::placed::file_rows`. The loop: every posting of the first `p` rows stands before the place of its atom. Assumes nothing.
+use mathlib.Core.Path.{_≡_, refl}
+use mathlib.Core.Bool.{false≢true}
+use Prim.Native.Nat.{ℕ, _-_, _%_, _≤_, _<_}
+use native.Mathlib.Omega.{arith}
+use lib.ListN.{length}
+use borrow.Author.Tests.{not-false}
+use borrow.Author.Needs.{needs}
+use Rattle.lists.specs.Counts.{times}
+use Rattle.model.specs.Postings.{postingsOf}
+use Rattle.slots.specs.Layout.{rowsIn}
+use Rattle.contents.specs.Placed.{placed}
+use Rattle.contents.proofs.Filing.{holds-code}
+use Rattle.contents.proofs.Places.{rows-more, rows-all-placed}
+use Rattle.contents.proofs.placed.file_rows.Statement.{statement}
+use Rattle.contents.proofs.placed.file_rows.Tie as tie
+
+abbrev Inv-loop : tie.InvT-loop
+Inv-loop words places₀ slots rows p₀ places p =
+    (p ≤ rows) × (length places ≡ length places₀)
+    × ((v : ℕ) → v % 4096 < p → times v (postingsOf (rowsIn rows slots)) ≤ placed words places v)
+
+abbrev μ-loop : tie.MeasureT-loop
+μ-loop words places₀ slots rows p₀ places p = rows - p
+
+loop-holds : tie.Need-loop-holds Inv-loop μ-loop
+loop-holds c = (search needs, refl, (λ v h. absurd (omega arith)))
+
+mul-a : tie.Need-mul-a Inv-loop μ-loop
+mul-a c = search needs
+
+add-e : tie.Need-add-e Inv-loop μ-loop
+add-e c = search needs
+
+mul-file-row : tie.Need-mul-file-row Inv-loop μ-loop
+mul-file-row c = search needs
+
+sub-file-row : tie.Need-sub-file-row Inv-loop μ-loop
+sub-file-row c = search needs
+
+part-file-row-start : tie.Need-part-file-row-start Inv-loop μ-loop
+part-file-row-start c = search needs
+
+part-file-row-end : tie.Need-part-file-row-end Inv-loop μ-loop
+part-file-row-end c = search needs
+
+file-row-requires : tie.Need-file-row-requires Inv-loop μ-loop
+file-row-requires c κs =
+    let at = c .before .before .before in
+    let s = at .before .before .before .before in
+    let t = c .before .before .loop-test .taken in
+    let f = s .pre .1 .1 .few in
+    (s .pre .0, (omega (arith, at .loop .inv .1, s .pre .1 .0), (omega (arith, f, t), holds-code (s .args .rows) (s .args .slots .now) (s .pre .1 .1) (at .loop .p) t)))
+
+same-length : tie.Need-same-length Inv-loop μ-loop
+same-length c = search needs
+
+returns : tie.Need-returns Inv-loop μ-loop
+returns c = λ e. absurd (false≢true e)
+
+add-p : tie.Need-add-p Inv-loop μ-loop
+add-p c = search needs
+
+loop-less : tie.Need-loop-less Inv-loop μ-loop
+loop-less c = search needs
+
+loop-again : tie.Need-loop-again Inv-loop μ-loop
+loop-again c =
+    let turn = c .before .before .before .before .before .before in
+    let at = turn .before in
+    let s = at .before .before .before .before in
+    let t = turn .loop-test .taken in
+    (search needs, search needs,
+    rows-more (s .args .words .now) (s .args .slots .now) (s .args .rows) (s .pre .1 .1) (at .loop .places) _ (at .loop .p) t
+    (c .before .before .before .file-row .ensures (not-false _ (c .if1 .left))) (at .loop .inv .2))
+
+same-length-2 : tie.Need-same-length-2 Inv-loop μ-loop
+same-length-2 c = search needs
+
+returns-2 : tie.Need-returns-2 Inv-loop μ-loop
+returns-2 c =
+    let at = c .before in
+    let s = at .before .before .before .before in
+    λ e. rows-all-placed (s .args .words .now) (s .args .slots .now) (s .args .rows) (s .pre .1 .1) (at .loop .places) (at .loop .p) (c .loop-test .left) (at .loop .inv .2)
+
+pub file-rows-spec : {M : Type 1} → statement M
+file-rows-spec =
+    tie.close
+    (tie.spec
+    Inv-loop
+    μ-loop
+    loop-holds
+    mul-a
+    add-e
+    mul-file-row
+    sub-file-row
+    part-file-row-start
+    part-file-row-end
+    file-row-requires
+    same-length
+    returns
+    add-p
+    loop-less
+    loop-again
+    same-length-2
+    returns-2)
