@@ -60,7 +60,7 @@ placed-le ws ps v = times-take-le v (getD ps (v / 4096 % 4096) 0) ws
 
 -- a posting that stands at the place of its atom b
 module _ (ws ps : List ℕ) (b p i : ℕ) (hp : p < 4096) (l : length ps ≡ 4096) (q : i ≡ getD ps (b % 4096) 0) (f : i < length ws)
-  (d : getD ws i 0 / 4096 ≡ b) (m : getD ws i 0 % 4096 ≡ p) where
+    (d : getD ws i 0 / 4096 ≡ b) (m : getD ws i 0 % 4096 ≡ p) where
   moved : (v : ℕ) → v / 4096 % 4096 ≡ b % 4096 → placed ws (set ps (b % 4096) (i + 1)) v ≡ placed ws ps v + is v (getD ws i 0)
   moved v e =
       placed-take ws (set ps (b % 4096) (i + 1)) v (i + 1)
@@ -204,8 +204,12 @@ module _ (ws : List ℕ) (at a : ℕ) where
       oneIf (hasAtom a (ungroup (drop at ws)))
       ≤ oneIf (hasAtom a (ungroup (drop (at + 3) ws))) + oneIf (hasBit (getD ws at 0) (bitOr (getD ws (at + 1) 0) (getD ws (at + 2) 0)) a)
   groups-less l hp hq =
-      omega (arith, ap oneIf (group-at a ws at l), either (hasAtom a (codesOf (getD ws at 0) (getD ws (at + 1) 0) (getD ws (at + 2) 0))) (hasAtom a (ungroup (drop (at + 3) ws))),
-      ap oneIf (has-bit (getD ws at 0) (getD ws (at + 1) 0) (getD ws (at + 2) 0) a hp hq))
+      omega (
+        arith,
+        ap oneIf (group-at a ws at l),
+        either (hasAtom a (codesOf (getD ws at 0) (getD ws (at + 1) 0) (getD ws (at + 2) 0))) (hasAtom a (ungroup (drop (at + 3) ws))),
+        ap oneIf (has-bit (getD ws at 0) (getD ws (at + 1) 0) (getD ws (at + 2) 0) a hp hq),
+      )
     where
       either : (b d : Bool) → oneIf (b || d) ≤ oneIf b + oneIf d
       either true d = omega arith

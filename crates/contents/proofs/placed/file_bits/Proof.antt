@@ -57,10 +57,12 @@ loop-again c =
     let at = c .before .before .before .before .before .before in
     let a = at .before .before .before .args in
     let n = at .loop .left in
-    let t = c .before .before .before .before .before .loop-test .taken in
-    (search needs, omega (arith, and-le-r n (n - 1), at .loop .inv .1),
-    bits-step (a .words .now) (a .places .now) (at .loop .places) (a .position) (a .x) (a .bits) n _ (at .loop .inv .1) (omega (arith, t)) (at .loop .inv .2)
-    (c .before .before .before .file .ensures (not-false _ (c .if1 .left))))
+    let t = c .before .before .before .before .before .loop-test .taken in (
+      search needs,
+      omega (arith, and-le-r n (n - 1), at .loop .inv .1),
+      bits-step (a .words .now) (a .places .now) (at .loop .places) (a .position) (a .x) (a .bits) n _ (at .loop .inv .1) (omega (arith, t)) (at .loop .inv .2)
+          (c .before .before .before .file .ensures (not-false _ (c .if1 .left))),
+    )
 
 same-length-2 : tie.Need-same-length-2 Inv-loop μ-loop
 same-length-2 c = search needs

@@ -24,9 +24,12 @@ abbrev μ-loop : tie.MeasureT-loop
 
 loop-holds : tie.Need-loop-holds Inv-loop μ-loop
 loop-holds c =
-    let a = c .before .before .before .args in
-    (search needs, refl, (λ h. absurd (omega arith)),
-    grown-none (a .words .now) (a .position) (a .places .now) (λ k. oneIf (hasAtom k (take 0 (a .codes .now)))) (λ k. has-nothing k (a .codes .now)))
+    let a = c .before .before .before .args in (
+      search needs,
+      refl,
+      (λ h. absurd (omega arith)),
+      grown-none (a .words .now) (a .position) (a .places .now) (λ k. oneIf (hasAtom k (take 0 (a .codes .now)))) (λ k. has-nothing k (a .codes .now)),
+    )
 
 mul-atom : tie.Need-mul-atom Inv-loop μ-loop
 mul-atom c = search needs
@@ -54,10 +57,13 @@ loop-again c =
     let inl = c .before .before .before .before .before .before in
     let at = inl .before in
     let a = at .before .before .before .before .args in
-    let k = c .before .before .before .before .before .shared-slice-known3 .given (at .loop .i) in
-    (search needs, search needs, (λ h. last-has (a .codes .now) (at .loop .i) (inl .loop-test .taken)),
-    codes-step (a .codes .now) (at .loop .i) (inl .loop-test .taken) (a .words .now) (a .places .now) (at .loop .places) _ (a .position) (at .loop .last) 18446744073709551615
-    (omega (arith, k)) (at .loop .inv .2) (at .loop .inv .3) (c .before .before .before .file-fresh .ensures (not-false _ (c .if1 .left))))
+    let k = c .before .before .before .before .before .shared-slice-known3 .given (at .loop .i) in (
+      search needs,
+      search needs,
+      (λ h. last-has (a .codes .now) (at .loop .i) (inl .loop-test .taken)),
+      codes-step (a .codes .now) (at .loop .i) (inl .loop-test .taken) (a .words .now) (a .places .now) (at .loop .places) _ (a .position) (at .loop .last) 18446744073709551615
+          (omega (arith, k)) (at .loop .inv .2) (at .loop .inv .3) (c .before .before .before .file-fresh .ensures (not-false _ (c .if1 .left))),
+    )
 
 same-length-2 : tie.Need-same-length-2 Inv-loop μ-loop
 same-length-2 c = search needs

@@ -69,10 +69,12 @@ loop-again c =
     let turn = c .before .before .before .before .before .before in
     let at = turn .before in
     let s = at .before .before .before .before in
-    let t = turn .loop-test .taken in
-    (search needs, search needs,
-    rows-more (s .args .words .now) (s .args .slots .now) (s .args .rows) (s .pre .1 .1) (at .loop .places) _ (at .loop .p) t
-    (c .before .before .before .file-row .ensures (not-false _ (c .if1 .left))) (at .loop .inv .2))
+    let t = turn .loop-test .taken in (
+      search needs,
+      search needs,
+      rows-more (s .args .words .now) (s .args .slots .now) (s .args .rows) (s .pre .1 .1) (at .loop .places) _ (at .loop .p) t
+          (c .before .before .before .file-row .ensures (not-false _ (c .if1 .left))) (at .loop .inv .2),
+    )
 
 same-length-2 : tie.Need-same-length-2 Inv-loop μ-loop
 same-length-2 c = search needs
