@@ -7,10 +7,10 @@ use Prim.Native.Nat.{ℕ, _+_, _-_, _≤_}
 use native.Mathlib.Nat.{sub-zero}
 use native.Mathlib.Omega.{arith}
 use lib.ListN.{length, getD, take, drop, set, length-set}
-use lib.Seq.{take-at, drop-at, drop-append-add, drop-drop, length-take-le}
+use lib.Seq.{take-at, take-append-le, drop-at, drop-append-add, drop-drop, length-take-le}
 use types.Run.{OneOf}
 use denote.Enum.Declared.{tagOf}
-use borrow.Rule.Slice.PartMut.{putMid, midOf, mid-len}
+use borrow.Rule.Slice.PartMut.{putMid, midOf, postOf, mid-len}
 use Rattle.meter.specs.declared.Meter.{Meter}
 use Rattle.meter.specs.declared.Account.{Account}
 use Rattle.meter.specs.declared.Judged.{Judged}
@@ -28,7 +28,7 @@ use Rattle.proposals.specs.Offered.{rowOf}
 use Rattle.proposals.specs.Parts.{put, blankOf}
 use Rattle.proposals.specs.Proposed.{Proposed}
 use Rattle.proposals.proofs.Parts.{put-part, put-next, length-put, put-proposal, mid-long}
-use Rattle.proposals.proofs.Proposing.{proposed-long, proposed-conditions, proposed-laid}
+use Rattle.proposals.proofs.Proposing.{proposed-long, proposed-conditions, outputs-at}
 use Rattle.merge.specs.Merge.{ifYes}
 use Rattle.merge.proofs.Union.{union-long, union-same}
 
@@ -102,21 +102,25 @@ module _ (ws us : List ℕ) (p : Proposed ws) (more : length (rowIn ws .outputs)
       ∙ ap (λ (k : ℕ). put k us (put 8 cs b)) place ∙ put-next 8 cs us b (omega arith) ∙ put-proposal cs us
 
 -- ---- the union of the outputs of a slot and a proposal
-module _ (ws ps : List ℕ) (w : Laid ws) (p : Proposed ps) {ro po : Side} (e : ro ≡ outputSide ws) (f : po ≡ outputSide ps) where
+module _ (ws ps : List ℕ) (w : Laid ws) (p : Proposed ps) {ro : Side} (e : ro ≡ outputSide ws) where
   pub sound-left : Sound ws ro
   sound-left = subst (Sound ws) (sym e) (w .second)
 
-  pub sound-right : Sound ps po
-  sound-right = subst (Sound ps) (sym f) (proposed-laid ps p .second)
-
-  -- the union of the two sides is that of the rows
-  pub sides-union : union (listOf ws ro) (listOf ps po) ≡ grown (rowIn ws) (rowIn ps) .outputs
+  -- the union of the side with the part of the proposal is that of the rows
+  pub sides-union : union (listOf ws ro) (midOf (8 + getD ps 0 0) (8 + getD ps 0 0 + getD ps 1 0 - (8 + getD ps 0 0)) ps)
+      ≡ grown (rowIn ws) (rowIn ps) .outputs
   unfolding grown
-  sides-union = ap₂ union (ap (listOf ws) e ∙ w .outputs) (ap (listOf ps) f ∙ proposed-laid ps p .outputs)
+  sides-union =
+      let n : 8 + getD ps 0 0 + getD ps 1 0 - (8 + getD ps 0 0) ≡ getD ps 1 0 = omega arith in
+      ap₂ union (ap (listOf ws) e ∙ w .outputs) (ap (λ (k : ℕ). midOf (8 + getD ps 0 0) k ps) n ∙ outputs-at ps p)
 
 -- a part at the front of a list
 pub front-long : (n : ℕ) (zs : List ℕ) → n ≤ length zs → length (midOf 0 (n - 0) zs) ≡ n
 front-long n zs h = mid-len 0 n zs h ∙ sub-zero n
+
+-- and of one that was lent from there and came back as ys
+pub front-of : (n k : ℕ) (zs ys : List ℕ) → n ≤ length ys → midOf 0 (n - 0) (putMid 0 k zs ys) ≡ take n ys
+front-of n k zs ys h = ap (λ (q : ℕ). take q (putMid 0 k zs ys)) (sub-zero n) ∙ take-append-le n ys (postOf 0 k zs) h
 
 pub grown-long : (r p : Row) → length (p .outputs) ≤ length (grown r p .outputs)
 unfolding grown

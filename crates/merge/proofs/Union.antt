@@ -1,10 +1,12 @@
 -- The union of two ascending lists, step by step; one as long as its second list is that list. Assumes nothing.
-use mathlib.Core.Path.{_≡_, refl, _∙_, ap, ap₂}
-use mathlib.Core.List.{List, [], _∷_}
-use Prim.Native.Nat.{ℕ, _≤_, _<_, compare, Ordering, Ordering·lt, Ordering·eq, Ordering·gt}
+use mathlib.Core.Path.{_≡_, refl, sym, _∙_, ap, ap₂}
+use mathlib.Core.List.{List, [], _∷_, _++_, append-assoc}
+use Prim.Native.Nat.{ℕ, _+_, _≤_, _<_, compare, Ordering, Ordering·lt, Ordering·eq, Ordering·gt}
 use native.Mathlib.Decide.{ℕ-discrete, decLt}
+use native.Mathlib.Numerals.{add-one}
 use native.Mathlib.Omega.{arith}
-use lib.ListN.{length}
+use lib.ListN.{length, getD, take, drop, set}
+use lib.Seq.{drop-cons, take-suc-set}
 use Rattle.model.specs.Union.{into, union}
 use Rattle.rows.proofs.Compare.{compare-lt, compare-eq, compare-gt}
 
@@ -60,3 +62,12 @@ union-same (a ∷ xs) (b ∷ bs) e =
     ∙ ap₂ (λ (x : ℕ) (l : List ℕ). x ∷ l) q (union-same xs bs (let r = ap length (union-equal a b xs bs q) in omega arith)))
     (λ l. union-greater a b xs bs l
     ∙ ap (λ (t : List ℕ). b ∷ t) (union-same (a ∷ xs) bs (let r = ap length (union-greater a b xs bs l) in omega arith)))
+
+-- ---- a list walked by position, and one written from the front
+pub drop-next : (bs : List ℕ) (i : ℕ) → i < length bs → drop i bs ≡ getD bs i 0 ∷ drop (i + 1) bs
+drop-next bs i h = drop-cons bs i 0 h ∙ ap (λ (k : ℕ). getD bs i 0 ∷ drop k bs) (sym (add-one i))
+
+pub take-more : (n x : ℕ) (xs ws : List ℕ) → n < length ws → take (n + 1) (set ws n x) ++ xs ≡ take n ws ++ (x ∷ xs)
+take-more n x xs ws h =
+    ap (λ (q : List ℕ). q ++ xs) (ap (λ (k : ℕ). take k (set ws n x)) (add-one n) ∙ take-suc-set ws n x h)
+    ∙ append-assoc (take n ws) (x ∷ []) xs

@@ -14,68 +14,47 @@ ghost use Rattle.slots.specs.Layout.{Laid, proposal};
 ghost use Rattle.rows.specs.Charge.{WhereYes};
 ghost use Rattle.proposals.specs.Offered.{rowOf};
 ghost use Rattle.proposals.specs.Proposed.{Proposed};
-ghost use Rattle.merge.specs.Merge.{leftOf, givenOf, PlacedMerge, PlacedMerged, ifYes};
+ghost use Rattle.merge.specs.Merge.{leftOf, givenOf, PlacedBoth, PlacedMerged, BeginsWith, ifYes};
 use meter::Account;
 use meter::Judged;
 use meter::Meter;
+use meter::Read;
 use meter::Verdict;
 use rows::Charge;
+use slots::Cursor;
 use slots::Side;
 use slots::Step;
 
-// The next literal of each of two sides, with the cursor past it.
-pub struct Merge {
-    pub left: Step,
-    pub right: Step,
-}
-
-// The least literal of two sides and the walk past it, or the end of both.
+// The least literal of a side and a list, with the cursor and the position past it, or the end of both.
 pub enum Merged {
-    Literal(u64, Merge),
+    Literal(u64, Cursor, usize),
     End,
 }
 
-// The walk before the first literal of two sides.
-fn begin(a: &[u64], sa: Side, b: &[u64], sb: Side) -> Merge
-    requires { ⌜ Sound (now a) sa ⌝ ∗ ⌜ Sound (now b) sb ⌝ }
-    ensures { λ r. ⌜ (leftOf (now (a .entry)) sa (now (b .entry)) sb r ≡ union (listOf (now (a .entry)) sa) (listOf (now (b .entry)) sb))
-        × PlacedMerge sa sb r ⌝ }
+// The next literal of the union of what is left of a side and of a list, an equal one taken from both, or its end. Called in one place only: it
+// is then compiled into the loop there, and its answer needs no memory; a walk that passed it through memory took five times as long.
+fn step(a: &[u64], sa: Side, cursor: Cursor, b: &[u64], i: usize) -> Merged
+    requires { ⌜ Sound (now a) sa ⌝ ∗ ⌜ PlacedBoth sa (now b) cursor i ⌝ }
+    ensures { λ r. ⌜ (givenOf (now (a .entry)) sa (now (b .entry)) r ≡ leftOf (now (a .entry)) sa (now (b .entry)) cursor i)
+        × PlacedMerged sa (now (b .entry)) r ⌝ }
 {
-    let left = slots::next(a, sa, slots::start());
-    let right = slots::next(b, sb, slots::start());
-    Merge { left, right }
-}
-
-// The next literal of the union, an equal one taken from both sides, or its end.
-fn step(a: &[u64], sa: Side, b: &[u64], sb: Side, m: Merge) -> Merged
-    requires { ⌜ Sound (now a) sa ⌝ ∗ ⌜ Sound (now b) sb ⌝ ∗ ⌜ PlacedMerge sa sb m ⌝ }
-    ensures { λ r. ⌜ (givenOf (now (a .entry)) sa (now (b .entry)) sb r ≡ leftOf (now (a .entry)) sa (now (b .entry)) sb m)
-        × PlacedMerged sa sb r ⌝ }
-{
-    let left = m.left;
-    let right = m.right;
-    let Step::Literal(x, c) = left else {
-        let Step::Literal(y, d) = right else {
+    let Step::Literal(x, c) = slots::next(a, sa, cursor) else {
+        if b.len() <= i {
             return Merged::End;
-        };
-        let r = slots::next(b, sb, d);
-        return Merged::Literal(y, Merge { left, right: r });
+        }
+        return Merged::Literal(b[i], cursor, i + 1);
     };
-    let Step::Literal(y, d) = right else {
-        let l = slots::next(a, sa, c);
-        return Merged::Literal(x, Merge { left: l, right });
-    };
+    if b.len() <= i {
+        return Merged::Literal(x, c, i);
+    }
+    let y = b[i];
     if x < y {
-        let l = slots::next(a, sa, c);
-        return Merged::Literal(x, Merge { left: l, right });
+        return Merged::Literal(x, c, i);
     }
     if x == y {
-        let l = slots::next(a, sa, c);
-        let r = slots::next(b, sb, d);
-        return Merged::Literal(x, Merge { left: l, right: r });
+        return Merged::Literal(x, c, i + 1);
     }
-    let r = slots::next(b, sb, d);
-    Merged::Literal(y, Merge { left, right: r })
+    Merged::Literal(y, cursor, i + 1)
 }
 
 // Yes if two sides of equal length have the same literals, No at the first difference: one paid read for each literal up to it. Where a
@@ -114,30 +93,23 @@ fn same_literals(a: &[u64], sa: Side, b: &[u64], sb: Side, account: Account, wor
 // An answer, and the number that was counted where it is Yes.
 pub struct Counted {
     pub judged: Judged,
-    pub count: u64,
+    pub count: usize,
 }
 
-// Yes and the number of literals in the union of two sides, or No beyond the maximum: one paid read for each step and for the end. Where a
-// read is not paid, Declined or Stopped.
-fn count_union(
-    a: &[u64],
-    sa: Side,
-    b: &[u64],
-    sb: Side,
-    most: u64,
-    account: Account,
-    work: Meter,
-) -> Counted
-    requires { ⌜ Sound (now a) sa ⌝ ∗ ⌜ Sound (now b) sb ⌝ ∗ ⌜ most ≤ maxOutputs ⌝ }
+// Yes and the number of literals in the union of a side and a list, with which `out` then begins, or No where `out` is too short for it: one
+// paid read for each step and for the end. Where a read is not paid, Declined or Stopped.
+fn merge(a: &[u64], sa: Side, b: &[u64], out: &mut [u64], account: Account, work: Meter) -> Counted
+    requires { ⌜ Sound (now a) sa ⌝ }
     ensures { λ r. ⌜ (r .judged
-        ≡ judged (leb (length (union (listOf (now (a .entry)) sa) (listOf (now (b .entry)) sb))) most)
-        (pay (suc (min (length (union (listOf (now (a .entry)) sa) (listOf (now (b .entry)) sb))) most)) account work))
-        × WhereYes (r .judged .verdict) (r .count ≡ length (union (listOf (now (a .entry)) sa) (listOf (now (b .entry)) sb))) ⌝ }
+        ≡ judged (leb (length (union (listOf (now (a .entry)) sa) (now (b .entry)))) (length (now (out .entry))))
+        (pay (suc (min (length (union (listOf (now (a .entry)) sa) (now (b .entry)))) (length (now (out .entry))))) account work))
+        × WhereYes (r .judged .verdict) (BeginsWith (r .count) (now (out .exit)) (union (listOf (now (a .entry)) sa) (now (b .entry)))) ⌝ }
 {
     let mut account = account;
     let mut meter = work;
-    let mut m = begin(a, sa, b, sb);
-    let mut n: u64 = 0;
+    let mut cursor = slots::start();
+    let mut i: usize = 0;
+    let mut n: usize = 0;
     loop {
         match rows::pay_read(account, meter) {
             Charge::Paid(p, q) => {
@@ -146,54 +118,19 @@ fn count_union(
             }
             Charge::Ended(judged) => return Counted { judged, count: 0 },
         }
-        let Merged::Literal(c, k) = step(a, sa, b, sb, m) else {
+        let Merged::Literal(k, c, j) = step(a, sa, cursor, b, i) else {
             let judged = rows::answer(true, account, meter);
             return Counted { judged, count: n };
         };
-        if n == most {
+        if n == out.len() {
             let judged = rows::answer(false, account, meter);
             return Counted { judged, count: 0 };
         }
+        out[n] = k;
         n += 1;
-        m = k;
+        cursor = c;
+        i = j;
     }
-}
-
-// Yes, and `out` becomes the union of two sides, as long as it is: one paid read before each literal. Where a read is not paid, Declined
-// or Stopped.
-fn fill_union(
-    a: &[u64],
-    sa: Side,
-    b: &[u64],
-    sb: Side,
-    out: &mut [u64],
-    account: Account,
-    work: Meter,
-) -> Judged
-    requires { ⌜ Sound (now a) sa ⌝ ∗ ⌜ Sound (now b) sb ⌝ ∗ ⌜ length (now out) ≡ length (union (listOf (now a) sa) (listOf (now b) sb)) ⌝ }
-    ensures { λ r. ⌜ (r ≡ judged true (pay (length (now (out .entry))) account work))
-        × WhereYes (r .verdict) (now (out .exit) ≡ union (listOf (now (a .entry)) sa) (listOf (now (b .entry)) sb)) ⌝ }
-{
-    let mut account = account;
-    let mut meter = work;
-    let mut m = begin(a, sa, b, sb);
-    let mut i: usize = 0;
-    while i < out.len() {
-        match rows::pay_read(account, meter) {
-            Charge::Paid(p, q) => {
-                account = p;
-                meter = q;
-            }
-            Charge::Ended(j) => return j,
-        }
-        let Merged::Literal(c, k) = step(a, sa, b, sb, m) else {
-            return rows::answer(false, account, meter);
-        };
-        out[i] = c;
-        i += 1;
-        m = k;
-    }
-    rows::answer(true, account, meter)
 }
 
 // The outputs of a proposal become these, at least as many as they were.
@@ -206,34 +143,34 @@ fn grow(p: &mut [u64], outputs: &[u64])
     proposals::copy(outputs, &mut p[at..]);
 }
 
-// Yes, and proposal p has the union of its outputs with those of slot r, made in `out`, as long as it is: one read for each output of the
-// union. Where a read is not paid, Declined or Stopped, and p is as it was.
-fn regrow(r: &[u64], p: &mut [u64], out: &mut [u64], account: Account, work: Meter) -> Judged
-    requires { ⌜ Laid (now r) ⌝ ∗ ⌜ Proposed (now p) ⌝ ∗ ⌜ length (now out) ≡ length (grown (rowIn (now r)) (rowIn (now p)) .outputs) ⌝
-        ∗ ⌜ length (now out) ≤ maxOutputs ⌝ }
-    ensures { λ v. ⌜ (v ≡ judged true (pay (length (now (out .entry))) account work))
+// Yes, and proposal p has these outputs, at least as many as it had: one read for each. Where a read is not paid, Declined or Stopped, and p
+// is as it was.
+fn regrow(p: &mut [u64], outputs: &[u64], account: Account, work: Meter) -> Judged
+    requires { ⌜ Proposed (now p) ⌝ ∗ ⌜ length (rowIn (now p) .outputs) ≤ length (now outputs) ⌝ ∗ ⌜ length (now outputs) ≤ maxOutputs ⌝ }
+    ensures { λ v. ⌜ (v ≡ judged true (pay (length (now (outputs .entry))) account work))
         × (now (p .exit)
-        ≡ ifYes (v .verdict) (proposal (grown (rowIn (now (r .entry))) (rowIn (now (p .entry))))) (now (p .entry))) ⌝ }
+        ≡ ifYes (v .verdict) (proposal (rowOf (rowIn (now (p .entry)) .conditions) (now (outputs .entry)))) (now (p .entry))) ⌝ }
 {
-    let filled = fill_union(
-        r,
-        slots::outputs(r),
-        p,
-        slots::outputs(p),
-        out,
-        account,
-        work,
-    );
-    let verdict = filled.verdict;
-    let Verdict::Yes = verdict else {
-        return filled;
-    };
-    grow(p, out);
-    filled
+    match account.pay_all(outputs.len() as u64, work) {
+        Read::Paid(a, m) => {
+            grow(p, outputs);
+            rows::answer(true, a, m)
+        }
+        Read::Declined(a, m) => Judged {
+            verdict: Verdict::Declined,
+            account: a,
+            meter: m,
+        },
+        Read::Stopped(a, m) => Judged {
+            verdict: Verdict::Stopped,
+            account: a,
+            meter: m,
+        },
+    }
 }
 
 // Yes if the union of the outputs of slot r and proposal p is within the maximum; then p has it. The count is paid first, and if the
-// proposal grows one read for each output of the union. No, Declined or Stopped leave p as it was.
+// proposal grows one read for each output of the union, which the count has made already. No, Declined or Stopped leave p as it was.
 fn unite(r: &[u64], p: &mut [u64], most: u64, account: Account, work: Meter) -> Judged
     requires { ⌜ Laid (now r) ⌝ ∗ ⌜ Proposed (now p) ⌝ ∗ ⌜ most ≤ maxOutputs ⌝ }
     ensures { λ v. ⌜ (v
@@ -244,12 +181,15 @@ fn unite(r: &[u64], p: &mut [u64], most: u64, account: Account, work: Meter) -> 
         × (now (p .exit)
         ≡ ifYes (v .verdict) (proposal (grown (rowIn (now (r .entry))) (rowIn (now (p .entry))))) (now (p .entry))) ⌝ }
 {
-    let counted = count_union(
+    let at = 8 + p[0] as usize;
+    let end = at + p[1] as usize;
+    let room = most as usize;
+    let mut out = [0u64; 64];
+    let counted = merge(
         r,
         slots::outputs(r),
-        p,
-        slots::outputs(p),
-        most,
+        &p[at..end],
+        &mut out[0..room],
         account,
         work,
     );
@@ -259,14 +199,12 @@ fn unite(r: &[u64], p: &mut [u64], most: u64, account: Account, work: Meter) -> 
     let Verdict::Yes = verdict else {
         return first;
     };
-    if n == p[1] {
+    if n == end - at {
         return first;
     }
     let account = first.account;
     let meter = first.meter;
-    let end = n as usize;
-    let mut out = [0u64; 64];
-    regrow(r, p, &mut out[0..end], account, meter)
+    regrow(p, &out[0..n], account, meter)
 }
 
 // Yes if the row in slot r joins the proposal p: equal conditions, and both sides' outputs and their union within the maximum; then p has

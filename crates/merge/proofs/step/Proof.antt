@@ -1,14 +1,14 @@
--- `step` meets its contract: the least literal of the two that the walk holds is the first of the union. Assumes nothing.
+-- `step` meets its contract: the least literal of the two that come next is the first of the union. Assumes nothing.
 use borrow.Author.Needs.{needs}
 use native.Mathlib.Omega.{arith}
 use mathlib.Core.Path.{_≡_, sym, ap, ap₂, _∙_, subst}
 use mathlib.Core.List.{List, [], _∷_}
-use Prim.Native.Nat.{ℕ, _<_}
+use Prim.Native.Nat.{ℕ, _+_, _<_}
+use lib.ListN.{length, getD, drop, drop-of-length-le}
 use denote.Ref.{now}
 use Rattle.model.specs.Union.{union}
-use Rattle.slots.specs.declared.Step.{Step}
 use Rattle.slots.specs.Cursor.{rest, given, Placed, PlacedStep}
-use Rattle.merge.proofs.Union.{union-none, union-left, union-less, union-equal, union-greater}
+use Rattle.merge.proofs.Union.{union-none, union-left, union-less, union-equal, union-greater, drop-next}
 use Rattle.merge.proofs.step.Statement.{statement}
 use Rattle.merge.proofs.step.Tie as tie
 
@@ -19,160 +19,159 @@ module _ (t : tie.Start) where
   abbrev B : List ℕ
   B = now (t .args .b)
 
-  -- what the walk holds of the two sides
+  -- what is left of the side, and of the list
   abbrev ls : List ℕ
-  ls = given A (t .args .sa) (t .args .m .left)
+  ls = rest A (t .args .sa) (t .args .cursor)
 
   abbrev rs : List ℕ
-  rs = given B (t .args .sb) (t .args .m .right)
+  rs = drop (t .args .i) B
 
-  left-as : {l : Step} → t .args .m .left ≡ l → ls ≡ given A (t .args .sa) l
-  left-as e = ap (given A (t .args .sa)) e
+-- the side is at its end
+module _ (c : tie.After-enum-told) where
+  abbrev bare : tie.Start
+  bare = c .before .before .before .before .before
 
-  right-as : {r : Step} → t .args .m .right ≡ r → rs ≡ given B (t .args .sb) r
-  right-as e = ap (given B (t .args .sb)) e
+  none : ls bare ≡ []
+  none = sym (c .before .before .next .ensures .0) ∙ ap (given (A bare) (bare .args .sa)) (c .enum-told .given .1)
 
--- both sides have a literal: x and y
-module _ (c : tie.After-known-told3) where
+  only : (q : List ℕ) → union (ls bare) q ≡ q
+  only q = ap (λ (l : List ℕ). union l q) none ∙ union-none q
+
+-- the side has a literal: x
+module _ (c : tie.After-known-told) where
   abbrev top : tie.Start
-  top = c .before .before .before .before .before .before .before .before
+  top = c .before .before .before .before .before .before
 
   abbrev x : ℕ
-  x = c .before .before .before .before .left .given .0 .0
-
-  abbrev y : ℕ
-  y = c .before .right2 .given .0 .0
+  x = c .before .x .given .0 .0
 
   abbrev xs : List ℕ
-  xs = rest (A top) (top .args .sa) (c .before .before .before .before .left .given .0 .1 .0)
+  xs = rest (A top) (top .args .sa) (c .before .x .given .0 .1 .0)
+
+  taken : ls top ≡ x ∷ xs
+  taken = sym (c .before .before .before .next .ensures .0) ∙ ap (given (A top) (top .args .sa)) (c .before .x .given .1)
+
+  placed : Placed (top .args .sa) (c .before .x .given .0 .1 .0)
+  placed = subst (PlacedStep (top .args .sa)) (c .before .x .given .1) (c .before .before .before .next .ensures .1)
+
+-- both have one: x and y
+module _ (c : tie.Else2) where
+  abbrev k : tie.After-known-told
+  k = c .before
+
+  abbrev y : ℕ
+  y = getD (B (top k)) (top k .args .i) 0
 
   abbrev ys : List ℕ
-  ys = rest (B top) (top .args .sb) (c .before .right2 .given .0 .1 .0)
+  ys = drop (top k .args .i + 1) (B (top k))
 
-  placed-x : Placed (top .args .sa) (c .before .before .before .before .left .given .0 .1 .0)
-  placed-x = subst (PlacedStep (top .args .sa)) (c .before .before .before .before .left .given .1) (top .pre .1 .1 .0)
+  met : rs (top k) ≡ y ∷ ys
+  met = drop-next (B (top k)) (top k .args .i) (c .if2 .left)
 
-  placed-y : Placed (top .args .sb) (c .before .right2 .given .0 .1 .0)
-  placed-y = subst (PlacedStep (top .args .sb)) (c .before .right2 .given .1) (top .pre .1 .1 .1)
+  both : union (x k ∷ xs k) (y ∷ ys) ≡ union (ls (top k)) (rs (top k))
+  both = sym (ap₂ union (taken k) met)
 
-  both : union (x ∷ xs) (y ∷ ys) ≡ union (ls top) (rs top)
-  both = sym (ap₂ union (left-as top (c .before .before .before .before .left .given .1)) (right-as top (c .before .right2 .given .1)))
+next-requires : tie.Need-next-requires
+next-requires c κs = search needs
 
-enum-known-left : tie.Need-enum-known-left
-enum-known-left c = search needs
+enum-known-x : tie.Need-enum-known-x
+enum-known-x c = search needs
 
 enum-told : tie.Need-enum-told
 enum-told c = search needs
 
-enum-known-right : tie.Need-enum-known-right
-enum-known-right c = search needs
-
-enum-told-2 : tie.Need-enum-told-2
-enum-told-2 c = search needs
-
 returns : tie.Need-returns
 returns c =
-    let t = c .before .before .before .before .before .before in
-    (sym (ap₂ union (left-as t (c .before .before .enum-told .given .1)) (right-as t (c .enum-told2 .given .1)) ∙ union-none []), tt)
+    let d = c .before in
+    let t = bare d in
+    let f : rs t ≡ [] = drop-of-length-le (B t) {i = t .args .i} (c .if1 .taken) in
+    (sym (only d (rs t) ∙ f), tt)
 
-next-requires : tie.Need-next-requires
-next-requires c κs =
-    let t = c .before .before .before .before .before .before .before in
-    (t .pre .1 .0, subst (PlacedStep (t .args .sb)) (c .before .right .given .1) (t .pre .1 .1 .1))
+mul-t10 : tie.Need-mul-t10
+mul-t10 c = search needs
+
+shared-slice-read-t13 : tie.Need-shared-slice-read-t13
+shared-slice-read-t13 c = search needs
+
+add-t14 : tie.Need-add-t14
+add-t14 c = search needs
 
 returns-2 : tie.Need-returns-2
 returns-2 c =
-    let k = c .before in
-    let t = k .before .before .before .before .before .before .before in
-    let r = k .before .right .given in
-    let e : ls t ≡ [] = left-as t (k .before .before .before .enum-told .given .1) in
-    let n : (q : List ℕ) → union (ls t) q ≡ q = λ q. ap (λ (l : List ℕ). union l q) e ∙ union-none q in (
-      ap (λ (l : List ℕ). r .0 .0 ∷ l) (n (given (B t) (t .args .sb) (c .next .result)) ∙ c .next .ensures .0)
-          ∙ sym (n (rs t) ∙ right-as t (r .1)),
-      (t .pre .1 .1 .0, c .next .ensures .1),
+    let d = c .before .before in
+    let t = bare d in
+    let h : t .args .i < length (B t) = c .before .if1 .left in (
+      ap (λ (q : List ℕ). getD (B t) (t .args .i) 0 ∷ q) (only d (drop (t .args .i + 1) (B t)))
+          ∙ sym (only d (rs t) ∙ drop-next (B t) (t .args .i) h),
+      (t .pre .1 .0, omega arith),
     )
-
-enum-known-right-2 : tie.Need-enum-known-right-2
-enum-known-right-2 c = search needs
-
-enum-told-3 : tie.Need-enum-told-3
-enum-told-3 c = search needs
-
-next-requires-2 : tie.Need-next-requires-2
-next-requires-2 c κs =
-    let t = c .before .before .before .before .before .before .before in
-    (t .pre .0, subst (PlacedStep (t .args .sa)) (c .before .before .before .left .given .1) (t .pre .1 .1 .0))
 
 returns-3 : tie.Need-returns-3
 returns-3 c =
     let k = c .before in
-    let t = k .before .before .before .before .before .before .before in
-    let l = k .before .before .before .left .given in
-    let e : rs t ≡ [] = right-as t (k .enum-told3 .given .1) in (
-      ap₂ (λ (p q : List ℕ). l .0 .0 ∷ union p q) (c .next2 .ensures .0) e
-          ∙ sym (ap₂ union (left-as t (l .1)) e ∙ union-left (l .0 .0) (rest (A t) (t .args .sa) (l .0 .1 .0))),
-      (c .next2 .ensures .1, t .pre .1 .1 .1),
+    let t = top k in
+    let f : rs t ≡ [] = drop-of-length-le (B t) {i = t .args .i} (c .if2 .taken) in (
+      ap (λ (q : List ℕ). x k ∷ union (xs k) q) f ∙ sym (ap₂ union (taken k) f ∙ union-left (x k) (xs k)),
+      (placed k, t .pre .1 .1),
     )
 
-next-requires-3 : tie.Need-next-requires-3
-next-requires-3 c κs = let k = c .before in (top k .pre .0, placed-x k)
+mul-y : tie.Need-mul-y
+mul-y c = search needs
+
+shared-slice-read-y : tie.Need-shared-slice-read-y
+shared-slice-read-y c = search needs
 
 returns-4 : tie.Need-returns-4
 returns-4 c =
-    let k = c .before .before in (
-      ap (λ (q : List ℕ). x k ∷ union q (y k ∷ ys k)) (c .next3 .ensures .0)
-          ∙ sym (union-less (x k) (y k) (xs k) (ys k) (c .before .if1 .taken)) ∙ both k,
-      (c .next3 .ensures .1, placed-y k),
+    let d = c .before .before in
+    let k = k d in (
+      ap (λ (q : List ℕ). x k ∷ union (xs k) q) (met d)
+          ∙ sym (union-less (x k) (y d) (xs k) (ys d) (c .if3 .taken)) ∙ both d,
+      (placed k, top k .pre .1 .1),
     )
 
-next-requires-4 : tie.Need-next-requires-4
-next-requires-4 c κs = let k = c .before .before in (top k .pre .0, placed-x k)
-
-next-requires-5 : tie.Need-next-requires-5
-next-requires-5 c κs =
-    let k = c .before .before .before in (top k .pre .1 .0, placed-y k)
+add-t19 : tie.Need-add-t19
+add-t19 c = search needs
 
 returns-5 : tie.Need-returns-5
 returns-5 c =
-    let k = c .before .before .before .before in (
-      ap₂ (λ (p q : List ℕ). x k ∷ union p q) (c .before .next4 .ensures .0) (c .next5 .ensures .0)
-          ∙ sym (union-equal (x k) (y k) (xs k) (ys k) (c .before .before .if2 .taken)) ∙ both k,
-      (c .before .next4 .ensures .1, c .next5 .ensures .1),
-    )
+    let d = c .before .before .before in
+    let k = k d in
+    let h : top k .args .i < length (B (top k)) = d .if2 .left in
+    (sym (union-equal (x k) (y d) (xs k) (ys d) (c .if4 .taken)) ∙ both d, (placed k, omega arith))
 
-next-requires-6 : tie.Need-next-requires-6
-next-requires-6 c κs = let k = c .before .before in (top k .pre .1 .0, placed-y k)
+add-t15 : tie.Need-add-t15
+add-t15 c = search needs
 
 returns-6 : tie.Need-returns-6
 returns-6 c =
-    let k = c .before .before .before in
-    let n = c .before .if2 .left in
-    let m = c .before .before .if1 .left in
-    let h : y k < x k = omega arith in (
-      ap (λ (q : List ℕ). y k ∷ union (x k ∷ xs k) q) (c .next6 .ensures .0)
-          ∙ sym (union-greater (x k) (y k) (xs k) (ys k) h) ∙ both k,
-      (placed-x k, c .next6 .ensures .1),
+    let d = c .before .before .before in
+    let k = k d in
+    let m = c .before .if3 .left in
+    let n = c .if4 .left in
+    let g : y d < x k = omega arith in
+    let h : top k .args .i < length (B (top k)) = d .if2 .left in (
+      ap (λ (q : List ℕ). y d ∷ union q (ys d)) (taken k) ∙ sym (union-greater (x k) (y d) (xs k) (ys d) g) ∙ both d,
+      (top k .pre .1 .0, omega arith),
     )
 
 pub step-spec : {M : Type 1} → statement M
 step-spec =
     tie.close
     (tie.spec
-    enum-known-left
-    enum-told
-    enum-known-right
-    enum-told-2
-    returns
     next-requires
+    enum-known-x
+    enum-told
+    returns
+    mul-t10
+    shared-slice-read-t13
+    add-t14
     returns-2
-    enum-known-right-2
-    enum-told-3
-    next-requires-2
     returns-3
-    next-requires-3
+    mul-y
+    shared-slice-read-y
     returns-4
-    next-requires-4
-    next-requires-5
+    add-t19
     returns-5
-    next-requires-6
+    add-t15
     returns-6)

@@ -1,13 +1,13 @@
 -- `unite` meets its contract: the count, and where it says Yes and more the growth. Assumes nothing.
 use borrow.Author.Needs.{needs}
 use native.Mathlib.Omega.{arith}
-use mathlib.Core.Path.{_≡_, sym, ap, _∙_, subst}
+use mathlib.Core.Path.{_≡_, ap, ap₂, _∙_, subst}
 use mathlib.Core.Bool.{true}
 use mathlib.Core.List.{List}
-use Prim.Native.Nat.{ℕ, _-_, _≤_}
-use lib.ListN.{length}
+use Prim.Native.Nat.{ℕ, _+_, _-_, _≤_}
+use lib.ListN.{length, getD}
 use denote.Ref.{now}
-use borrow.Rule.Slice.PartMut.{midOf}
+use borrow.Rule.Slice.PartMut.{putMid, midOf, same-len-mid}
 use Rattle.meter.specs.declared.Judged.{Judged}
 use Rattle.meter.specs.declared.Verdict.{Verdict}
 use Rattle.meter.specs.declared.Verdict.the-variants as verdict
@@ -17,9 +17,10 @@ use Rattle.model.specs.Slots.{rowIn}
 use Rattle.slots.specs.Cursor.{listOf}
 use Rattle.rows.specs.Charge.{WhereYes}
 use Rattle.proposals.proofs.Parts.{zeros}
-use Rattle.proposals.proofs.Proposing.{proposed-long, proposed-outputs, proposed-laid}
+use Rattle.proposals.proofs.Proposing.{proposed-laid, proposed-outputs}
+use Rattle.merge.specs.Merge.{BeginsWith, ifYes}
 use Rattle.merge.proofs.Asking.{counting, unite-not, unite-fits, unite-same, unite-grows}
-use Rattle.merge.proofs.Growing.{kept-not, changed-yes, sound-left, sound-right, sides-union, front-long, grown-same}
+use Rattle.merge.proofs.Growing.{kept-not, changed-yes, sound-left, sides-union, front-long, front-of, grown-long, grown-by, grown-same}
 use Rattle.merge.proofs.unite.Statement.{statement}
 use Rattle.merge.proofs.unite.Tie as tie
 
@@ -37,68 +38,106 @@ module _ (t : tie.Start) where
   abbrev before : ℕ
   before = length (rowIn P .outputs)
 
-module _ (c : tie.After-outputs2) where
-  abbrev top : tie.Start
-  top = c .before .before .before .before .before
+  sizes : (getD P 0 0 ≤ 16) × (getD P 1 0 ≤ 64) × (length P ≡ 168)
+  sizes =
+      let l = proposed-laid P (t .pre .1 .0) in (l .counted .few, l .counted .most, l .long)
 
-  unites : union (listOf (R top) (c .before .before .outputs .result)) (listOf (P top) (c .outputs2 .result)) ≡ os top
-  unites = sides-union (R top) (P top) (top .pre .0) (top .pre .1 .0) (c .before .before .outputs .ensures) (c .outputs2 .ensures)
-
-module _ (c : tie.After-count-union) where
-  abbrev k : tie.After-outputs2
-  k = c .before
-
+module _ (c : tie.After-merge) where
   abbrev t : tie.Start
-  t = top k
+  t = c .before .before .before .before .before .before .before .before .before
 
   abbrev i : Judged
-  i = c .count-union .result .judged
+  i = c .merge .result .judged
 
   abbrev n : ℕ
-  n = c .count-union .result .count
+  n = c .merge .result .count
+
+  abbrev made : List ℕ
+  made = c .merge .last .1 .1 .1 .0
+
+  unites : union (listOf (R t) (c .before .before .before .before .outputs .result))
+      (midOf (8 + getD (P t) 0 0) (8 + getD (P t) 0 0 + getD (P t) 1 0 - (8 + getD (P t) 0 0)) (P t)) ≡ os t
+  unites = sides-union (R t) (P t) (t .pre .0) (t .pre .1 .0) (c .before .before .before .before .outputs .ensures)
+
+  room-long : length (midOf 0 (t .args .most - 0) (zeros 64)) ≡ t .args .most
+  room-long = front-long (t .args .most) (zeros 64) (t .pre .1 .1)
 
   counts : i ≡ counting (os t) (t .args .most) (t .args .account) (t .args .work)
-  counts = c .count-union .ensures .0 ∙ ap (λ (q : List ℕ). counting q (t .args .most) (t .args .account) (t .args .work)) (unites k)
+  counts =
+      c .merge .ensures .0
+      ∙ ap₂ (λ (q : List ℕ) (k : ℕ). counting q k (t .args .account) (t .args .work)) unites room-long
 
-  number : i .verdict ≡ verdict.Yes → n ≡ length (os t)
-  number y =
-      subst (λ (v : Verdict). WhereYes v (n ≡ length (union (listOf (R t) (k .before .before .outputs .result)) (listOf (P t) (k .outputs2 .result))))) y
-      (c .count-union .ensures .1)
-      ∙ ap length (unites k)
+  tells : i .verdict ≡ verdict.Yes → BeginsWith n made (os t)
+  tells y =
+      subst (λ (v : Verdict). WhereYes v (BeginsWith n made (os t))) y
+      (subst (λ (q : List ℕ). WhereYes (i .verdict) (BeginsWith n made q)) unites (c .merge .ensures .1))
+
+  long : length made ≡ t .args .most
+  long = c .merge .kept .1 .1 .1 .0 ∙ room-long
 
 -- the proposal grows
 module _ (c : tie.Else1) where
-  abbrev f : tie.After-count-union
+  abbrev f : tie.After-merge
   f = c .before .before .before .before .before
 
   abbrev yes : i f .verdict ≡ verdict.Yes
-  yes = c .before .before .enum-told .given .1
+  yes = c .before .enum-told .given .1
 
-  few : n f ≤ 64
-  few =
-      let l = unite-fits (t f .args .most) (os (t f)) (before (t f)) (t f .args .account) (t f .args .work) (i f) (counts f) yes in
-      omega (arith, number f yes, t f .pre .1 .1)
+  fits : length (os (t f)) ≤ t f .args .most
+  fits = unite-fits (t f .args .most) (os (t f)) (before (t f)) (t f .args .account) (t f .args .work) (i f) (counts f) yes
 
-  part-long : length (midOf 0 (n f - 0) (zeros 64)) ≡ length (os (t f))
-  part-long = front-long (n f) (zeros 64) few ∙ number f yes
+  abbrev kept : List ℕ
+  kept = putMid 0 (t f .args .most - 0) (zeros 64) (made f)
+
+  kept-long : length kept ≡ 64
+  kept-long = same-len-mid 0 (t f .args .most - 0) (zeros 64) (made f) (f .merge .kept .1 .1 .1 .0)
+
+  few : n f ≤ length (made f)
+  few = omega (arith, fits, long f, tells f yes .0)
+
+  part : midOf 0 (n f - 0) kept ≡ os (t f)
+  part = front-of (n f) (t f .args .most - 0) (zeros 64) (made f) few ∙ tells f yes .1
+
+slice-read-at : tie.Need-slice-read-at
+slice-read-at c = omega (arith, sizes (c .before .before .before) .2)
+
+add-at : tie.Need-add-at
+add-at c = let z = sizes (c .before .before .before) in record { fits = omega (arith, z .0) }
+
+slice-read-end : tie.Need-slice-read-end
+slice-read-end c = omega (arith, sizes (c .before .before .before .before) .2)
+
+add-end : tie.Need-add-end
+add-end c = let z = sizes (c .before .before .before .before) in record { fits = omega (arith, z .0, z .1) }
 
 outputs-requires : tie.Need-outputs-requires
 outputs-requires c κs = search needs
 
-outputs-requires-2 : tie.Need-outputs-requires-2
-outputs-requires-2 c κs =
-    let t = c .before .before .before .before in
-    let l = proposed-laid (P t) (t .pre .1 .0) in
-    (omega (arith, l .long), l .counted)
+mul-merge : tie.Need-mul-merge
+mul-merge c = let z = sizes (c .before .before .before .before .before) in record { fits = omega (arith, z .0) }
 
-count-union-requires : tie.Need-count-union-requires
-count-union-requires c κs =
-    let t = top c in
-    let e = c .before .before .outputs .ensures in
-    let g = c .outputs2 .ensures in (
-      sound-left (R t) (P t) (t .pre .0) (t .pre .1 .0) e g,
-      (sound-right (R t) (P t) (t .pre .0) (t .pre .1 .0) e g, t .pre .1 .1),
-    )
+sub-merge : tie.Need-sub-merge
+sub-merge c = search needs
+
+part-merge-start : tie.Need-part-merge-start
+part-merge-start c = search needs
+
+part-merge-end : tie.Need-part-merge-end
+part-merge-end c = let z = sizes (c .before .before .before .before .before .before) in omega (arith, z .0, z .1, z .2)
+
+sub-merge-2 : tie.Need-sub-merge-2
+sub-merge-2 c = search needs
+
+part-out-start : tie.Need-part-out-start
+part-out-start c = search needs
+
+part-out-end : tie.Need-part-out-end
+part-out-end c = search needs
+
+merge-requires : tie.Need-merge-requires
+merge-requires c κs =
+    let t = c .before .before .before .before .before .before .before .before in
+    sound-left (R t) (P t) (t .pre .0) (t .pre .1 .0) (c .before .before .before .outputs .ensures)
 
 enum-told : tie.Need-enum-told
 enum-told c = search needs
@@ -108,13 +147,13 @@ same-length c = search needs
 
 returns : tie.Need-returns
 returns c =
-    let g = c .before .before in (
+    let g = c .before .before .before in (
       unite-not (t g .args .most) (os (t g)) (before (t g)) (t g .args .account) (t g .args .work) (i g) (counts g) (c .match .keys2),
       kept-not (i g .verdict) _ _ (c .match .keys2),
     )
 
-slice-read-if1 : tie.Need-slice-read-if1
-slice-read-if1 c = let s = t (c .before .before .before .before) in omega (arith, proposed-long (P s) (s .pre .1 .0))
+sub-if1 : tie.Need-sub-if1
+sub-if1 c = search needs
 
 same-length-2 : tie.Need-same-length-2
 same-length-2 c = search needs
@@ -123,8 +162,8 @@ returns-2 : tie.Need-returns-2
 returns-2 c =
     let g = c .before .before .before .before .before in
     let s = t g in
-    let y : i g .verdict ≡ verdict.Yes = c .before .before .enum-told .given .1 in
-    let e : length (os s) ≡ before s = sym (number g y) ∙ c .if1 .taken ∙ proposed-outputs (P s) (s .pre .1 .0) in (
+    let y : i g .verdict ≡ verdict.Yes = c .before .enum-told .given .1 in
+    let e : length (os s) ≡ before s = omega (arith, tells g y .0, c .if1 .taken, proposed-outputs (P s) (s .pre .1 .0)) in (
       unite-same (s .args .most) (os s) (before s) (s .args .account) (s .args .work) (i g) (counts g) y e,
       grown-same (rowIn (R s)) (P s) (s .pre .1 .0) e ∙ changed-yes (i g .verdict) _ _ y,
     )
@@ -132,49 +171,60 @@ returns-2 c =
 sub-regrow : tie.Need-sub-regrow
 sub-regrow c = search needs
 
-part-out-start : tie.Need-part-out-start
-part-out-start c = search needs
+part-regrow-start : tie.Need-part-regrow-start
+part-regrow-start c = search needs
 
-part-out-end : tie.Need-part-out-end
-part-out-end c = omega (arith, few (c .before .before))
+part-regrow-end : tie.Need-part-regrow-end
+part-regrow-end c = let e = c .before .before .before in omega (arith, kept-long e, few e, long (f e), t (f e) .pre .1 .1)
 
 regrow-requires : tie.Need-regrow-requires
 regrow-requires c κs =
-    let e = c .before .before .before in
+    let e = c .before .before .before .before in
     let s = t (f e) in
-    (s .pre .0, (s .pre .1 .0, (part-long e, omega (arith, part-long e, number (f e) (yes e), few e))))
+    let l : length (midOf 0 (n (f e) - 0) (kept e)) ≡ length (os s) = ap length (part e) in
+    (s .pre .1 .0, (omega (arith, l, grown-long (rowIn (R s)) (rowIn (P s))), omega (arith, l, fits e, s .pre .1 .1)))
 
 same-length-3 : tie.Need-same-length-3
 same-length-3 c = search needs
 
 returns-3 : tie.Need-returns-3
 returns-3 c =
-    let g = c .before .before .before in
-    let e = g .before .before .before .before in
+    let g = c .before .before in
+    let e = g .before .before .before .before .before in
     let s = t (f e) in
     let j = i (f e) in
-    let d : length (os s) ≡ before s → ⊥ = λ q. e .if1 .left (number (f e) (yes e) ∙ q ∙ sym (proposed-outputs (P s) (s .pre .1 .0))) in (
-      g .regrow .ensures .0 ∙ ap (λ (q : ℕ). judged true (pay q (j .account) (j .meter))) (part-long e)
+    let d : length (os s) ≡ before s → ⊥ = λ q. e .if1 .left (omega (arith, tells (f e) (yes e) .0, q, proposed-outputs (P s) (s .pre .1 .0))) in (
+      g .regrow .ensures .0 ∙ ap (λ (q : List ℕ). judged true (pay (length q) (j .account) (j .meter))) (part e)
           ∙ unite-grows (s .args .most) (os s) (before s) (s .args .account) (s .args .work) j (counts (f e)) (yes e) d,
-      g .regrow .ensures .1,
+      g .regrow .ensures .1 ∙ ap (λ (q : List ℕ). ifYes (g .regrow .result .verdict) q (P s)) (grown-by (rowIn (R s)) (rowIn (P s)) (part e)),
     )
 
 pub unite-spec : {M : Type 1} → statement M
 unite-spec =
     tie.close
     (tie.spec
+    slice-read-at
+    add-at
+    slice-read-end
+    add-end
     outputs-requires
-    outputs-requires-2
-    count-union-requires
+    mul-merge
+    sub-merge
+    part-merge-start
+    part-merge-end
+    sub-merge-2
+    part-out-start
+    part-out-end
+    merge-requires
     enum-told
     same-length
     returns
-    slice-read-if1
+    sub-if1
     same-length-2
     returns-2
     sub-regrow
-    part-out-start
-    part-out-end
+    part-regrow-start
+    part-regrow-end
     regrow-requires
     same-length-3
     returns-3)
