@@ -9,7 +9,7 @@ use crate::call::{Call, Meter, Region};
 /// More than any call here ticks.
 pub const AMPLE: u64 = 1_000_000;
 /// Up to this limit every one is tried, and then about `SPREAD` of them.
-const ALL: u64 = 60;
+const ALL: u64 = 1400;
 const SPREAD: u64 = 20;
 
 /// A row, or a region's held and cut atoms.

@@ -1,15 +1,19 @@
 -- A row placed in an accepted ledger: what the settled ledger is made of. Assumes nothing.
 use mathlib.Core.Path.{_≡_, sym, ap, ap₂, _∙_, subst}
 use mathlib.Core.Bool.{Bool, true}
-use mathlib.Core.List.{List}
+use mathlib.Core.List.{List, []}
 use Prim.Native.Nat.{ℕ, _≤_}
 use native.Mathlib.Omega.{arith}
 use lib.ListN.{length}
+use Rattle.lists.specs.Lists.{pad, zeroed}
+use Rattle.lists.proofs.Pads.{pad-zeroed}
 use Rattle.words.specs.Region.{maxAtoms}
 use Rattle.model.specs.declared.Header.{Header}
 use Rattle.model.specs.Records.{Row, Entry, isRow, plus}
 use Rattle.model.specs.Slots.{slotsOf, rowIn, entriesIn}
+use Rattle.model.specs.Postings.{filed}
 use Rattle.model.specs.Retention.{newborn}
+use Rattle.slots.specs.Layout.{rowsIn}
 use Rattle.contents.specs.Accepted.{Accepted}
 use Rattle.keeping.proofs.Holding.{tier-is, held, row-more}
 use Rattle.proposals.specs.Proposed.{Proposed}
@@ -21,6 +25,13 @@ use Rattle.retention.specs.declared.Room.{Room}
 use Rattle.retention.specs.Places.{roomOf, placedBy, Fits, Placing}
 use Rattle.retention.proofs.Placing.{Rows, all-placed, placed-fit, rows-held, tier-slots, entries-back, held-slots}
 use Rattle.retention.proofs.Rooms.{room-told, room-fits}
+
+-- a ledger with no postings built has nothing but zeros there
+pub stale-zero : (h : Header) (slots postings : List ℕ) → Accepted h slots postings → h .stale ≡ true → postings ≡ zeroed postings
+unfolding filed
+stale-zero h slots postings a s =
+    a .filing ∙ ap (λ (b : Bool). filed (h .limits .«tier_rows») b (rowsIn (h .rows) slots)) s
+    ∙ ap (λ (n : ℕ). pad n []) (sym (a .wide)) ∙ pad-zeroed postings
 
 new-row : (h : Header) (p : Row) (hits born : ℕ) → born ≡ plus (h .born) 1 → newEntry p hits born ≡ newborn h p hits
 unfolding newborn

@@ -3,6 +3,7 @@ ghost use mathlib.Core.Path.{_≡_};
 ghost use mathlib.Core.Bool.{true};
 ghost use Prim.Native.Nat.{ℕ, _*_, _+_, _≤_, _<_};
 ghost use lib.ListN.{length, take, drop};
+ghost use Rattle.lists.specs.Lists.{zeroed};
 ghost use Rattle.words.specs.Region.{has};
 ghost use Rattle.model.specs.Slots.{slotsOf, rowIn, entriesIn};
 ghost use Rattle.meter.specs.Meter.{pay};
@@ -64,6 +65,17 @@ fn find_room(limits: LearningLimits, slots: &[u64], rows: usize, replaced: &[u64
     }
 }
 
+// The postings zeroed. Those of a stale ledger are zero already, and are not written again.
+fn clear_postings(stale: bool, postings: &mut [u64])
+    requires { ⌜ (stale ≡ true → now postings ≡ zeroed (now postings)) ⌝ }
+    ensures { λ _. ⌜ now (postings .exit) ≡ zeroed (now (postings .entry)) ⌝ }
+{
+    if stale {
+        return;
+    }
+    fill_zero(postings);
+}
+
 // The ledger after a row was added to the rows in the slots: one more born, the epoch one more or, after as many additions as the tier has
 // places, 0 with all hits halved; the postings zeroed, stale and full true.
 fn settle(
@@ -74,10 +86,10 @@ fn settle(
     postings: &mut [u64],
 ) -> Header
     requires { ⌜ Held rows (now slots) ⌝ ∗ ⌜ tierOf (now slots) ≡ header .limits .«tier_rows» ⌝ ∗ ⌜ 1 ≤ header .limits .«tier_rows» ⌝
-        ∗ ⌜ length (now postings) ≡ postingWords * header .limits .«tier_rows» ⌝ }
+        ∗ ⌜ length (now postings) ≡ postingWords * header .limits .«tier_rows» ⌝ ∗ ⌜ (header .stale ≡ true → now postings ≡ zeroed (now postings)) ⌝ }
     ensures { λ r. ⌜ lent r (now (slots .exit)) (now (postings .exit)) ≡ lentOf (settleOf header (entriesIn rows (now (slots .entry))) evicted) ⌝ }
 {
-    fill_zero(postings);
+    clear_postings(header.stale, postings);
     let born = tier::saturating_add(header.born, 1);
     if header.limits.tier_rows - 1 <= header.epoch {
         tier::halve(slots, rows as usize);

@@ -1,6 +1,6 @@
 // The words of a line, which spaces part; decimal numbers from 0 to 2^64 - 1; lists of them.
 ghost use mathlib.Core.Path.{_≡_};
-ghost use Prim.Native.Nat.{_+_, _≤_};
+ghost use Prim.Native.Nat.{_≤_, min};
 ghost use lib.ListN.{length};
 
 // The largest number whose tenfold fits with every digit behind it.
@@ -18,7 +18,7 @@ pub enum Parsed {
     Bad,
 }
 
-// How many numbers a list has, and the place after its word; `ok` is false for a word that is no list, or one without room.
+// How many numbers a list has, and the place after its word; `ok` is false for a word that is no list.
 pub struct Listed {
     pub ok: bool,
     pub count: usize,
@@ -63,7 +63,7 @@ pub fn find(s: &[u8], from: usize, to: usize, byte: u8) -> usize
 
 // The first word from `at` on.
 pub fn word(s: &[u8], at: usize) -> Span
-    ensures { λ r. ⌜ (r .from ≤ r .to) × (r .to ≤ length (now (s .entry))) ⌝ }
+    ensures { λ r. ⌜ (r .from ≤ r .to) × (r .to ≤ length (now (s .entry))) × (min at (length (now (s .entry))) ≤ r .from) ⌝ }
 {
     let end = s.len();
     if end <= at {
@@ -104,6 +104,24 @@ fn wide(x: u8) -> u64
     ensures { λ r. ⌜ r ≡ x ⌝ }
 {
     x as u64
+}
+
+// Bytes as a number, the first highest; of more than eight the last eight count.
+pub fn pack(s: &[u8], from: usize, to: usize) -> u64
+    requires { ⌜ (from ≤ to) × (to ≤ length (now s)) ⌝ }
+{
+    let mut packed: u64 = 0;
+    let mut i = from;
+    while i < to {
+        packed = (packed << 8) | wide(s[i]);
+        i += 1;
+    }
+    packed
+}
+
+// Whether a byte is a digit.
+pub fn is_digit(byte: u8) -> bool {
+    b'0' <= byte && byte <= b'9'
 }
 
 // One digit more behind a number.
@@ -153,10 +171,8 @@ pub fn number(s: &[u8], at: usize) -> Parsed {
     value(s, from, to)
 }
 
-// The answer for a word that is no list, or one without room.
-fn no_list() -> Listed
-    ensures { λ r. ⌜ r .count ≤ 0 ⌝ }
-{
+// A word that is no list.
+fn no_list() -> Listed {
     Listed {
         ok: false,
         count: 0,
@@ -164,22 +180,25 @@ fn no_list() -> Listed
     }
 }
 
-// The numbers between the commas of a word, put into `words`.
+// Keeps a number, where there is room.
+fn keep(words: &mut [u64], i: usize, n: u64) {
+    if i < words.len() {
+        words[i] = n;
+    }
+}
+
+// The numbers between the commas of a word.
 fn items(s: &[u8], from: usize, to: usize, words: &mut [u64]) -> Listed
     requires { ⌜ (from ≤ to) × (to ≤ length (now s)) ⌝ }
-    ensures { λ r. ⌜ r .count ≤ length (now (words .entry)) ⌝ }
 {
     let mut i = from;
     let mut count: usize = 0;
     loop {
         let end = find(s, i, to, b',');
-        let Parsed::Number(v, _) = value(s, i, end) else {
+        let Parsed::Number(n, _) = value(s, i, end) else {
             return no_list();
         };
-        if words.len() <= count {
-            return no_list();
-        }
-        words[count] = v;
+        keep(words, count, n);
         count += 1;
         if to <= end {
             return Listed {
@@ -192,10 +211,9 @@ fn items(s: &[u8], from: usize, to: usize, words: &mut [u64]) -> Listed
     }
 }
 
-// The list that the next word is, put into `words`: numbers with commas between them, or `-` for none.
-pub fn list(s: &[u8], at: usize, words: &mut [u64]) -> Listed
-    ensures { λ r. ⌜ r .count ≤ length (now (words .entry)) ⌝ }
-{
+// The list that the next word is: numbers with commas between them, or `-` for none. They are put into `words`, as many as there is
+// room for.
+pub fn list(s: &[u8], at: usize, words: &mut [u64]) -> Listed {
     let w = word(s, at);
     let from = w.from;
     let to = w.to;
@@ -207,4 +225,14 @@ pub fn list(s: &[u8], at: usize, words: &mut [u64]) -> Listed
         };
     }
     items(s, from, to, words)
+}
+
+// How many numbers of a list that has so many were put into `words`.
+pub fn kept(words: &[u64], count: usize) -> usize
+    ensures { λ r. ⌜ r ≤ length (now (words .entry)) ⌝ }
+{
+    if words.len() < count {
+        return words.len();
+    }
+    count
 }

@@ -35,6 +35,28 @@ pub fn put_text(out: &mut [u8], at: usize, text: &[u8]) -> usize {
     next
 }
 
+// A byte that is not 0.
+fn put_some(out: &mut [u8], at: usize, byte: u64) -> usize {
+    if byte == 0 {
+        return at;
+    }
+    if 255 < byte {
+        return at;
+    }
+    put(out, at, byte as u8)
+}
+
+// The bytes that a number is made of, the first highest, but for zeros.
+pub fn put_packed(out: &mut [u8], at: usize, packed: u64) -> usize {
+    let mut next = at;
+    let mut i: u64 = 8;
+    while 0 < i {
+        i -= 1;
+        next = put_some(out, next, (packed >> (8 * i)) % 256);
+    }
+    next
+}
+
 // A number in decimal.
 pub fn put_decimal(out: &mut [u8], at: usize, n: u64) -> usize {
     let mut digits = [0u8; 20];

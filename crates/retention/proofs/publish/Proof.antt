@@ -9,7 +9,7 @@ use Rattle.words.specs.Region.{has}
 use Rattle.model.specs.Records.{Entry}
 use Rattle.model.specs.Retention.{settle}
 use Rattle.model.specs.Refusals.{lentOf}
-use Rattle.retention.proofs.Publishing.{new-held, new-tier, new-entries}
+use Rattle.retention.proofs.Publishing.{stale-zero, new-held, new-tier, new-entries}
 use Rattle.retention.proofs.publish.Statement.{statement}
 use Rattle.retention.proofs.publish.Tie as tie
 
@@ -35,7 +35,7 @@ settle-requires c κs =
     let t = top g in
     let a = t .pre .0 in (
       new-held _ _ _ a _ _ (t .pre .1 .0) (f g) _ _ _ _ (g .place .ensures .0) (g .place .ensures .1),
-      (new-tier _ _ _ a _ _ (t .pre .1 .0) (f g) _ _ _ _ (g .place .ensures .0) (g .place .ensures .1), (a .some, a .wide)),
+      (new-tier _ _ _ a _ _ (t .pre .1 .0) (f g) _ _ _ _ (g .place .ensures .0) (g .place .ensures .1), (a .some, (a .wide, stale-zero _ _ _ a))),
     )
 
 same-length : tie.Need-same-length

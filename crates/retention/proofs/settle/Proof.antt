@@ -20,8 +20,8 @@ module _ (t : tie.Start) where
   rows-are : length es ≡ t .args .rows
   rows-are = entries-length (t .args .rows) (now (t .args .slots))
 
-fill-zero-requires : tie.Need-fill-zero-requires
-fill-zero-requires c κs = search needs
+clear-postings-requires : tie.Need-clear-postings-requires
+clear-postings-requires c κs = search needs
 
 saturating-add-requires : tie.Need-saturating-add-requires
 saturating-add-requires c κs = search needs
@@ -44,8 +44,8 @@ returns c =
     let f = b .before .before .before in
     let t = f .before .before .before .before in
     let h = c .before .before .before .before .before in
-    settle-over (t .args .header) (t .args .rows) (t .args .evicted) (now (t .args .postings)) (t .pre .1 .1 .1) (es t) (rows-are t) _ (b .saturating-add .ensures) (t .pre .1 .1 .0)
-    (h .before .before .if1 .taken) (h .halve .ensures ∙ ap (λ (n : ℕ). slotsOf n (halved (es t))) (t .pre .1 .0)) (f .fill-zero .ensures)
+    settle-over (t .args .header) (t .args .rows) (t .args .evicted) (now (t .args .postings)) (t .pre .1 .1 .1 .0) (es t) (rows-are t) _ (b .saturating-add .ensures) (t .pre .1 .1 .0)
+    (h .before .before .if1 .taken) (h .halve .ensures ∙ ap (λ (n : ℕ). slotsOf n (halved (es t))) (t .pre .1 .0)) (f .clear-postings .ensures)
 
 add-t10 : tie.Need-add-t10
 add-t10 c = search needs
@@ -58,14 +58,14 @@ returns-2 c =
     let b = c .before .before .before .before .before .before .before in
     let f = b .before .before .before in
     let t = f .before .before .before .before in
-    settle-on (t .args .header) (t .args .rows) (t .args .evicted) (now (t .args .postings)) (t .pre .1 .1 .1) (es t) (rows-are t) _ (b .saturating-add .ensures) (t .pre .1 .1 .0)
-    (c .before .before .before .before .if1 .left) (sym (t .pre .0 .same) ∙ ap (λ (n : ℕ). slotsOf n (es t)) (t .pre .1 .0)) (f .fill-zero .ensures)
+    settle-on (t .args .header) (t .args .rows) (t .args .evicted) (now (t .args .postings)) (t .pre .1 .1 .1 .0) (es t) (rows-are t) _ (b .saturating-add .ensures) (t .pre .1 .1 .0)
+    (c .before .before .before .before .if1 .left) (sym (t .pre .0 .same) ∙ ap (λ (n : ℕ). slotsOf n (es t)) (t .pre .1 .0)) (f .clear-postings .ensures)
 
 pub settle-spec : {M : Type 1} → statement M
 settle-spec =
     tie.close
     (tie.spec
-    fill-zero-requires
+    clear-postings-requires
     saturating-add-requires
     sub-if1
     halve-requires

@@ -1,11 +1,8 @@
-use lib.ListN.{length, getD}
-use mathlib.Core.Path.{_≡_}
-use Prim.Native.Nat.{ℕ, _+_, _*_, _-_, _≤_, _<_}
+-- `text::reading::find`. The place lies between the two ends, and the bytes left fall. Assumes nothing.
+use Prim.Native.Nat.{_-_, _≤_}
 use borrow.Author.Needs.{needs}
 use Rattle.text.proofs.reading.find.Statement.{statement}
 use Rattle.text.proofs.reading.find.Tie as tie
-use Rattle.text.proofs.reading.find.Reads as reads
-use Rattle.text.proofs.reading.find.Lts as lts
 
 abbrev Inv-loop : tie.InvT-loop
 Inv-loop s from to byte i₀ i = (from ≤ i) × (i ≤ to)
@@ -13,44 +10,7 @@ Inv-loop s from to byte i₀ i = (from ≤ i) × (i ≤ to)
 abbrev μ-loop : tie.MeasureT-loop
 μ-loop s from to byte i₀ i = to - i
 
--- src/reading.rt:54:5
-loop-holds : tie.Need-loop-holds Inv-loop μ-loop
-loop-holds c = search needs
-
--- src/reading.rt:55:12
-shared-slice-read-if1 : tie.Need-shared-slice-read-if1 Inv-loop μ-loop
-shared-slice-read-if1 c = search needs
-
--- src/reading.rt:56:13
-returns : tie.Need-returns Inv-loop μ-loop
-returns c = search needs
-
--- src/reading.rt:58:9
-add-i : tie.Need-add-i Inv-loop μ-loop
-add-i c = search needs
-
--- src/reading.rt:54:5
-loop-less : tie.Need-loop-less Inv-loop μ-loop
-loop-less c = search needs
-
--- src/reading.rt:54:5
-loop-again : tie.Need-loop-again Inv-loop μ-loop
-loop-again c = search needs
-
--- src/reading.rt:49:1
-returns-2 : tie.Need-returns-2 Inv-loop μ-loop
-returns-2 c = search needs
-
 pub find-spec : {M : Type 1} → statement M
 find-spec =
     tie.close
-    (tie.spec
-    Inv-loop
-    μ-loop
-    loop-holds
-    shared-slice-read-if1
-    returns
-    add-i
-    loop-less
-    loop-again
-    returns-2)
+    (tie.spec Inv-loop μ-loop (λ c. search needs) (λ c. search needs) (λ c. search needs) (λ c. search needs) (λ c. search needs) (λ c. search needs) (λ c. search needs))

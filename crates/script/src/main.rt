@@ -1,0 +1,23 @@
+// The program `script`: calls of the ledger on standard input, a line each, and an answer line for each on standard output. docs/SCRIPT.md has
+// the language.
+mod dispatch;
+mod feed;
+
+use notation::rooms;
+
+fn main() {
+    let mut buf = rooms::text();
+    let mut heads = rooms::heads();
+    let mut slots = rooms::slots();
+    let mut postings = rooms::postings();
+    let mut points = rooms::points();
+    let mut out = io::large_buffer();
+    feed::run(
+        &mut buf,
+        &mut heads,
+        &mut slots,
+        &mut postings,
+        &mut points,
+        &mut out,
+    );
+}
