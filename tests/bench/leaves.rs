@@ -386,7 +386,7 @@ fn main() {
     let mut words = std::env::args().skip(1);
     let samples = words
         .next()
-        .map_or(401, |word| word.parse().expect("a number"));
+        .map_or(101, |word| word.parse().expect("a number"));
     let wanted = words.next().unwrap_or_default();
     let mut random = Random(1);
     let mut rows = |words: u64, conditions: usize, outputs: usize| -> Vec<Row> {

@@ -1,0 +1,195 @@
+/* What the acceptance of a lent ledger costs: Begin, which is the acceptance and one flag, on 256 rows of 12 literals over 4,096 atoms with
+ * their postings built, beside one read of the same buffers, a plain sum over all their words. Two kinds of ledger: rows whose atoms lie
+ * anywhere, which are laid out code by code, and rows whose atoms lie close together, which are packed. Each time is the least of many
+ * calls on one ledger; the time of a first call is the middle one of 200 ledgers, each met once, since a processor learns the branches that
+ * a ledger takes when it meets it again. The rows and their words are made here, by document 01 alone.
+ *     accept [calls]            prints the figures
+ *     accept calls KIND         makes that many calls on one ledger (0 or 1) and prints nothing: for a profiler */
+#include "ledger.h"
+#include <stdio.h>
+#include <stdlib.h>
+#include <string.h>
+#include <time.h>
+
+enum { ATOMS = 4096, ROWS = 256, CONDITIONS = 4, OUTPUTS = 8, MOST_POSITIONS = 4096, LEDGERS = 200 };
+enum { SLOTS = ROWS * LEDGER_SLOT_WORDS, POSTINGS = ROWS * LEDGER_POSTING_WORDS };
+
+static uint64_t head[LEDGER_HEAD_WORDS], answer[LEDGER_ANSWER_WORDS], slots[SLOTS], postings[POSTINGS];
+static int packed_rows;
+
+/* xorshift64*: the same rows in every run. */
+static uint64_t state;
+static uint64_t below(uint64_t n)
+{
+    state ^= state >> 12;
+    state ^= state << 25;
+    state ^= state >> 27;
+    return (state * 2685821657736338717u >> 33) % n;
+}
+
+static int ascending(const void *a, const void *b)
+{
+    uint64_t x = *(const uint64_t *)a, y = *(const uint64_t *)b;
+    return (x > y) - (x < y);
+}
+
+/* n codes of distinct atoms from `from` on and below from + span, ascending, each in either sign. */
+static void codes(uint64_t *c, int n, uint64_t from, uint64_t span)
+{
+    for (int i = 0; i < n;) {
+        uint64_t atom = from + below(span);
+        int known = 0;
+        for (int j = 0; j < i; j++)
+            known |= c[j] / 2 == atom;
+        if (!known)
+            c[i++] = 2 * atom + below(2);
+    }
+    qsort(c, n, sizeof *c, ascending);
+}
+
+/* The groups of n codes as words at `body`; how many there are. */
+static int grouped(const uint64_t *c, int n, uint64_t *body)
+{
+    int w = 0;
+    for (int i = 0; i < n; i++) {
+        if (w == 0 || body[3 * w - 3] != c[i] / 128) {
+            body[3 * w] = c[i] / 128;
+            body[3 * w + 1] = body[3 * w + 2] = 0;
+            w++;
+        }
+        body[3 * w - 1 - (c[i] & 1)] |= (uint64_t)1 << (c[i] / 2 % 64);
+    }
+    return w;
+}
+
+/* One row in its slot, and its postings from `at` on; the place after them. */
+static int lay(int position, uint64_t *c, int at)
+{
+    uint64_t *slot = slots + (size_t)position * LEDGER_SLOT_WORDS, groups[3 * (CONDITIONS + OUTPUTS)];
+    int g = grouped(c, CONDITIONS, groups), w = g + grouped(c + CONDITIONS, OUTPUTS, groups + 3 * g);
+    slot[0] = CONDITIONS;
+    slot[1] = OUTPUTS;
+    slot[6] = position + 1;
+    if (3 * w < 2 * (CONDITIONS + OUTPUTS)) {
+        packed_rows++;
+        slot[2] = w;
+        slot[3] = g;
+        memcpy(slot + 8, groups, sizeof(uint64_t) * 3 * w);
+    } else {
+        memcpy(slot + 8, c, sizeof(uint64_t) * (CONDITIONS + OUTPUTS));
+    }
+    for (int i = 0; i < CONDITIONS + OUTPUTS; i++)
+        postings[at++] = c[i] / 2 * MOST_POSITIONS + position;
+    return at;
+}
+
+/* A ledger: the conditions of `close` rows lie within a word, their outputs within two. */
+static void build(int close, int seed)
+{
+    static const uint64_t limits[LEDGER_LIMIT_WORDS] = { ATOMS, ROWS, 16, 64, 64, 256, 131072, 131072, 8, 2 };
+    memset(head, 0, sizeof head);
+    memset(slots, 0, sizeof slots);
+    memset(postings, 0, sizeof postings);
+    memcpy(head, limits, sizeof limits);
+    head[LEDGER_ROWS] = head[LEDGER_BORN] = ROWS;
+    state = 88172645463325252u + 1000003u * (uint64_t)seed;
+    packed_rows = 0;
+    int at = 0;
+    for (int p = 0; p < ROWS; p++) {
+        uint64_t c[CONDITIONS + OUTPUTS];
+        codes(c, CONDITIONS, close ? 64 * below(ATOMS / 64) : 0, close ? 64 : ATOMS);
+        codes(c + CONDITIONS, OUTPUTS, close ? 64 * below(ATOMS / 64 - 1) : 0, close ? 128 : ATOMS);
+        at = lay(p, c, at);
+    }
+    qsort(postings, at, sizeof *postings, ascending);
+}
+
+static uint64_t begin(void) { return ledger_begin(head, answer, slots, SLOTS, postings, POSTINGS); }
+
+/* One read, as a plain loop and as four quarters side by side: which is faster depends on the compiler, and the faster one counts. Both lengths
+ * are multiples of 4. */
+__attribute__((noinline)) static uint64_t sum(const uint64_t *w, size_t n)
+{
+    uint64_t s = 0;
+    for (size_t i = 0; i < n; i++)
+        s += w[i];
+    return s;
+}
+__attribute__((noinline)) static uint64_t sum4(const uint64_t *w, size_t n)
+{
+    uint64_t s = 0;
+    for (size_t i = 0, m = n / 4; i < m; i++)
+        s += w[i] + w[m + i] + w[2 * m + i] + w[3 * m + i];
+    return s;
+}
+static uint64_t sums(void) { return sum(slots, SLOTS) + sum(postings, POSTINGS); }
+static uint64_t sums4(void) { return sum4(slots, SLOTS) + sum4(postings, POSTINGS); }
+
+static double now(void)
+{
+    struct timespec t;
+    clock_gettime(CLOCK_MONOTONIC, &t);
+    return t.tv_sec * 1e9 + t.tv_nsec;
+}
+
+static volatile uint64_t kept;
+static double least(uint64_t (*call)(void), int calls)
+{
+    double best = 1e18;
+    for (int i = 0; i < calls; i++) {
+        double from = now();
+        kept = call();
+        double took = now() - from;
+        if (took < best)
+            best = took;
+    }
+    return best;
+}
+
+static int shorter(const void *a, const void *b)
+{
+    double x = *(const double *)a, y = *(const double *)b;
+    return (x > y) - (x < y);
+}
+static double first(int close)
+{
+    static double took[LEDGERS];
+    for (int k = 0; k < LEDGERS; k++) {
+        build(close, k + 1);
+        kept = sums();
+        took[k] = least(begin, 1);
+    }
+    qsort(took, LEDGERS, sizeof *took, shorter);
+    return took[LEDGERS / 2];
+}
+
+int main(int argc, char **argv)
+{
+    int calls = argc > 1 ? atoi(argv[1]) : 20000;
+    if (argc > 2) {
+        build(atoi(argv[2]), 0);
+        for (int i = 0; i < calls; i++)
+            kept = begin();
+        return kept != 0;
+    }
+    for (int close = 0; close < 2; close++) {
+        build(close, 0);
+        if (begin() != 0 || answer[LEDGER_CASE] != LEDGER_DONE || head[LEDGER_FULL] != 1) {
+            printf("Begin did not answer Done\n");
+            return 1;
+        }
+        int packed = packed_rows;
+        double accept = least(begin, calls), plain = least(sums, calls), quarters = least(sums4, calls), read = plain < quarters ? plain : quarters;
+        head[LEDGER_STALE] = 1;
+        memset(postings, 0, sizeof postings);
+        if (begin() != 0) {
+            printf("Begin did not answer Done without postings\n");
+            return 1;
+        }
+        double stale = least(begin, calls), once = first(close);
+        printf("%s, %d of %d rows packed. ns a row: one read %.1f, acceptance %.1f, without postings %.1f, first call %.1f. Times one read: %.2f, %.2f, %.2f\n",
+               close ? "close atoms" : "any atoms", packed, ROWS, read / ROWS, accept / ROWS, stale / ROWS, once / ROWS, accept / read,
+               stale / read, once / read);
+    }
+    return 0;
+}
