@@ -1,0 +1,13 @@
+pub mod Walking
+pub mod Zeros
+pub mod Fills
+pub mod Posting
+pub mod Rows
+pub mod Filing
+pub mod Finding
+pub mod Marking
+pub mod Ends
+pub mod Answers
+pub mod Standing
+pub mod Keeping
+pub mod Near

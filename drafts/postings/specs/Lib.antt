@@ -1,0 +1,4 @@
+pub mod Steps
+pub mod Filling
+pub mod Standing
+pub mod Searching
