@@ -17,8 +17,7 @@ mod case;
 #[allow(dead_code)]
 #[path = "../differential/leaves/library.rs"]
 mod library;
-#[allow(dead_code)]
-#[path = "../differential/leaves/random.rs"]
+#[path = "../random.rs"]
 mod random;
 
 use case::{Row, SLOT_WORDS};

@@ -1,7 +1,8 @@
 //! One closing after another, each held against brute force.
 
+use crate::boundary::SLOT_WORDS;
 use crate::generate::AMPLE;
-use crate::ledger::{Case, Closing, FULL, HITS, Ledger, SLOT_WORDS, STALE, UNSHARED};
+use crate::ledger::{Case, Closing, FULL, HITS, Ledger, STALE, UNSHARED};
 use crate::random::Random;
 use crate::rounds::{self, SCAN_ROWS, Told};
 use crate::rows::{Closures, Ending, Literals, Row, covers, force_alike, regions};

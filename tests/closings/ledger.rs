@@ -1,9 +1,11 @@
 //! A ledger behind the C boundary (include/ledger.h), with the rows that it took.
 
+use crate::boundary::{
+    Answer, Header, POSTING_WORDS, SLOT_WORDS, ledger_close, ledger_deliver, ledger_hit,
+    ledger_make, ledger_offer, ledger_seed,
+};
 use crate::rows::{Ending, Literals, Row};
 
-pub const SLOT_WORDS: usize = 168;
-const POSTING_WORDS: usize = 80;
 pub const ROWS: usize = 11;
 pub const EVICTED: usize = 17;
 pub const STALE: usize = 20;
@@ -12,91 +14,6 @@ pub const HITS: usize = 4;
 pub const UNSHARED: usize = 5;
 /// The answers of an offer from this one on, Subsumed and Added, are those of a row taken.
 const SUBSUMED: u64 = 4;
-
-type Head = [u64; 25];
-type Answer = [u64; 3];
-type Meter = [u64; 2];
-
-#[link(name = "boundary", kind = "static")]
-unsafe extern "C" {
-    fn ledger_make(
-        limits: *const [u64; 10],
-        number: u64,
-        head: *mut Head,
-        answer: *mut Answer,
-        slots: *mut u64,
-        slots_len: usize,
-        postings: *mut u64,
-        postings_len: usize,
-    ) -> u64;
-    fn ledger_hit(
-        head: *mut Head,
-        answer: *mut Answer,
-        slots: *mut u64,
-        slots_len: usize,
-        postings: *const u64,
-        postings_len: usize,
-        position: u64,
-    ) -> u64;
-    fn ledger_offer(
-        head: *mut Head,
-        answer: *mut Answer,
-        meter: *mut Meter,
-        slots: *mut u64,
-        slots_len: usize,
-        postings: *mut u64,
-        postings_len: usize,
-        conditions: *const u64,
-        conditions_len: usize,
-        outputs: *const u64,
-        outputs_len: usize,
-    ) -> u64;
-    fn ledger_seed(
-        tier: *mut Head,
-        store: *mut Head,
-        answer: *mut Answer,
-        meter: *mut Meter,
-        tier_slots: *mut u64,
-        tier_slots_len: usize,
-        tier_postings: *mut u64,
-        tier_postings_len: usize,
-        store_slots: *const u64,
-        store_slots_len: usize,
-        store_postings: *const u64,
-        store_postings_len: usize,
-    ) -> u64;
-    fn ledger_deliver(
-        tier: *mut Head,
-        store: *mut Head,
-        answer: *mut Answer,
-        meter: *mut Meter,
-        tier_slots: *mut u64,
-        tier_slots_len: usize,
-        tier_postings: *const u64,
-        tier_postings_len: usize,
-        store_slots: *mut u64,
-        store_slots_len: usize,
-        store_postings: *mut u64,
-        store_postings_len: usize,
-    ) -> u64;
-    fn ledger_close(
-        head: *mut Head,
-        answer: *mut Answer,
-        meter: *mut Meter,
-        slots: *mut u64,
-        slots_len: usize,
-        postings: *mut u64,
-        postings_len: usize,
-        held: *mut u64,
-        held_len: usize,
-        cut: *mut u64,
-        cut_len: usize,
-        rows: *mut u64,
-        rows_len: usize,
-        atoms: *mut u64,
-        atoms_len: usize,
-    ) -> u64;
-}
 
 #[derive(Clone, Copy, PartialEq, Eq, Debug)]
 pub enum Case {
@@ -136,7 +53,7 @@ impl Closing {
 #[derive(Clone)]
 pub struct Ledger {
     pub atoms: u64,
-    pub head: Head,
+    pub head: Header,
     pub slots: Vec<u64>,
     postings: Vec<u64>,
     /// The rows that were offered or transferred to it, and Added or Subsumed.

@@ -5,10 +5,14 @@
 //! Random ledgers over 1 to 4 atoms, and all 3^atoms regions of each. The last line is 'N closings, M differ'; the exit code is 0 only if M is 0
 //! and all that must occur did. The last word makes the comparison wrong, to show that it finds what differs.
 
+#[allow(dead_code)]
+#[path = "../../bindings/rust/src/boundary.rs"]
+mod boundary;
 mod compare;
 mod generate;
 mod ledger;
 mod orders;
+#[path = "../random.rs"]
 mod random;
 mod rounds;
 mod rows;

@@ -18,7 +18,7 @@ mod generate;
 mod layout;
 #[path = "../differential/ledger/parts.rs"]
 mod parts;
-#[path = "../differential/leaves/random.rs"]
+#[path = "../random.rs"]
 mod random;
 #[path = "../differential/ledger/rust.rs"]
 #[allow(dead_code)]

@@ -1,5 +1,3 @@
-pub mod Marking
-pub mod Gathering
 pub mod Reading
 pub mod Searching
 pub mod Repeating

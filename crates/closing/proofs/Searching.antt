@@ -46,9 +46,9 @@ use Rattle.publishing.specs.declared.Ended.{Ended}
 use Rattle.publishing.specs.Turns.{ledgerOf, state, endedAs, turned}
 use Rattle.publishing.specs.Standing.{Standing}
 use Rattle.closing.specs.Running.{Running}
-use Rattle.closing.specs.Noting.{notedIn, newIn, Noted, Gathered}
+use Rattle.noting.specs.Noting.{notedIn, newIn, Noted, Gathered}
 use Rattle.closing.specs.Rounds.{stateIn, oneRound, Under, New}
-use Rattle.closing.proofs.Gathering.{noted-long, new-since}
+use Rattle.noting.proofs.Gathering.{noted-long, new-since}
 use Rattle.closing.proofs.Reading.{stands-here, stands-from}
 
 -- ---- what a search finds are rows

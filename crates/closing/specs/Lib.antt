@@ -1,4 +1,3 @@
 pub mod Running
-pub mod Noting
 pub mod Rounds
 pub mod Ends

@@ -10,7 +10,7 @@ use Rattle.model.specs.Closing.{State, Turn, halted, withMeter, withHeader, rou
 use Rattle.publishing.specs.declared.Ending.the-variants.{Going}
 use Rattle.closing.specs.declared.rounds.RoundEnd.{RoundEnd}
 use Rattle.publishing.specs.Turns.{ledgerOf, state, endedAs}
-use Rattle.closing.specs.Noting.{Gathered}
+use Rattle.noting.specs.Noting.{Gathered}
 
 -- the ledger of a header, with all its rows
 abbrev pub stateIn : Header → List ℕ → List ℕ → List ℕ → Meter → State

@@ -1,5 +1,4 @@
 // Closing: rounds of candidates, deductions and decisions. It asks nothing of its caller.
-mod noting;
 mod rounds;
 
 ghost use mathlib.Core.Path.{_≡_};

@@ -10,3 +10,4 @@ pub mod Ends
 pub mod Answers
 pub mod Standing
 pub mod Keeping
+pub mod Near

@@ -2,10 +2,12 @@
 ghost use mathlib.Core.Path.{_≡_};
 ghost use mathlib.Core.Bool.{true, false};
 ghost use mathlib.Core.List.{map};
-ghost use Prim.Native.Nat.{_*_, _≤_, _<_};
-ghost use lib.ListN.{length};
+ghost use Prim.Native.Nat.{_-_, _*_, _≤_, _<_};
+ghost use lib.ListN.{length, getD};
+ghost use Rattle.lists.specs.Counts.{Sorted};
 ghost use Rattle.lists.specs.Marks.{lowerBound};
 ghost use Rattle.words.specs.Literal.{atom as atomOf};
+ghost use Rattle.words.specs.Region.{maxAtoms};
 ghost use Rattle.meter.specs.Meter.{ticks};
 ghost use Rattle.model.specs.Records.{maxRows};
 ghost use Rattle.model.specs.Postings.{postingsOf, filed, searchTicks, searched, candidates as candidatesOf};
@@ -33,6 +35,9 @@ use words::MAX_ATOMS;
 
 // Up to so many rows every search is a full scan.
 pub const SCAN_ROWS: u64 = 64;
+
+// So many words are looked at from the last place on before all are searched.
+const NEAR: usize = 8;
 
 // The answer of a search, with the header and the meter after it.
 pub struct Searched {
@@ -114,9 +119,71 @@ fn mark_from(postings: &[u64], from: usize, atom: u64, answer: &mut [u64], work:
     Tick::Ticked(meter)
 }
 
+// From a place on, past at most so many words that are below a bound.
+fn skip_near(postings: &[u64], near: usize, bound: u64) -> usize {
+    let mut at = near;
+    let mut left = NEAR;
+    while 0 < left {
+        if postings.len() <= at {
+            return at;
+        }
+        if bound <= postings[at] {
+            return at;
+        }
+        at += 1;
+        left -= 1;
+    }
+    at
+}
+
+// Whether the last word before a place is below a bound.
+fn is_past(postings: &[u64], at: usize, bound: u64) -> bool
+    requires { ⌜ at ≤ length (now postings) ⌝ }
+    ensures { λ r. ⌜ (r ≡ true → 0 < at → getD (now (postings .entry)) (at - 1) 0 < bound) ⌝ }
+{
+    if at == 0 {
+        return true;
+    }
+    postings[at - 1] < bound
+}
+
+// Whether a place is that of the first word not below a bound.
+fn is_place(postings: &[u64], at: usize, bound: u64) -> bool
+    requires { ⌜ Sorted (now postings) ⌝ }
+    ensures { λ r. ⌜ (r ≡ true → at ≡ lowerBound bound (now (postings .entry))) ⌝ }
+{
+    if postings.len() < at {
+        return false;
+    }
+    if !is_past(postings, at, bound) {
+        return false;
+    }
+    if at == postings.len() {
+        return true;
+    }
+    bound <= postings[at]
+}
+
+// The place of the first posting that is not below an atom's, if there can be one. The atoms given mostly ascend, so it is looked for a few
+// words from the last one's place on, and then among all.
+fn place_from(postings: &[u64], near: usize, atom: u64) -> usize
+    requires { ⌜ Sorted (now postings) ⌝ }
+    ensures { λ r. ⌜ (atom < maxAtoms → r ≡ lowerBound (atom * maxRows) (now (postings .entry))) ⌝ }
+{
+    if MAX_ATOMS <= atom {
+        return near;
+    }
+    let bound = atom * MAX_ROWS;
+    let at = skip_near(postings, near, bound);
+    if is_place(postings, at, bound) {
+        return at;
+    }
+    partition_point(postings, bound)
+}
+
 // One tick for an atom, whatever number it is; then its postings are marked.
-fn mark_atom(postings: &[u64], atom: u64, answer: &mut [u64], work: Meter) -> Tick
-    requires { ⌜ Searchable (length (now answer)) (now postings) ⌝ }
+fn mark_atom(postings: &[u64], from: usize, atom: u64, answer: &mut [u64], work: Meter) -> Tick
+    requires { ⌜ Searchable (length (now answer)) (now postings) ⌝ ∗ ⌜ (atom < maxAtoms → from ≡ lowerBound (atom * maxRows) (now postings)) ⌝ }
     ensures { λ r. ⌜ walked r (now (answer .exit)) ≡ walk look (looks (now (postings .entry)) atom) (now (answer .entry)) work ⌝ }
 {
     match work.tick() {
@@ -124,7 +191,6 @@ fn mark_atom(postings: &[u64], atom: u64, answer: &mut [u64], work: Meter) -> Ti
             if MAX_ATOMS <= atom {
                 return Tick::Ticked(m);
             }
-            let from = partition_point(postings, atom * MAX_ROWS);
             mark_from(postings, from, atom, answer, m)
         }
         Tick::Stopped(m) => Tick::Stopped(m),
@@ -138,9 +204,11 @@ fn mark_atoms(postings: &[u64], atoms: &[u64], answer: &mut [u64], work: Meter) 
         ≡ walk look (looksAll (now (postings .entry)) (now (atoms .entry))) (now (answer .entry)) work ⌝ }
 {
     let mut meter = work;
+    let mut near: usize = 0;
     let mut i: usize = 0;
     while i < atoms.len() {
-        match mark_atom(postings, atoms[i], answer, meter) {
+        near = place_from(postings, near, atoms[i]);
+        match mark_atom(postings, near, atoms[i], answer, meter) {
             Tick::Ticked(m) => meter = m,
             Tick::Stopped(m) => return Tick::Stopped(m),
         }

@@ -11,8 +11,7 @@ mod boundary;
 mod closing;
 mod lent;
 mod operations;
-#[allow(dead_code)]
-#[path = "../../differential/leaves/random.rs"]
+#[path = "../../random.rs"]
 mod random;
 mod rows;
 mod timing;

@@ -8,6 +8,7 @@
 mod case;
 mod generate;
 mod library;
+#[path = "../../random.rs"]
 mod random;
 mod rattle;
 mod rust;

@@ -6,6 +6,9 @@
 //! It ends with 'N calls compared, M differ', and with exit code 0 only if M is 0 and all that must occur did. With --damage the
 //! verified side is given a fault after another, each of which must be found and shown in a short script.
 
+#[allow(dead_code)]
+#[path = "../../../bindings/rust/src/boundary.rs"]
+mod boundary;
 mod call;
 mod compare;
 mod counts;
@@ -16,7 +19,7 @@ mod host;
 mod layout;
 mod library;
 mod parts;
-#[path = "../leaves/random.rs"]
+#[path = "../../random.rs"]
 mod random;
 mod run;
 mod rust;

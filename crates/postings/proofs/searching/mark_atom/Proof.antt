@@ -32,17 +32,14 @@ returns c =
     let t = b .before .before .before in
     let a = t .args in
     sym (ended b (m .m .given .1)
-    ∙ ap (λ (xs : List (Option ℕ)). walk look xs (now (a .answer)) (m .m .given .0 .0)) (marks-beyond (a .atom) (now (a .postings)) (t .pre .low) (c .if1 .taken))
+    ∙ ap (λ (xs : List (Option ℕ)). walk look xs (now (a .answer)) (m .m .given .0 .0)) (marks-beyond (a .atom) (now (a .postings)) (t .pre .0 .low) (c .if1 .taken))
     ∙ walk-none look (now (a .answer)) (m .m .given .0 .0))
 
-mul-partition-point : tie.Need-mul-partition-point
-mul-partition-point c = search needs
-
-partition-point-requires : tie.Need-partition-point-requires
-partition-point-requires c κs = search needs
-
 mark-from-requires : tie.Need-mark-from-requires
-mark-from-requires c κs = search needs
+mark-from-requires c κs =
+    let o = c .before in
+    let t = o .before .before .before .before .before .before .before in
+    (t .pre .0, t .pre .1 (o .if1 .left))
 
 enum-known-m-2 : tie.Need-enum-known-m-2
 enum-known-m-2 c = search needs
@@ -52,7 +49,7 @@ same-length c = search needs
 
 returns-2 : tie.Need-returns-2
 returns-2 c =
-    let m = c .before .before .before .before .before .before .before in
+    let m = c .before .before .before .before .before .before in
     c .before .before .mark-from .ensures ∙ sym (ended (m .before .before) (m .m .given .1))
 
 returns-3 : tie.Need-returns-3
@@ -65,8 +62,6 @@ mark-atom-spec =
     tick-requires
     enum-known-m
     returns
-    mul-partition-point
-    partition-point-requires
     mark-from-requires
     enum-known-m-2
     same-length

@@ -16,23 +16,23 @@ use Rattle.postings.proofs.searching.mark_atoms.Statement.{statement}
 use Rattle.postings.proofs.searching.mark_atoms.Tie as tie
 
 abbrev Inv-loop : tie.InvT-loop
-Inv-loop postings atoms answer₀ meter₀ i₀ answer meter i =
+Inv-loop postings atoms answer₀ meter₀ near₀ i₀ answer meter near i =
     (i ≤ length atoms) × (length answer ≡ length answer₀)
     × (walk look (looksAll postings (drop i atoms)) answer meter ≡ walk look (looksAll postings atoms) answer₀ meter₀)
 
 abbrev μ-loop : tie.MeasureT-loop
-μ-loop postings atoms answer₀ meter₀ i₀ answer meter i = length atoms - i
+μ-loop postings atoms answer₀ meter₀ near₀ i₀ answer meter near i = length atoms - i
 
 module _ (c : tie.After-mark-atom Inv-loop μ-loop) where
   abbrev at : tie.At-loop Inv-loop μ-loop
-  at = c .before .before .before .before
+  at = c .before .before .before .before .before .before
 
   abbrev root : tie.Start Inv-loop μ-loop
   root = at .before .before .before .before
 
   -- the answer after this atom
   abbrev after : List ℕ
-  after = c .mark-atom .last .1 .1 .0
+  after = c .mark-atom .last .1 .1 .1 .0
 
   -- the whole, by how this atom ended
   turn : {t : Tick} → c .mark-atom .result ≡ t →
@@ -42,12 +42,21 @@ module _ (c : tie.After-mark-atom Inv-loop μ-loop) where
       let ps = now (root .args .postings) in
       let as′ = now (root .args .atoms) in
       ap (λ (t : Tick). onward t after (walk look (looksAll ps (drop (at .loop .i + 1) as′)))) (sym e)
-      ∙ sym (ap (λ (xs : List (Option ℕ)). walk look xs (at .loop .answer) (at .loop .meter)) (looks-drop ps as′ (at .loop .i) (c .before .before .before .loop-test .taken))
+      ∙ sym (ap (λ (xs : List (Option ℕ)). walk look xs (at .loop .answer) (at .loop .meter)) (looks-drop ps as′ (at .loop .i) (c .before .before .before .before .before .loop-test .taken))
       ∙ walk-append look (looks ps (getD as′ (at .loop .i) 0)) (looksAll ps (drop (at .loop .i + 1) as′)) (at .loop .answer) (at .loop .meter) (c .mark-atom .ensures))
       ∙ at .loop .inv .2
 
 loop-holds : tie.Need-loop-holds Inv-loop μ-loop
 loop-holds c = (omega arith, refl, refl)
+
+mul-place-from : tie.Need-mul-place-from Inv-loop μ-loop
+mul-place-from c = search needs
+
+shared-slice-read-place-from : tie.Need-shared-slice-read-place-from Inv-loop μ-loop
+shared-slice-read-place-from c = search needs
+
+place-from-requires : tie.Need-place-from-requires Inv-loop μ-loop
+place-from-requires c κs = c .before .before .before .before .before .before .pre .sorted
 
 mul-mark-atom : tie.Need-mul-mark-atom Inv-loop μ-loop
 mul-mark-atom c = search needs
@@ -56,7 +65,10 @@ shared-slice-read-mark-atom : tie.Need-shared-slice-read-mark-atom Inv-loop μ-l
 shared-slice-read-mark-atom c = search needs
 
 mark-atom-requires : tie.Need-mark-atom-requires Inv-loop μ-loop
-mark-atom-requires c κs = let l = c .before .before .before in rw (l .loop .inv .1) (l .before .before .before .before .pre)
+mark-atom-requires c κs =
+    let f = c .before .before in
+    let l = f .before .before .before in
+    (rw (l .loop .inv .1) (l .before .before .before .before .pre), f .place-from .ensures)
 
 enum-known-m : tie.Need-enum-known-m Inv-loop μ-loop
 enum-known-m c = search needs
@@ -79,7 +91,7 @@ loop-less c = search needs
 loop-again : tie.Need-loop-again Inv-loop μ-loop
 loop-again c =
     let b = c .before .before .before .before .before in
-    (omega (arith, b .before .before .before .loop-test .taken), b .mark-atom .kept .1 .1 .0 ∙ at b .loop .inv .1, turn b (c .before .m .given .1))
+    (omega (arith, b .before .before .before .before .before .loop-test .taken), b .mark-atom .kept .1 .1 .1 .0 ∙ at b .loop .inv .1, turn b (c .before .m .given .1))
 
 same-length-2 : tie.Need-same-length-2 Inv-loop μ-loop
 same-length-2 c = search needs
@@ -99,6 +111,9 @@ mark-atoms-spec =
     Inv-loop
     μ-loop
     loop-holds
+    mul-place-from
+    shared-slice-read-place-from
+    place-from-requires
     mul-mark-atom
     shared-slice-read-mark-atom
     mark-atom-requires

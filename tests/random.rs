@@ -1,4 +1,5 @@
-//! Random numbers, the same for the same seed (splitmix64).
+//! Random numbers, the same for the same seed (splitmix64). Each program here uses some of it.
+#![allow(dead_code)]
 
 pub struct Random(pub u64);
 
@@ -14,6 +15,11 @@ impl Random {
     /// A number below `end`, which is not 0.
     pub fn below(&mut self, end: u64) -> u64 {
         self.word() % end
+    }
+
+    /// A number from `first` to `last`.
+    pub fn within(&mut self, first: u64, last: u64) -> u64 {
+        first + self.below(last - first + 1)
     }
 
     /// True `part` times in `whole`.
