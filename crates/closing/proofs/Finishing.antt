@@ -38,12 +38,12 @@ use Rattle.search.proofs.Standing.{stands}
 use Rattle.slots.specs.Layout.{rowsIn}
 use Rattle.publishing.specs.declared.Ending.{Ending}
 use Rattle.publishing.specs.declared.Ending.the-variants.{Going, Conflict, Stopped}
-use Rattle.closing.specs.declared.rounds.RoundEnd.{RoundEnd}
+use Rattle.rounds.specs.declared.RoundEnd.{RoundEnd}
 use Rattle.publishing.specs.Turns.{ledgerOf, endedAs}
-use Rattle.closing.specs.Running.{Running}
-use Rattle.closing.specs.Rounds.{stateIn, roundTurn, Under}
+use Rattle.rounds.specs.Running.{Running}
+use Rattle.rounds.specs.Rounds.{stateIn, roundTurn, Under}
 use Rattle.closing.specs.Ends.{scratchOk, answerOf, closedEnd}
-use Rattle.closing.proofs.Searching.{runs-under}
+use Rattle.rounds.proofs.Searching.{runs-under}
 
 -- ---- the lengths of the scratches
 module _ (l : LearningLimits) (x y : List ℕ) where

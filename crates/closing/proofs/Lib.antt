@@ -1,4 +1,1 @@
-pub mod Reading
-pub mod Searching
-pub mod Repeating
 pub mod Finishing

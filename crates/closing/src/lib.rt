@@ -1,6 +1,4 @@
 // Closing: rounds of candidates, deductions and decisions. It asks nothing of its caller.
-mod rounds;
-
 ghost use mathlib.Core.Path.{_≡_};
 ghost use Rattle.model.specs.Operations.{close};
 ghost use Rattle.contents.specs.Lent.{lent};

@@ -1,11 +1,11 @@
--- `closing::round`. What is left of the round, run from here, is the whole round run from the start. Assumes nothing.
+-- `rounds::round`. What is left of the round, run from here, is the whole round run from the start. Assumes nothing.
 use Prim.Native.Nat.{_-_, _<_}
 use lib.ListN.{length}
 use borrow.Author.Needs.{needs}
 use Rattle.lists.proofs.Counts.{each-at}
-use Rattle.closing.proofs.Reading.{Reading, read-start, read-done, read-here, read-stands, read-ended, read-on}
-use Rattle.closing.proofs.rounds.round.Statement.{statement}
-use Rattle.closing.proofs.rounds.round.Tie as tie
+use Rattle.rounds.proofs.Reading.{Reading, read-start, read-done, read-here, read-stands, read-ended, read-on}
+use Rattle.rounds.proofs.round.Statement.{statement}
+use Rattle.rounds.proofs.round.Tie as tie
 
 abbrev Inv-loop : tie.InvT-loop
 Inv-loop atoms rows slots₀ positions held₀ cut₀ meter₀ i₀ slots held cut meter i = Reading atoms rows positions slots₀ held₀ cut₀ meter₀ slots held cut meter i

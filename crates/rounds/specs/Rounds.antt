@@ -8,7 +8,7 @@ use Rattle.model.specs.declared.Header.{Header}
 use Rattle.model.specs.Postings.{Search, candidates}
 use Rattle.model.specs.Closing.{State, Turn, halted, withMeter, withHeader, round}
 use Rattle.publishing.specs.declared.Ending.the-variants.{Going}
-use Rattle.closing.specs.declared.rounds.RoundEnd.{RoundEnd}
+use Rattle.rounds.specs.declared.RoundEnd.{RoundEnd}
 use Rattle.publishing.specs.Turns.{ledgerOf, state, endedAs}
 use Rattle.noting.specs.Noting.{Gathered}
 

@@ -1,8 +1,8 @@
--- `closing::one_round`. The search, then the rows that it found. Assumes nothing.
+-- `rounds::one_round`. The search, then the rows that it found. Assumes nothing.
 use borrow.Author.Needs.{needs}
-use Rattle.closing.proofs.Searching.{new-stopped, search-noted, round-noted, since-new, search-under, search-runs, search-stopped, search-fits, search-each, round-turn, round-runs}
-use Rattle.closing.proofs.rounds.one_round.Statement.{statement}
-use Rattle.closing.proofs.rounds.one_round.Tie as tie
+use Rattle.rounds.proofs.Searching.{new-stopped, search-noted, round-noted, since-new, search-under, search-runs, search-stopped, search-fits, search-each, round-turn, round-runs}
+use Rattle.rounds.proofs.one_round.Statement.{statement}
+use Rattle.rounds.proofs.one_round.Tie as tie
 
 sub-candidates : tie.Need-sub-candidates
 sub-candidates c = search needs

@@ -1,11 +1,11 @@
--- `closing::rounds`. The rounds left, run from here, are all rounds run from the start. Assumes nothing.
+-- `rounds::rounds`. The rounds left, run from here, are all rounds run from the start. Assumes nothing.
 use mathlib.Core.Path.{_∙_}
 use borrow.Author.Needs.{needs}
 use Rattle.words.specs.Region.{region}
 use Rattle.model.proofs.Priority.Rounds.{opens}
-use Rattle.closing.proofs.Repeating.{Repeating, repeat-start, repeat-ended, repeat-closed, repeat-less, repeat-on}
-use Rattle.closing.proofs.rounds.rounds.Statement.{statement}
-use Rattle.closing.proofs.rounds.rounds.Tie as tie
+use Rattle.rounds.proofs.Repeating.{Repeating, repeat-start, repeat-ended, repeat-closed, repeat-less, repeat-on}
+use Rattle.rounds.proofs.rounds.Statement.{statement}
+use Rattle.rounds.proofs.rounds.Tie as tie
 
 abbrev Inv-loop : tie.InvT-loop
 Inv-loop slots₀ postings₀ held₀ cut₀ places₀ noted₀ head₀ meter₀ given₀ slots postings held cut places noted head meter given =

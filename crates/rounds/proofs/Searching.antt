@@ -45,11 +45,11 @@ use Rattle.publishing.specs.declared.Ending.the-variants as ending
 use Rattle.publishing.specs.declared.Ended.{Ended}
 use Rattle.publishing.specs.Turns.{ledgerOf, state, endedAs, turned}
 use Rattle.publishing.specs.Standing.{Standing}
-use Rattle.closing.specs.Running.{Running}
+use Rattle.rounds.specs.Running.{Running}
 use Rattle.noting.specs.Noting.{notedIn, newIn, Noted, Gathered}
-use Rattle.closing.specs.Rounds.{stateIn, oneRound, Under, New}
+use Rattle.rounds.specs.Rounds.{stateIn, oneRound, Under, New}
 use Rattle.noting.proofs.Gathering.{noted-long, new-since}
-use Rattle.closing.proofs.Reading.{stands-here, stands-from}
+use Rattle.rounds.proofs.Reading.{stands-here, stands-from}
 
 -- ---- what a search finds are rows
 abbrev FoundBelow : ℕ → Option (List ℕ) → Type 0

@@ -28,12 +28,12 @@ use Rattle.model.proofs.Priority.Fine.{Fine}
 use Rattle.model.proofs.Priority.Rounds.{OnGoing, opens, opens-less, opens-le, Step, Rounded, round-step}
 use Rattle.model.proofs.Priority.Fuel.{rounds-fuel}
 use Rattle.publishing.specs.declared.Ending.the-variants.{Going}
-use Rattle.closing.specs.declared.rounds.RoundEnd.{RoundEnd}
+use Rattle.rounds.specs.declared.RoundEnd.{RoundEnd}
 use Rattle.publishing.specs.Turns.{ledgerOf, state}
-use Rattle.closing.specs.Running.{Running}
-use Rattle.closing.specs.Rounds.{stateIn, roundTurn, oneRound, Under, New}
+use Rattle.rounds.specs.Running.{Running}
+use Rattle.rounds.specs.Rounds.{stateIn, roundTurn, oneRound, Under, New}
 use Rattle.publishing.proofs.Ending.{the-type}
-use Rattle.closing.proofs.Reading.{ended-goes, ended-stays}
+use Rattle.rounds.proofs.Reading.{ended-goes, ended-stays}
 
 -- ---- the rows of a running ledger are valid
 fine-of : (n : ℕ) (es : List Entry) → T (all (λ e. isRow n (e .row)) es) → Fine (rowsE es)
