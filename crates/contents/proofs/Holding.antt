@@ -1,22 +1,22 @@
 -- A slot that holds a row, by its form: how many postings the row has, and how often it is posted under an atom. Assumes nothing.
-use mathlib.Core.Path.{_≡_, refl, sym, ap, ap₂, _∙_}
+use mathlib.Core.Path.{_≡_, refl, sym, ap, ap₂, _∙_, subst}
 use mathlib.Core.Bool.{Bool, true, false, _||_}
 use mathlib.Core.List.{List, [], _∷_, _++_, map, append-assoc}
-use Prim.Native.Nat.{ℕ, zero, suc, _+_, _-_, _*_, _≤_}
+use Prim.Native.Nat.{ℕ, zero, suc, _+_, _-_, _*_, _≤_, _<_}
 use native.Mathlib.Omega.{arith}
 use lib.Dec.{ltb, eqb}
 use lib.ListN.{length, getD, take, drop, length-append, length-map, length-take, length-drop}
 use lib.Seq.{drop-drop, take-add}
-use Rattle.lists.specs.Lists.{distinct}
-use Rattle.lists.specs.Counts.{times}
-use Rattle.lists.proofs.Tests.{any-append}
+use Rattle.lists.specs.Lists.{below, distinct}
+use Rattle.lists.specs.Counts.{times, Each}
+use Rattle.lists.proofs.Tests.{any-append, below-each}
 use Rattle.words.specs.Literal.{atom}
 use Rattle.words.proofs.Bools.{T-true}
 use Rattle.model.specs.Records.{Row, isRow}
 use Rattle.model.specs.Slots.{rowIn, codesOf, ungroup}
 use Rattle.slots.proofs.Laying.{row-scalar, row-packed}
 use Rattle.slotcheck.specs.Check.{shifted, groupsOk}
-use Rattle.slotcheck.proofs.Slot.{groups-stored}
+use Rattle.slotcheck.proofs.Slot.{groups-stored, row-parts}
 use Rattle.contents.specs.Lent.{Holds, postedAtoms, atomCount, hasAtom, oneIf}
 use Rattle.contents.proofs.Atoms.{atomsIn, atoms-groups, posted-times}
 use Rattle.contents.proofs.Rows.{posts-few}
@@ -66,6 +66,10 @@ module _ (ws : List ℕ) (h : Holds ws) where
   pub held-few : length (postedAtoms (rowIn ws)) ≤ 80
   held-few = posts-few (h .atoms) (rowIn ws) held-row
 
+  -- codes of fewer than 32,768 atoms
+  held-under : (cs : List ℕ) → below (2 * h .atoms) cs ≡ true → Each (λ v. v < 65536) cs
+  held-under cs e = let a = h .stored .atoms in λ v k. omega (arith, below-each (2 * h .atoms) cs e v k)
+
   -- posted at all: the atom is of either side
   held-has : (a : ℕ) → hasAtom a (rowIn ws .conditions ++ rowIn ws .outputs) ≡ ltb 0 (times a (postedAtoms (rowIn ws)))
   held-has a =
@@ -91,6 +95,13 @@ module _ (ws : List ℕ) (h : Holds ws) where
 
     scalar-second : rowIn ws .outputs ≡ take ((8 + nc + no) - (8 + nc)) (drop (8 + nc) ws)
     scalar-second = ap (λ r. r .outputs) (row-scalar ws z) ∙ sym (part ws (8 + nc) (8 + nc + no) no refl)
+
+    pub scalar-under : Each (λ v. v < 65536) (take ((8 + nc) - 8) (drop 8 ws)) × Each (λ v. v < 65536) (take ((8 + nc + no) - (8 + nc)) (drop (8 + nc) ws))
+    scalar-under =
+        let p = row-parts (h .atoms) (rowIn ws) held-row in (
+          subst (Each (λ v. v < 65536)) scalar-first (held-under (rowIn ws .conditions) (p .conditionsUnder)),
+          subst (Each (λ v. v < 65536)) scalar-second (held-under (rowIn ws .outputs) (p .outputsUnder)),
+        )
 
     pub count-scalar : (k : ℕ) → k ≡ length (distinct (shifted 1 (take ((8 + nc + no) - (8 + nc)) (drop (8 + nc) ws)))) →
         nc + k ≡ length (postedAtoms (rowIn ws))

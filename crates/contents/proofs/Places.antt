@@ -14,8 +14,8 @@ use lib.Seq.{take-suc, drop-cons, getD-set-same, getD-set-other}
 use borrow.Author.Tests.{eq-eqb, ne-eqb}
 use Rattle.lists.specs.Lists.{any, same, sortOf}
 use Rattle.lists.specs.Counts.{is, times, Each, Sorted}
-use Rattle.lists.proofs.Counts.{same-or, lt-or-ge, is-le, is-equal, is-other, times-more, times-take-le, each-cons, perm-full}
-use Rattle.lists.proofs.Sorts.{sort-unique}
+use Rattle.lists.proofs.Counts.{same-or, lt-or-ge, is-le, is-equal, is-other, times-more, times-take-le, each-cons, each-head, perm-full}
+use Rattle.lists.proofs.Sorts.{sort-unique, distinct-one, distinct-same, distinct-other}
 use Rattle.lists.proofs.Tests.{and-false, any-append, same-yes}
 use Rattle.words.specs.Bit.{testBit}
 use Rattle.words.specs.Literal.{atom}
@@ -23,8 +23,10 @@ use Rattle.words.proofs.Bits.{bit-zero, bit-clear-low}
 use Rattle.model.specs.Slots.{codesOf, ungroup, rowIn}
 use Rattle.model.specs.Postings.{postingsOf}
 use Rattle.slots.specs.Layout.{rowsIn, slotAt}
+use Rattle.slotcheck.specs.Check.{shifted}
+use Rattle.slotcheck.proofs.Loops.{runs, runs-none}
 use Rattle.contents.specs.Lent.{Rows, Holds, postedAtoms, hasAtom, oneIf}
-use Rattle.contents.specs.Placed.{placed, Grown, fresh, hasBit}
+use Rattle.contents.specs.Placed.{placed, Grown, fresh, anew, hasBit}
 use Rattle.contents.proofs.Atoms.{has-here, has-elsewhere}
 use Rattle.contents.proofs.Filing.{posted-none, posted-here}
 use Rattle.contents.proofs.Holding.{one-le, times-scalar, times-packed}
@@ -60,7 +62,7 @@ placed-le ws ps v = times-take-le v (getD ps (v / 4096 % 4096) 0) ws
 
 -- a posting that stands at the place of its atom b
 module _ (ws ps : List ℕ) (b p i : ℕ) (hp : p < 4096) (l : length ps ≡ 4096) (q : i ≡ getD ps (b % 4096) 0) (f : i < length ws)
-    (d : getD ws i 0 / 4096 ≡ b) (m : getD ws i 0 % 4096 ≡ p) where
+    (d : getD ws i 0 ≡ b * 4096 + p) where
   moved : (v : ℕ) → v / 4096 % 4096 ≡ b % 4096 → placed ws (set ps (b % 4096) (i + 1)) v ≡ placed ws ps v + is v (getD ws i 0)
   moved v e =
       placed-take ws (set ps (b % 4096) (i + 1)) v (i + 1)
@@ -113,6 +115,51 @@ fresh-same last b a e = rw (eq-eqb b last e, fresh)
 pub fresh-other : (last b a : ℕ) → (b ≡ last → ⊥) → fresh last b a ≡ is a b
 unfolding fresh
 fresh-other last b a n = rw (ne-eqb b last n, fresh)
+
+pub anew-same : (last b : ℕ) → b ≡ last → anew last b ≡ 0
+unfolding anew
+anew-same last b e = rw (eq-eqb b last e, anew)
+
+pub anew-other : (last b : ℕ) → (b ≡ last → ⊥) → anew last b ≡ 1
+unfolding anew
+anew-other last b n = rw (ne-eqb b last n, anew)
+
+pub anew-le : (last b : ℕ) → anew last b ≤ 1
+anew-le last b = go (same-or b last)
+  where
+    go : (b ≡ last) ⊎ (b ≡ last → ⊥) → anew last b ≤ 1
+    go (inl e) = omega (arith, anew-same last b e)
+    go (inr n) = omega (arith, anew-other last b n)
+
+-- the postings of codes that follow one of atom `last`
+unfoldable pub later : ℕ → List ℕ → ℕ
+later last [] = 0
+later last (c ∷ cs) = anew last (c / 2) + later (c / 2) cs
+
+pub later-at : (last : ℕ) (cs : List ℕ) (i : ℕ) → i < length cs → later last (drop i cs) ≡ anew last (getD cs i 0 / 2) + later (getD cs i 0 / 2) (drop (i + 1) cs)
+unfolding later
+later-at last cs i l = ap (later last) (drop-next cs i 0 l)
+
+pub later-end : (last : ℕ) (cs : List ℕ) (i : ℕ) → length cs ≤ i → later last (drop i cs) ≡ 0
+unfolding later
+later-end last cs i h = ap (later last) (drop-of-length-le cs h)
+
+later-runs : (c : ℕ) (cs : List ℕ) → runs 1 (c ∷ cs) ≡ 1 + later (c / 2) cs
+unfolding later shifted
+later-runs c [] = ap length (distinct-one (c / 2))
+later-runs c (d ∷ ds) = go (same-or (d / 2) (c / 2)) (later-runs d ds)
+  where
+    go : (d / 2 ≡ c / 2) ⊎ (d / 2 ≡ c / 2 → ⊥) → runs 1 (d ∷ ds) ≡ 1 + later (d / 2) ds → runs 1 (c ∷ d ∷ ds) ≡ 1 + (anew (c / 2) (d / 2) + later (d / 2) ds)
+    go (inl e) q = ap length (distinct-same (c / 2) (d / 2) (shifted 1 ds) (sym e)) ∙ omega (arith, q, anew-same (c / 2) (d / 2) e)
+    go (inr n) q = ap length (distinct-other (c / 2) (d / 2) (shifted 1 ds) (λ k. n (sym k))) ∙ omega (arith, q, anew-other (c / 2) (d / 2) n)
+
+-- no code is of atom `none`
+pub later-start : (none : ℕ) (cs : List ℕ) → Each (λ v. v < 65536) cs → 65536 ≤ none → later none cs ≡ runs 1 cs
+unfolding later
+later-start none [] e h = sym (runs-none 1)
+later-start none (c ∷ cs) e h =
+    let b : c < 65536 = each-head (λ v. v < 65536) c cs e in
+    omega (arith, anew-other none (c / 2) (λ q. omega arith), later-runs c cs)
 
 pub has-nothing : (a : ℕ) (cs : List ℕ) → oneIf (hasAtom a (take 0 cs)) ≡ 0
 unfolding hasAtom any

@@ -20,6 +20,14 @@ pub record Grown (ws before after : List ℕ) (p : ℕ) (f : ℕ → ℕ) : Type
 unfoldable pub fresh : ℕ → ℕ → ℕ → ℕ
 fresh last atom a = elim (eqb atom last) [ true ↦ 0 | false ↦ is a atom ]
 
+-- 1 for an atom that is not the last one, else 0
+unfoldable pub anew : ℕ → ℕ → ℕ
+anew last atom = elim (eqb atom last) [ true ↦ 0 | false ↦ 1 ]
+
+-- the code's number where a posting does not stand at its place
+abbrev pub notFiled : ℕ
+notFiled = 18446744073709551615
+
 -- an atom is of word x, and its bit is set
 unfoldable pub hasBit : ℕ → ℕ → ℕ → Bool
 hasBit x bits a = eqb x (a / 64) && testBit bits (a % 64)

@@ -16,8 +16,9 @@ mod posted;
 use lists::all_zero;
 use model::Header;
 use model::LearningLimits;
-use placed::are_postings;
-use posted::posting_total;
+use placed::are_filed;
+use placed::used;
+use posted::are_due;
 use slotcheck::is_slot;
 use words::MAX_ATOMS;
 
@@ -87,11 +88,11 @@ fn postings_ok(postings: &[u64], slots: &[u64], rows: usize, stale: bool) -> boo
     if stale {
         return all_zero(postings);
     }
-    let n = posting_total(slots, rows);
-    if !are_postings(&postings[0..n], slots, rows) {
-        return false;
+    let end = used(postings);
+    if are_filed(&postings[0..end], slots, rows) {
+        return true;
     }
-    all_zero(&postings[n..])
+    are_due(postings, slots, rows)
 }
 
 // 0, or the number of the first refusal among 1, 2 and 3. `others`: whether the other lent slices are as long as they have to be.

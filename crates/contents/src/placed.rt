@@ -3,16 +3,18 @@
 ghost use mathlib.Core.Path.{_≡_};
 ghost use mathlib.Core.Bool.{true};
 ghost use Prim.Native.Nat.{ℕ, _≤_, _<_};
-ghost use lib.ListN.{length};
-ghost use Rattle.lists.specs.Lists.{same, sortOf};
-ghost use Rattle.lists.specs.Counts.{is, times, Sorted};
+ghost use lib.ListN.{length, drop};
+ghost use Rattle.lists.specs.Lists.{same, sortOf, distinct};
+ghost use Rattle.lists.specs.Counts.{is, times, Each, Sorted};
 ghost use Rattle.model.specs.Slots.{rowIn, ungroup};
 ghost use Rattle.model.specs.Postings.{postingsOf};
 ghost use Rattle.slots.specs.Layout.{rowsIn};
+ghost use Rattle.slotcheck.specs.Check.{shifted, allZero};
 ghost use Rattle.contents.specs.Lent.{Rows, Holds, postedAtoms, hasAtom, oneIf};
-ghost use Rattle.contents.specs.Placed.{Grown, fresh, hasBit};
+ghost use Rattle.contents.specs.Placed.{Grown, fresh, anew, hasBit, notFiled};
 use crate::SLOT_WORDS;
-use crate::posted::are_posted;
+use crate::posted::atom_count;
+use lists::all_zero;
 use words::WORD_BITS;
 
 // A posting is an atom times this, plus a position; and so many atoms have a place.
@@ -23,6 +25,41 @@ const NONE: u64 = 0xffff_ffff_ffff_ffff;
 
 // The words of a set of 32,768 atoms.
 const MAX_WORDS: u64 = 512;
+
+// In place of a number of postings, above all of them: some posting does not stand at its place.
+const NOT_FILED: usize = 0xffff_ffff_ffff_ffff;
+
+// So many words are tested for 0 at a time.
+const BLOCK: usize = 64;
+
+// A place from which on every word is 0, whole blocks before the end.
+fn zeros_from(words: &[u64]) -> usize
+    ensures { λ r. ⌜ (r ≤ length (now (words .entry))) × (allZero (drop r (now (words .entry))) ≡ true) ⌝ }
+{
+    let mut n = words.len();
+    while BLOCK <= n {
+        let from = n - BLOCK;
+        if !all_zero(&words[from..n]) {
+            return n;
+        }
+        n = from;
+    }
+    n
+}
+
+// The same, past the last word that is not 0.
+pub fn used(words: &[u64]) -> usize
+    ensures { λ r. ⌜ (r ≤ length (now (words .entry))) × (allZero (drop r (now (words .entry))) ≡ true) ⌝ }
+{
+    let mut n = zeros_from(words);
+    while 0 < n {
+        if words[n - 1] != 0 {
+            return n;
+        }
+        n -= 1;
+    }
+    n
+}
 
 // Whether the words ascend. The place of an atom is then that of its first posting.
 fn note_places(words: &[u64], places: &mut [u16]) -> bool
@@ -46,7 +83,7 @@ fn note_places(words: &[u64], places: &mut [u16]) -> bool
 
 // Whether the posting of an atom at a position stands at the atom's place, which then moves past it.
 fn file(words: &[u64], places: &mut [u16], atom: u64, position: u64) -> bool
-    requires { ⌜ length (now words) ≤ 65535 ⌝ ∗ ⌜ length (now places) ≡ 4096 ⌝ ∗ ⌜ position < 4096 ⌝ }
+    requires { ⌜ length (now words) ≤ 65535 ⌝ ∗ ⌜ length (now places) ≡ 4096 ⌝ ∗ ⌜ position < 4096 ⌝ ∗ ⌜ atom < 32768 ⌝ }
     ensures { λ r. ⌜ (r ≡ true → Grown (now (words .entry)) (now (places .entry)) (now (places .exit)) position (λ a. is a atom)) ⌝ }
 {
     let at = (atom % MAX_ROWS) as usize;
@@ -54,47 +91,49 @@ fn file(words: &[u64], places: &mut [u16], atom: u64, position: u64) -> bool
     if words.len() <= i {
         return false;
     }
-    let x = words[i];
-    if x / MAX_ROWS != atom {
-        return false;
-    }
-    if x % MAX_ROWS != position {
+    if words[i] != atom * MAX_ROWS + position {
         return false;
     }
     places[at] = (i + 1) as u16;
     true
 }
 
-// The same, but for an atom that was filed last: both signs of an output have one posting.
-fn file_fresh(words: &[u64], places: &mut [u16], last: u64, atom: u64, position: u64) -> bool
-    requires { ⌜ length (now words) ≤ 65535 ⌝ ∗ ⌜ length (now places) ≡ 4096 ⌝ ∗ ⌜ position < 4096 ⌝ }
-    ensures { λ r. ⌜ (r ≡ true → Grown (now (words .entry)) (now (places .entry)) (now (places .exit)) position (fresh last atom)) ⌝ }
+// Files the posting so, unless its atom was filed last: both signs of an output have one posting. The number filed, or NOT_FILED.
+fn file_fresh(words: &[u64], places: &mut [u16], last: u64, atom: u64, position: u64) -> usize
+    requires { ⌜ length (now words) ≤ 65535 ⌝ ∗ ⌜ length (now places) ≡ 4096 ⌝ ∗ ⌜ position < 4096 ⌝ ∗ ⌜ atom < 32768 ⌝ }
+    ensures { λ r. ⌜ ((r ≡ notFiled → ⊥) → (r ≡ anew last atom) × Grown (now (words .entry)) (now (places .entry)) (now (places .exit)) position (fresh last atom)) ⌝ }
 {
     if atom == last {
-        return true;
+        return 0;
     }
-    file(words, places, atom, position)
+    if !file(words, places, atom, position) {
+        return NOT_FILED;
+    }
+    1
 }
 
 // The same for the atoms of codes.
-fn file_codes(words: &[u64], places: &mut [u16], codes: &[u64], position: u64) -> bool
-    requires { ⌜ length (now words) ≤ 65535 ⌝ ∗ ⌜ length (now places) ≡ 4096 ⌝ ∗ ⌜ position < 4096 ⌝ }
-    ensures { λ r. ⌜ (r ≡ true → Grown (now (words .entry)) (now (places .entry)) (now (places .exit)) position (λ a. oneIf (hasAtom a (now (codes .entry))))) ⌝ }
+fn file_codes(words: &[u64], places: &mut [u16], codes: &[u64], position: u64) -> usize
+    requires { ⌜ length (now words) ≤ 65535 ⌝ ∗ ⌜ length (now places) ≡ 4096 ⌝ ∗ ⌜ position < 4096 ⌝ ∗ ⌜ Each (λ v. v < 65536) (now codes) ⌝ }
+    ensures { λ r. ⌜ ((r ≡ notFiled → ⊥) → (r ≡ length (distinct (shifted 1 (now (codes .entry))))) × Grown (now (words .entry)) (now (places .entry)) (now (places .exit)) position (λ a. oneIf (hasAtom a (now (codes .entry))))) ⌝ }
 {
     let mut last = NONE;
+    let mut count: usize = 0;
     let mut i: usize = 0;
     while i < codes.len() {
         let atom = codes[i] / 2;
-        if !file_fresh(words, places, last, atom, position) {
-            return false;
+        let n = file_fresh(words, places, last, atom, position);
+        if n == NOT_FILED {
+            return NOT_FILED;
         }
         last = atom;
+        count += n;
         i += 1;
     }
-    true
+    count
 }
 
-// The same for the atoms of word x that have a bit.
+// Whether the postings of the atoms of word x that have a bit stand at their places, which then move past them.
 fn file_bits(words: &[u64], places: &mut [u16], x: u64, bits: u64, position: u64) -> bool
     requires { ⌜ length (now words) ≤ 65535 ⌝ ∗ ⌜ length (now places) ≡ 4096 ⌝ ∗ ⌜ position < 4096 ⌝ ∗ ⌜ x < 512 ⌝ }
     ensures { λ r. ⌜ (r ≡ true → Grown (now (words .entry)) (now (places .entry)) (now (places .exit)) position (λ a. oneIf (hasBit x bits a))) ⌝ }
@@ -130,47 +169,58 @@ fn file_groups(words: &[u64], places: &mut [u16], groups: &[u64], position: u64)
     true
 }
 
-// The same for the row in a slot, at its position.
-fn file_row(words: &[u64], places: &mut [u16], slot: &[u64], position: u64) -> bool
+// Files the postings of the row in a slot, at its position: their number, or NOT_FILED.
+fn file_row(words: &[u64], places: &mut [u16], slot: &[u64], position: u64) -> usize
     requires { ⌜ length (now words) ≤ 65535 ⌝ ∗ ⌜ length (now places) ≡ 4096 ⌝ ∗ ⌜ position < 4096 ⌝ ∗ ⌜ Holds (now slot) ⌝ }
-    ensures { λ r. ⌜ (r ≡ true → Grown (now (words .entry)) (now (places .entry)) (now (places .exit)) position (λ a. times a (postedAtoms (rowIn (now (slot .entry)))))) ⌝ }
+    ensures { λ r. ⌜ ((r ≡ notFiled → ⊥) → (r ≡ length (postedAtoms (rowIn (now (slot .entry))))) × Grown (now (words .entry)) (now (places .entry)) (now (places .exit)) position (λ a. times a (postedAtoms (rowIn (now (slot .entry)))))) ⌝ }
 {
+    let nc = slot[0] as usize;
     if slot[2] == 0 {
-        let from = 8 + slot[0] as usize;
+        let from = 8 + nc;
         let end = from + slot[1] as usize;
-        if !file_codes(words, places, &slot[8..from], position) {
-            return false;
+        if file_codes(words, places, &slot[8..from], position) == NOT_FILED {
+            return NOT_FILED;
         }
-        return file_codes(words, places, &slot[from..end], position);
+        let n = file_codes(words, places, &slot[from..end], position);
+        if n == NOT_FILED {
+            return NOT_FILED;
+        }
+        return nc + n;
     }
     let from = 8 + 3 * (slot[3] as usize);
     let end = 8 + 3 * (slot[2] as usize);
     if !file_groups(words, places, &slot[8..from], position) {
-        return false;
+        return NOT_FILED;
     }
-    file_groups(words, places, &slot[from..end], position)
+    if !file_groups(words, places, &slot[from..end], position) {
+        return NOT_FILED;
+    }
+    nc + atom_count(&slot[from..end])
 }
 
-// The same for the first rows: no posting is due more often than it stands among the words.
-fn file_rows(words: &[u64], places: &mut [u16], slots: &[u64], rows: usize) -> bool
+// The same for the first rows. Where their number is that of the words, no posting is due more often than it stands among the words.
+fn file_rows(words: &[u64], places: &mut [u16], slots: &[u64], rows: usize) -> usize
     requires { ⌜ length (now words) ≤ 65535 ⌝ ∗ ⌜ length (now places) ≡ 4096 ⌝ ∗ ⌜ Rows rows (now slots) ⌝ }
-    ensures { λ r. ⌜ (r ≡ true → (v : ℕ) → times v (postingsOf (rowsIn rows (now (slots .entry)))) ≤ times v (now (words .entry))) ⌝ }
+    ensures { λ r. ⌜ (r ≡ length (now (words .entry)) → (length (postingsOf (rowsIn rows (now (slots .entry)))) ≡ length (now (words .entry))) × ((v : ℕ) → times v (postingsOf (rowsIn rows (now (slots .entry)))) ≤ times v (now (words .entry)))) ⌝ }
 {
+    let mut count: usize = 0;
     let mut p: usize = 0;
     while p < rows {
         let a = SLOT_WORDS * p;
         let e = a + SLOT_WORDS;
-        if !file_row(words, places, &slots[a..e], p as u64) {
-            return false;
+        let n = file_row(words, places, &slots[a..e], p as u64);
+        if n == NOT_FILED {
+            return NOT_FILED;
         }
+        count += n;
         p += 1;
     }
-    true
+    count
 }
 
-// Whether the words, as many as the first rows have postings, are seen to be those postings ascending. Only atoms below 4,096 have a place.
-fn are_filed(words: &[u64], slots: &[u64], rows: usize) -> bool
-    requires { ⌜ Rows rows (now slots) ⌝ ∗ ⌜ length (now words) ≡ length (postingsOf (rowsIn rows (now slots))) ⌝ }
+// Whether the words are seen to be the postings of the first rows ascending. Only atoms below 4,096 have a place.
+pub fn are_filed(words: &[u64], slots: &[u64], rows: usize) -> bool
+    requires { ⌜ Rows rows (now slots) ⌝ }
     ensures { λ r. ⌜ (r ≡ true → same (now (words .entry)) (sortOf (postingsOf (rowsIn rows (now (slots .entry))))) ≡ true) ⌝ }
 {
     if 65535 < words.len() {
@@ -180,16 +230,5 @@ fn are_filed(words: &[u64], slots: &[u64], rows: usize) -> bool
     if !note_places(words, &mut places) {
         return false;
     }
-    file_rows(words, &mut places, slots, rows)
-}
-
-// Whether the words, as many as the first rows have postings, are those postings ascending.
-pub fn are_postings(words: &[u64], slots: &[u64], rows: usize) -> bool
-    requires { ⌜ Rows rows (now slots) ⌝ ∗ ⌜ length (now words) ≡ length (postingsOf (rowsIn rows (now slots))) ⌝ }
-    ensures { λ r. ⌜ r ≡ same (now (words .entry)) (sortOf (postingsOf (rowsIn rows (now (slots .entry))))) ⌝ }
-{
-    if are_filed(words, slots, rows) {
-        return true;
-    }
-    are_posted(words, slots, rows)
+    file_rows(words, &mut places, slots, rows) == words.len()
 }

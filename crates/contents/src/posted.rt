@@ -1,17 +1,19 @@
 // The postings of the rows in slots, counted and compared with lent words, with no sort and no room of its own.
 ghost use mathlib.Core.Path.{_≡_};
-ghost use mathlib.Core.Bool.{not};
-ghost use Prim.Native.Nat.{_/_, _≤_, _<_};
+ghost use mathlib.Core.Bool.{not, false};
+ghost use Prim.Native.Nat.{_/_, _*_, _≤_, _<_};
 ghost use lib.Dec.{eqb, leb, ltb};
 ghost use lib.ListN.{length};
-ghost use Rattle.lists.specs.Lists.{same, sortOf};
+ghost use Rattle.lists.specs.Lists.{same, sortOf, pad};
 ghost use Rattle.lists.specs.Counts.{times};
+ghost use Rattle.model.specs.Records.{postingWords};
 ghost use Rattle.model.specs.Slots.{rowIn, codesOf, ungroup};
 ghost use Rattle.model.specs.Postings.{postingsOf};
 ghost use Rattle.slots.specs.Layout.{rowsIn};
-ghost use Rattle.contents.specs.Lent.{Rows, Holds, postedAtoms, atomCount, hasAtom, oneIf, top};
+ghost use Rattle.contents.specs.Lent.{Rows, Holds, postedAtoms, postingsDue, atomCount, hasAtom, oneIf, top};
 use crate::SLOT_WORDS;
 use lists::Run;
+use lists::all_zero;
 use slotcheck::run_count;
 
 // A posting is an atom times this, plus a position.
@@ -21,7 +23,7 @@ const MAX_ROWS: u64 = 4096;
 const TOP: u64 = 9223372036854775808;
 
 // How many atoms the groups hold.
-fn atom_count(words: &[u64]) -> usize
+pub fn atom_count(words: &[u64]) -> usize
     requires { ⌜ length (now words) ≤ 168 ⌝ }
     ensures { λ r. ⌜ r ≡ atomCount (now (words .entry)) ⌝ }
 {
@@ -52,7 +54,7 @@ fn posting_count(slot: &[u64]) -> usize
 }
 
 // How many postings the first rows have.
-pub fn posting_total(slots: &[u64], rows: usize) -> usize
+fn posting_total(slots: &[u64], rows: usize) -> usize
     requires { ⌜ Rows rows (now slots) ⌝ }
     ensures { λ r. ⌜ r ≡ length (postingsOf (rowsIn rows (now (slots .entry)))) ⌝ }
 {
@@ -167,7 +169,7 @@ fn posted_less(slots: &[u64], rows: usize, posting: u64, often: u64) -> bool
 
 // Whether the words, as many as the first rows have postings, are those postings ascending: they ascend, and none stands more often
 // than its row is posted under its atom.
-pub fn are_posted(words: &[u64], slots: &[u64], rows: usize) -> bool
+fn are_posted(words: &[u64], slots: &[u64], rows: usize) -> bool
     requires { ⌜ Rows rows (now slots) ⌝ ∗ ⌜ length (now words) ≡ length (postingsOf (rowsIn rows (now slots))) ⌝ }
     ensures { λ r. ⌜ r ≡ same (now (words .entry)) (sortOf (postingsOf (rowsIn rows (now (slots .entry))))) ⌝ }
 {
@@ -185,4 +187,16 @@ pub fn are_posted(words: &[u64], slots: &[u64], rows: usize) -> bool
         i += 1;
     }
     true
+}
+
+// Whether the words are the postings of the first rows, ascending, and 0 after them.
+pub fn are_due(words: &[u64], slots: &[u64], rows: usize) -> bool
+    requires { ⌜ Rows rows (now slots) ⌝ ∗ ⌜ postingWords * rows ≤ length (now words) ⌝ }
+    ensures { λ r. ⌜ r ≡ same (now (words .entry)) (pad (length (now (words .entry))) (postingsDue false (rowsIn rows (now (slots .entry))))) ⌝ }
+{
+    let n = posting_total(slots, rows);
+    if !are_posted(&words[0..n], slots, rows) {
+        return false;
+    }
+    all_zero(&words[n..])
 }

@@ -3,11 +3,12 @@ use mathlib.Core.Path.{_≡_, refl, sym, ap, ap₂, _∙_, subst}
 use mathlib.Core.Logic.{_⊎_, inl, inr}
 use mathlib.Core.Bool.{Bool, true, false, _&&_, _||_, Bool·beq, true≢false}
 use mathlib.Core.List.{List, [], _∷_, map}
-use Prim.Native.Nat.{ℕ, zero, suc, _+_, _-_, _*_, _/_, _%_, _^_, _≤_, _<_}
-use native.Mathlib.Nat.{le-refl, div-div-eq-div-mul, div-one, pow-suc}
+use Prim.Native.Nat.{ℕ, zero, suc, _+_, _-_, _*_, _/_, _%_, _^_, _≤_, _<_, min, max}
+use native.Mathlib.Nat.{add-comm, le-refl, div-div-eq-div-mul, div-one, pow-suc}
 use native.Mathlib.Omega.{arith}
-use lib.Bits.{bitOr, or-lt}
-use lib.Count.{ones, onesIn, ones-step}
+use lib.Arith.{bin-ind, digits-div, digits-mod}
+use lib.Bits.{bitAnd, bitOr, and-step, or-step, or-lt}
+use lib.Count.{ones, onesIn, ones-step, ones-le}
 use lib.ListN.{length}
 use lib.Pow.{pow-pos, pow-lt}
 use Rattle.lists.specs.Lists.{select, count}
@@ -137,6 +138,24 @@ pub codes-length : (x p a : ℕ) → p < 2 ^ 64 → a < 2 ^ 64 → length (codes
 codes-length x p a hp ha =
     ap length (codes-lits x p a) ∙ lits-length x p a 0 64 (le-refl 64)
     ∙ ap₂ (λ (u v : ℕ). onesIn 64 u + onesIn 64 v) (div-one p) (div-one a) ∙ ap₂ (λ (u v : ℕ). u + v) (ones-width 64 p hp) (ones-width 64 a ha)
+
+-- an atom in both signs counts twice
+ones-digit : (q d : ℕ) → d < 2 → ones (q * 2 + d) ≡ d + ones q
+ones-digit q d h = ones-step (q * 2 + d) ∙ ap₂ (λ (x y : ℕ). x + ones y) (digits-mod q h) (digits-div q h)
+
+pub ones-both : (p a : ℕ) → ones (bitOr p a) + ones (bitAnd p a) ≡ ones p + ones a
+ones-both p = bin-ind (λ (n : ℕ). (a : ℕ) → ones (bitOr n a) + ones (bitAnd n a) ≡ ones n + ones a) (λ a. add-comm (ones a) (ones 0)) step p
+  where
+    step : (n : ℕ) → ((a : ℕ) → ones (bitOr (n / 2) a) + ones (bitAnd (n / 2) a) ≡ ones (n / 2) + ones a) →
+        (a : ℕ) → ones (bitOr n a) + ones (bitAnd n a) ≡ ones n + ones a
+    step n ih a =
+        let o = ap ones (or-step n a) ∙ ones-digit (bitOr (n / 2) (a / 2)) (max (n % 2) (a % 2)) (omega arith) in
+        let b = ap ones (and-step n a) ∙ ones-digit (bitAnd (n / 2) (a / 2)) (min (n % 2) (a % 2)) (omega arith) in
+        let h = ih (a / 2) in
+        omega (arith, ones-step n, ones-step a)
+
+pub ones-apart : (p a : ℕ) → bitAnd p a ≡ 0 → ones (bitOr p a) ≡ ones p + ones a
+ones-apart p a e = let z = ap ones e in omega (arith, ones-both p a, ones-le 0 0 (pow-pos 0))
 
 -- ---- the words of codes
 

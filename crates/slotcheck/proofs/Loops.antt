@@ -16,7 +16,7 @@ use Rattle.lists.specs.Lists.{distinct}
 use Rattle.lists.proofs.Sorts.{distinct-one, distinct-same, distinct-other, distinct-short}
 use Rattle.words.specs.Literal.{atom, wordOf}
 use Rattle.model.specs.Rows.{enter, groups}
-use Rattle.slotcheck.specs.Check.{key, climbs, shifted, room, groupOk, groupsOk, codeCount}
+use Rattle.slotcheck.specs.Check.{key, climbs, shifted, room, groupOk, groupsOk, codeCount, noSide, sideCodes}
 use Rattle.slotcheck.proofs.Groups.{groups-head, group-passed}
 
 -- ---- codes in order
@@ -180,6 +180,21 @@ count-end ws at l = ends (drop at ws) (length-drop at ws)
     ends (x ∷ []) e = refl
     ends (x ∷ p ∷ []) e = refl
     ends (x ∷ p ∷ a ∷ ds) e = absurd (omega arith)
+
+-- ---- a side
+pub side-is : (apart : Bool) (n : ℕ) (ws : List ℕ) (b : Bool) → b ≡ groupsOk apart n 0 ws →
+    (elim b as (λ k. ℕ) [ true ↦ codeCount ws | false ↦ noSide ]) ≡ sideCodes apart n ws
+unfolding sideCodes
+side-is apart n ws b e = ap (λ (d : Bool). elim d as (λ k. ℕ) [ true ↦ codeCount ws | false ↦ noSide ]) e
+
+-- both tests of a side at once
+pub side-test : (apart : Bool) (n m : ℕ) (ws : List ℕ) → m ≤ 64 → eqb (sideCodes apart n ws) m ≡ (groupsOk apart n 0 ws && eqb (codeCount ws) m)
+unfolding sideCodes
+side-test apart n m ws h = go (groupsOk apart n 0 ws)
+  where
+    go : (b : Bool) → eqb (elim b as (λ k. ℕ) [ true ↦ codeCount ws | false ↦ noSide ]) m ≡ (b && eqb (codeCount ws) m)
+    go true = refl
+    go false = ne-eqb noSide m (λ e. omega arith)
 
 -- ---- one group
 pub inside-all : (n x bits : ℕ) → x < n / 64 → bits < 2 ^ 64 → true ≡ ltb bits (2 ^ room n x)

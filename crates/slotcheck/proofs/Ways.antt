@@ -8,9 +8,10 @@ use lib.Dec.{eqb, leb, ltb}
 use lib.ListN.{length, getD, take, drop, length-drop}
 use lib.Seq.{drop-drop, take-all}
 use borrow.Author.Tests.{eq-eqb, ne-eqb, lt-ltb, le-ltb, le-leb, lt-leb}
+use Rattle.lists.proofs.Tests.{and-yes}
 use Rattle.model.specs.Rows.{groups}
-use Rattle.slotcheck.specs.Check.{climbs, groupsOk, codeCount, allZero, headOk, scalarOk, packedOk, wordsPass, slotOk}
-use Rattle.slotcheck.proofs.Loops.{runs, groups-runs}
+use Rattle.slotcheck.specs.Check.{climbs, groupsOk, codeCount, sideCodes, allZero, headOk, scalarOk, packedOk, wordsPass, slotOk}
+use Rattle.slotcheck.proofs.Loops.{runs, groups-runs, side-test}
 use Rattle.slotcheck.proofs.Slot.{words-slot}
 
 no-left : (x y : Bool) → x ≡ false → (x && y) ≡ false
@@ -21,6 +22,13 @@ no-right x y e = ap (λ (b : Bool). x && b) e ∙ and-false x
 
 after : (x y z : Bool) → x ≡ true → z ≡ y → z ≡ (x && y)
 after x y z e f = f ∙ sym (ap (λ (b : Bool). b && y) e)
+
+-- two tests of each of two sides: test by test, and side by side
+by-sides : (a b c d e : Bool) → ((a && b) && ((c && d) && e)) ≡ (((a && c) && (b && d)) && e)
+by-sides true true c d e = refl
+by-sides true false true d e = refl
+by-sides true false false d e = refl
+by-sides false b c d e = refl
 
 -- ---- the parts of a slot that the code lends
 first-part : (ws : List ℕ) (b n : ℕ) → take ((b + n) - b) (drop b ws) ≡ take n (drop b ws)
@@ -150,9 +158,12 @@ module _ (n : ℕ) (ws : List ℕ) where
   abbrev t7 : Bool
   t7 = allZero (drop (3 * w) (drop 8 ws))
 
-  pub packed-many : kc ≤ 16 → ko ≤ 64 → 53 < w → false ≡ packedOk n ws
-  unfolding packedOk
-  packed-many a b h = sym (no-left (t1 && t2) ((t3 && t4) && ((t5 && t6) && t7)) (no-right t1 t2 (le-ltb (3 * w) (2 * (kc + ko)) (omega arith))))
+  -- the tests of both sides, as the code has them
+  abbrev u1 : Bool
+  u1 = eqb (sideCodes true n ps) kc
+
+  abbrev u2 : Bool
+  u2 = eqb (sideCodes false n qs) ko
 
   pub packed-parts : w < g → false ≡ packedOk n ws
   unfolding packedOk
@@ -168,36 +179,37 @@ module _ (n : ℕ) (ws : List ℕ) where
   next-groups : g ≤ w → take ((8 + 3 * w) - (8 + 3 * g)) (drop (8 + 3 * g) ws) ≡ qs
   next-groups h = next-part ws 8 (3 * g) (8 + 3 * w) (3 * (w - g)) (omega arith)
 
-  pub packed-conditions : groupsOk true n 0 (take ((8 + 3 * g) - 8) (drop 8 ws)) ≡ false → false ≡ packedOk n ws
-  unfolding packedOk
-  packed-conditions e = sym (no-right (t1 && t2) ((t3 && t4) && ((t5 && t6) && t7)) (no-left (t3 && t4) ((t5 && t6) && t7) (no-left t3 t4 (ap (groupsOk true n 0) (sym first-groups) ∙ e))))
+  module _ (few : kc ≤ 16) (most : ko ≤ 64) where
+    pub packed-many : 53 < w → false ≡ packedOk n ws
+    packed-many h = packed-form (omega arith)
 
-  pub packed-few : (k : ℕ) → k ≡ codeCount (take ((8 + 3 * g) - 8) (drop 8 ws)) → (k ≡ kc → ⊥) → false ≡ packedOk n ws
-  unfolding packedOk
-  packed-few k e f =
-      sym (no-right (t1 && t2) ((t3 && t4) && ((t5 && t6) && t7)) (no-right (t3 && t4) ((t5 && t6) && t7) (no-left (t5 && t6) t7 (no-left t5 t6 (ne-eqb (codeCount ps) kc (λ q. f (e ∙ ap codeCount first-groups ∙ q)))))))
-
-  module _ (h : g ≤ w) where
-    pub packed-outputs : groupsOk false n 0 (take ((8 + 3 * w) - (8 + 3 * g)) (drop (8 + 3 * g) ws)) ≡ false → false ≡ packedOk n ws
+    packed-sides : packedOk n ws ≡ ((t1 && t2) && ((u1 && u2) && t7))
     unfolding packedOk
-    packed-outputs e = sym (no-right (t1 && t2) ((t3 && t4) && ((t5 && t6) && t7)) (no-left (t3 && t4) ((t5 && t6) && t7) (no-right t3 t4 (ap (groupsOk false n 0) (sym (next-groups h)) ∙ e))))
+    packed-sides =
+        let m : kc ≤ 64 = omega arith in
+        ap (λ (b : Bool). (t1 && t2) && b)
+        (by-sides t3 t4 t5 t6 t7 ∙ sym (ap₂ (λ (x y : Bool). (x && y) && t7) (side-test true n kc ps m) (side-test false n ko qs most)))
 
-    pub packed-most : (k : ℕ) → k ≡ codeCount (take ((8 + 3 * w) - (8 + 3 * g)) (drop (8 + 3 * g) ws)) → (k ≡ ko → ⊥) → false ≡ packedOk n ws
-    unfolding packedOk
-    packed-most k e f =
-        sym (no-right (t1 && t2) ((t3 && t4) && ((t5 && t6) && t7)) (no-right (t3 && t4) ((t5 && t6) && t7) (no-left (t5 && t6) t7 (no-right t5 t6 (ne-eqb (codeCount qs) ko (λ q. f (e ∙ ap codeCount (next-groups h) ∙ q)))))))
+    sides-no : (u1 && u2) ≡ false → false ≡ packedOk n ws
+    sides-no e = sym (packed-sides ∙ no-right (t1 && t2) ((u1 && u2) && t7) (no-left (u1 && u2) t7 e))
 
-    pub packed-rest : (b : Bool) → 3 * w < 2 * (kc + ko) → groupsOk true n 0 (take ((8 + 3 * g) - 8) (drop 8 ws)) ≡ true →
-        groupsOk false n 0 (take ((8 + 3 * w) - (8 + 3 * g)) (drop (8 + 3 * g) ws)) ≡ true →
-        codeCount (take ((8 + 3 * g) - 8) (drop 8 ws)) ≡ kc → codeCount (take ((8 + 3 * w) - (8 + 3 * g)) (drop (8 + 3 * g) ws)) ≡ ko →
-        b ≡ allZero (take (length ws - (8 + 3 * w)) (drop (8 + 3 * w) ws)) → b ≡ packedOk n ws
-    unfolding packedOk
-    packed-rest b l x y p q e =
-        after (t1 && t2) ((t3 && t4) && ((t5 && t6) && t7)) b (ap₂ (λ (s t : Bool). s && t) (le-leb g w h) (lt-ltb (3 * w) (2 * (kc + ko)) l))
-        (after (t3 && t4) ((t5 && t6) && t7) b (ap₂ (λ (s t : Bool). s && t) (ap (groupsOk true n 0) (sym first-groups) ∙ x) (ap (groupsOk false n 0) (sym (next-groups h)) ∙ y))
-        (after (t5 && t6) t7 b
-        (ap₂ (λ (s t : Bool). s && t) (eq-eqb (codeCount ps) kc (ap codeCount (sym first-groups) ∙ p)) (eq-eqb (codeCount qs) ko (ap codeCount (sym (next-groups h)) ∙ q)))
-        (e ∙ ap allZero (last-part ws 8 (3 * w)))))
+    pub packed-conditions : (k : ℕ) → k ≡ sideCodes true n (take ((8 + 3 * g) - 8) (drop 8 ws)) → (k ≡ kc → ⊥) → false ≡ packedOk n ws
+    packed-conditions k e f = sides-no (no-left u1 u2 (ne-eqb (sideCodes true n ps) kc (λ q. f (e ∙ ap (sideCodes true n) first-groups ∙ q))))
+
+    module _ (h : g ≤ w) where
+      pub packed-outputs : (k : ℕ) → k ≡ sideCodes false n (take ((8 + 3 * w) - (8 + 3 * g)) (drop (8 + 3 * g) ws)) → (k ≡ ko → ⊥) → false ≡ packedOk n ws
+      packed-outputs k e f = sides-no (no-right u1 u2 (ne-eqb (sideCodes false n qs) ko (λ q. f (e ∙ ap (sideCodes false n) (next-groups h) ∙ q))))
+
+      pub packed-rest : (b : Bool) → 3 * w < 2 * (kc + ko) → sideCodes true n (take ((8 + 3 * g) - 8) (drop 8 ws)) ≡ kc →
+          sideCodes false n (take ((8 + 3 * w) - (8 + 3 * g)) (drop (8 + 3 * g) ws)) ≡ ko →
+          b ≡ allZero (take (length ws - (8 + 3 * w)) (drop (8 + 3 * w) ws)) → b ≡ packedOk n ws
+      packed-rest b l p q e =
+          after (t1 && t2) ((u1 && u2) && t7) b (and-yes t1 t2 (le-leb g w h) (lt-ltb (3 * w) (2 * (kc + ko)) l))
+          (after (u1 && u2) t7 b
+          (and-yes u1 u2 (eq-eqb (sideCodes true n ps) kc (ap (sideCodes true n) (sym first-groups) ∙ p))
+          (eq-eqb (sideCodes false n qs) ko (ap (sideCodes false n) (sym (next-groups h)) ∙ q)))
+          (e ∙ ap allZero (last-part ws 8 (3 * w))))
+          ∙ sym packed-sides
 
 -- ---- a slot
 module _ (n born : ℕ) (ws : List ℕ) (long : length ws ≡ 168) where

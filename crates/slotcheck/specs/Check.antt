@@ -57,6 +57,13 @@ codeCount (x ∷ []) = 0
 codeCount (x ∷ p ∷ []) = 0
 codeCount (x ∷ p ∷ a ∷ ws) = (ones p + ones a) + codeCount ws
 
+-- the codes of a side; words that are not whole groups in order count as more than any side has
+abbrev pub noSide : ℕ
+noSide = 4294967295
+
+unfoldable pub sideCodes : Bool → ℕ → List ℕ → ℕ
+sideCodes apart n ws = elim (groupsOk apart n 0 ws) [ true ↦ codeCount ws | false ↦ noSide ]
+
 -- ---- one slot
 abbrev pub allZero : List ℕ → Bool
 allZero ws = same ws (zeroed ws)

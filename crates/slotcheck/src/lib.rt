@@ -1,11 +1,15 @@
 // The check of one slot: whether 168 words are those of a row. It reads the words where they lie, and lays out no row.
 ghost use mathlib.Core.Path.{_≡_};
 ghost use Prim.Native.Nat.{_+_, _*_, _^_, _≤_, _<_};
+ghost use lib.Count.{ones};
 ghost use lib.Dec.{ltb};
 ghost use lib.ListN.{length, getD};
 ghost use Rattle.lists.specs.Lists.{distinct};
-ghost use Rattle.slotcheck.specs.Check.{key, climbs, shifted, room, groupOk, groupsOk, codeCount, scalarOk, packedOk, slotOk};
+ghost use Rattle.slotcheck.specs.Check.{key, climbs, shifted, room, groupOk, sideCodes, scalarOk, packedOk, slotOk};
 use lists::all_zero;
+
+// The number of codes of words that are no side of a slot: no side has so many.
+const NO_SIDE: usize = 0xffff_ffff;
 
 // What has to ascend: the atom of a condition, the code of an output.
 fn key_of(half: bool, code: u64) -> u64
@@ -85,40 +89,41 @@ fn is_group(x: u64, present: u64, absent: u64, apart: bool, atoms: u64) -> bool
     true
 }
 
-// Whether the words are whole groups with ascending words.
-pub fn are_groups(words: &[u64], apart: bool, atoms: u64) -> bool
-    ensures { λ r. ⌜ r ≡ groupsOk apart atoms 0 (now (words .entry)) ⌝ }
+// How many codes a group holds. Mostly no atom is there in both signs, and one count does.
+fn codes_in(present: u64, absent: u64) -> usize
+    ensures { λ r. ⌜ (r ≡ ones present + ones absent) × (r ≤ 128) ⌝ }
 {
-    let mut least: u64 = 0;
-    let mut at = 0;
-    while 3 <= words.len() - at {
-        let x = words[at];
-        if x < least {
-            return false;
-        }
-        if !is_group(x, words[at + 1], words[at + 2], apart, atoms) {
-            return false;
-        }
-        least = x + 1;
-        at += 3;
+    let both = present & absent;
+    let count = u64::count_ones(present | absent) as usize;
+    if both == 0 {
+        return count;
     }
-    at == words.len()
+    count + u64::count_ones(both) as usize
 }
 
-// How many codes the groups hold.
-pub fn code_count(words: &[u64]) -> usize
+// How many codes the words hold, if they are whole groups with ascending words; else more than any side has.
+fn group_codes(words: &[u64], apart: bool, atoms: u64) -> usize
     requires { ⌜ length (now words) ≤ 168 ⌝ }
-    ensures { λ r. ⌜ r ≡ codeCount (now (words .entry)) ⌝ }
+    ensures { λ r. ⌜ r ≡ sideCodes apart atoms (now (words .entry)) ⌝ }
 {
+    let mut least: u64 = 0;
     let mut count: usize = 0;
     let mut at = 0;
     while 3 <= words.len() - at {
+        let x = words[at];
         let present = words[at + 1];
         let absent = words[at + 2];
-        count += (u64::count_ones(present) + u64::count_ones(absent)) as usize;
+        if x < least {
+            return NO_SIDE;
+        }
+        if !is_group(x, present, absent, apart, atoms) {
+            return NO_SIDE;
+        }
+        count += codes_in(present, absent);
+        least = x + 1;
         at += 3;
     }
-    count
+    if at == words.len() { count } else { NO_SIDE }
 }
 
 // The scalar form: the codes in order, too few to be packed, and zeros after them.
@@ -166,16 +171,10 @@ fn is_packed(slot: &[u64], atoms: u64) -> bool
     }
     let from = 8 + 3 * g;
     let end = 8 + 3 * w;
-    if !are_groups(&slot[8..from], true, atoms) {
+    if group_codes(&slot[8..from], true, atoms) != nc {
         return false;
     }
-    if !are_groups(&slot[from..end], false, atoms) {
-        return false;
-    }
-    if code_count(&slot[8..from]) != nc {
-        return false;
-    }
-    if code_count(&slot[from..end]) != no {
+    if group_codes(&slot[from..end], false, atoms) != no {
         return false;
     }
     all_zero(&slot[end..])

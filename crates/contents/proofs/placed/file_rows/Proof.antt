@@ -1,30 +1,40 @@
--- `contents::placed::file_rows`. The loop: every posting of the first `p` rows stands before the place of its atom. Assumes nothing.
+-- `contents::placed::file_rows`. The loop: every posting of the first `p` rows stands before the place of its atom, and those counted and those of the rows left are all. Assumes nothing.
 use mathlib.Core.Path.{_≡_, refl}
-use mathlib.Core.Bool.{false≢true}
-use Prim.Native.Nat.{ℕ, _-_, _%_, _≤_, _<_}
+use Prim.Native.Nat.{ℕ, _+_, _-_, _*_, _%_, _≤_, _<_}
 use native.Mathlib.Omega.{arith}
 use lib.ListN.{length}
-use borrow.Author.Tests.{not-false}
 use borrow.Author.Needs.{needs}
 use Rattle.lists.specs.Counts.{times}
-use Rattle.model.specs.Postings.{postingsOf}
+use Rattle.model.specs.Postings.{postingsFrom, postingsOf}
 use Rattle.slots.specs.Layout.{rowsIn}
+use Rattle.slots.proofs.Rows.{rowsFrom}
 use Rattle.contents.specs.Placed.{placed}
-use Rattle.contents.proofs.Filing.{holds-code}
+use Rattle.contents.proofs.Filing.{holds-code, total-start, total-step, total-end}
 use Rattle.contents.proofs.Places.{rows-more, rows-all-placed}
 use Rattle.contents.proofs.placed.file_rows.Statement.{statement}
 use Rattle.contents.proofs.placed.file_rows.Tie as tie
 
 abbrev Inv-loop : tie.InvT-loop
-Inv-loop words places₀ slots rows p₀ places p =
-    (p ≤ rows) × (length places ≡ length places₀)
+Inv-loop words places₀ slots rows count₀ p₀ places count p =
+    (p ≤ rows) × (length places ≡ length places₀) × (count ≤ 80 * p)
+    × (count + length (postingsFrom p (rowsFrom rows slots p)) ≡ length (postingsOf (rowsIn rows slots)))
     × ((v : ℕ) → v % 4096 < p → times v (postingsOf (rowsIn rows slots)) ≤ placed words places v)
 
 abbrev μ-loop : tie.MeasureT-loop
-μ-loop words places₀ slots rows p₀ places p = rows - p
+μ-loop words places₀ slots rows count₀ p₀ places count p = rows - p
+
+-- the row that was filed
+step : (c : tie.Else1 Inv-loop μ-loop) → let at = c .before .before .before .before .before .before .before in let a = at .before .before .before .before .args in let p = at .loop .p in let n = c .before .before .before .file-row .result in
+    (n ≤ 80) × (length (postingsFrom p (rowsFrom (a .rows) (a .slots .now) p)) ≡ n + length (postingsFrom (p + 1) (rowsFrom (a .rows) (a .slots .now) (p + 1))))
+step c =
+    let at = c .before .before .before .before .before .before .before in
+    let s = at .before .before .before .before in
+    total-step (s .args .rows) (s .args .slots .now) (s .pre .1 .1) (at .loop .p) _ (c .before .before .before .before .before .before .loop-test .taken) (c .before .before .before .file-row .ensures (c .if1 .left) .0)
 
 loop-holds : tie.Need-loop-holds Inv-loop μ-loop
-loop-holds c = (search needs, refl, (λ v h. absurd (omega arith)))
+loop-holds c =
+    let s = c .before .before .before in
+    (search needs, refl, search needs, omega (arith, total-start (s .args .rows) (s .args .slots .now) (s .pre .1 .1)), (λ v h. absurd (omega arith)))
 
 mul-a : tie.Need-mul-a Inv-loop μ-loop
 mul-a c = search needs
@@ -56,7 +66,13 @@ same-length : tie.Need-same-length Inv-loop μ-loop
 same-length c = search needs
 
 returns : tie.Need-returns Inv-loop μ-loop
-returns c = λ e. absurd (false≢true e)
+returns c = λ e. absurd (omega (arith, e, c .before .before .before .before .before .before .before .before .before .before .before .pre .0))
+
+add-count : tie.Need-add-count Inv-loop μ-loop
+add-count c =
+    let k = step c .0 in
+    let at = c .before .before .before .before .before .before .before in
+    omega (arith, c .before .before .before .before .before .before .loop-test .taken, at .loop .inv .2, at .before .before .before .before .pre .1 .1 .few)
 
 add-p : tie.Need-add-p Inv-loop μ-loop
 add-p c = search needs
@@ -69,11 +85,14 @@ loop-again c =
     let turn = c .before .before .before .before .before .before in
     let at = turn .before in
     let s = at .before .before .before .before in
-    let t = turn .loop-test .taken in (
+    let t = turn .loop-test .taken in
+    let n = step c in (
       search needs,
       search needs,
+      omega (arith, at .loop .inv .2),
+      omega (arith, at .loop .inv .3),
       rows-more (s .args .words .now) (s .args .slots .now) (s .args .rows) (s .pre .1 .1) (at .loop .places) _ (at .loop .p) t
-          (c .before .before .before .file-row .ensures (not-false _ (c .if1 .left))) (at .loop .inv .2),
+          (c .before .before .before .file-row .ensures (c .if1 .left) .1) (at .loop .inv .4),
     )
 
 same-length-2 : tie.Need-same-length-2 Inv-loop μ-loop
@@ -83,7 +102,10 @@ returns-2 : tie.Need-returns-2 Inv-loop μ-loop
 returns-2 c =
     let at = c .before in
     let s = at .before .before .before .before in
-    λ e. rows-all-placed (s .args .words .now) (s .args .slots .now) (s .args .rows) (s .pre .1 .1) (at .loop .places) (at .loop .p) (c .loop-test .left) (at .loop .inv .2)
+    λ e. (
+      omega (arith, e, total-end (s .args .rows) (s .args .slots .now) (s .pre .1 .1) (at .loop .p) (c .loop-test .left), at .loop .inv .3),
+      rows-all-placed (s .args .words .now) (s .args .slots .now) (s .args .rows) (s .pre .1 .1) (at .loop .places) (at .loop .p) (c .loop-test .left) (at .loop .inv .4),
+    )
 
 pub file-rows-spec : {M : Type 1} → statement M
 file-rows-spec =
@@ -101,6 +123,7 @@ file-rows-spec =
     file-row-requires
     same-length
     returns
+    add-count
     add-p
     loop-less
     loop-again

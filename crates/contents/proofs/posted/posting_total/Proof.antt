@@ -1,18 +1,13 @@
 -- `contents::posted::posting_total`. The loop: what is counted, and the postings of the rows left, make the whole. Assumes nothing.
-use mathlib.Core.Path.{_≡_, sym, ap, _∙_, subst}
-use mathlib.Core.List.{List}
-use Prim.Native.Nat.{ℕ, _+_, _-_, _*_, _≤_}
+use mathlib.Core.Path.{_≡_}
+use Prim.Native.Nat.{_+_, _-_, _*_, _≤_}
 use native.Mathlib.Omega.{arith}
 use lib.ListN.{length}
 use borrow.Author.Needs.{needs}
-use Rattle.model.specs.Slots.{rowIn}
 use Rattle.model.specs.Postings.{postingsFrom, postingsOf}
-use Rattle.slots.specs.Layout.{slotAt, rowsIn}
-use Rattle.contents.specs.Lent.{Holds, postedAtoms}
+use Rattle.slots.specs.Layout.{rowsIn}
 use Rattle.slots.proofs.Rows.{rowsFrom}
-use Rattle.contents.proofs.Holding.{held-few}
-use Rattle.contents.proofs.Filing.{holds-at, total-start, total-next, total-end}
-use Rattle.contents.proofs.Walks.{slot-code}
+use Rattle.contents.proofs.Filing.{holds-code, total-start, total-step, total-end}
 use Rattle.contents.proofs.posted.posting_total.Statement.{statement}
 use Rattle.contents.proofs.posted.posting_total.Tie as tie
 
@@ -23,22 +18,11 @@ abbrev μ-loop : tie.MeasureT-loop
 μ-loop slots rows count₀ p₀ count p = rows - p
 
 -- the postings of the row that was counted
-here : (c : tie.After-posting-count Inv-loop μ-loop) → c .posting-count .result ≡ length (postedAtoms (rowIn (slotAt (c .before .before .before .before .before .args .slots .now) (c .before .before .before .loop .p))))
-here c = c .posting-count .ensures ∙ ap (λ (l : List ℕ). length (postedAtoms (rowIn l))) (slot-code (c .before .before .before .before .before .args .slots .now) (c .before .before .before .loop .p))
-
-few-here : (c : tie.After-posting-count Inv-loop μ-loop) → c .posting-count .result ≤ 80
-few-here c =
-    let a = c .before .before .before .before .before in
-    let p = c .before .before .before .loop .p in
-    let f = held-few (slotAt (a .args .slots .now) p) (holds-at (a .args .rows) (a .args .slots .now) (a .pre) p (c .before .before .loop-test .taken)) in
-    omega (arith, here c)
-
-next-here : (c : tie.After-posting-count Inv-loop μ-loop) → let a = c .before .before .before .before .before .args in let p = c .before .before .before .loop .p in
-    length (postingsFrom p (rowsFrom (a .rows) (a .slots .now) p)) ≡ c .posting-count .result + length (postingsFrom (p + 1) (rowsFrom (a .rows) (a .slots .now) (p + 1)))
-next-here c =
-    let a = c .before .before .before .before .before in
-    let p = c .before .before .before .loop .p in
-    total-next (a .args .rows) (a .args .slots .now) (a .pre) p (c .before .before .loop-test .taken) ∙ ap (λ (k : ℕ). k + length (postingsFrom (p + 1) (rowsFrom (a .args .rows) (a .args .slots .now) (p + 1)))) (sym (here c))
+step : (c : tie.After-posting-count Inv-loop μ-loop) → let a = c .before .before .before .before .before .args in let p = c .before .before .before .loop .p in let n = c .posting-count .result in
+    (n ≤ 80) × (length (postingsFrom p (rowsFrom (a .rows) (a .slots .now) p)) ≡ n + length (postingsFrom (p + 1) (rowsFrom (a .rows) (a .slots .now) (p + 1))))
+step c =
+    let s = c .before .before .before .before .before in
+    total-step (s .args .rows) (s .args .slots .now) (s .pre) (c .before .before .before .loop .p) _ (c .before .before .loop-test .taken) (c .posting-count .ensures)
 
 loop-holds : tie.Need-loop-holds Inv-loop μ-loop
 loop-holds c =
@@ -65,14 +49,12 @@ part-posting-count-end c = search needs
 
 posting-count-requires : tie.Need-posting-count-requires Inv-loop μ-loop
 posting-count-requires c κs =
-    let a = c .before .before .before .before .args in
-    let ws = a .slots .now in
-    let p = c .before .before .loop .p in
-    subst Holds (sym (slot-code ws p)) (holds-at (a .rows) ws (c .before .before .before .before .pre) p (c .before .loop-test .taken))
+    let s = c .before .before .before .before in
+    holds-code (s .args .rows) (s .args .slots .now) (s .pre) (c .before .before .loop .p) (c .before .loop-test .taken)
 
 add-count : tie.Need-add-count Inv-loop μ-loop
 add-count c =
-    let k = few-here c in
+    let k = step c .0 in
     let f = c .before .before .before .before .before .pre .few in
     search needs
 
@@ -84,8 +66,7 @@ loop-less c = search needs
 
 loop-again : tie.Need-loop-again Inv-loop μ-loop
 loop-again c =
-    let k = few-here c in
-    let n = next-here c in
+    let n = step c in
     (omega arith, omega arith, omega arith)
 
 returns : tie.Need-returns Inv-loop μ-loop
