@@ -66,7 +66,7 @@ module _ (ws : List ℕ) (h : Holds ws) where
   pub held-few : length (postedAtoms (rowIn ws)) ≤ 80
   held-few = posts-few (h .atoms) (rowIn ws) held-row
 
-  -- codes of fewer than 32,768 atoms
+  -- codes of at most 32,768 atoms
   held-under : (cs : List ℕ) → below (2 * h .atoms) cs ≡ true → Each (λ v. v < 65536) cs
   held-under cs e = let a = h .stored .atoms in λ v k. omega (arith, below-each (2 * h .atoms) cs e v k)
 
