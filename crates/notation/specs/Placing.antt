@@ -2,9 +2,7 @@
 use Prim.Native.Nat.{ℕ, _≤_}
 use Rattle.notation.specs.declared.places.Place.{Place}
 
-pub record Within (p : Place) (heads slots postings : ℕ) : Type 0 where
-  pub head-order : p .head ≤ p .«head_end»
-  pub head-fits : p .«head_end» ≤ heads
+pub record Within (p : Place) (slots postings : ℕ) : Type 0 where
   pub slots-order : p .slots ≤ p .«slots_end»
   pub slots-fit : p .«slots_end» ≤ slots
   pub postings-order : p .postings ≤ p .«postings_end»

@@ -1,9 +1,12 @@
-// What all answer lines share: the call and the ledger's number, a refusal, the charge and the header.
-use model::Header;
-use model::Mark;
+// What answer lines share: the call and a ledger's number, a refusal, the answer's case, the charge and the header. Each part but the first begins
+// with a space.
+use crate::rooms::HEAD_WORDS;
+use text::nth;
 use text::put;
-use text::put_decimal;
+use text::put_field;
+use text::put_fields;
 use text::put_text;
+use text::word;
 
 // The place after an answer line, whose end is yet to be put; or a line that is no call, for which nothing was put.
 pub enum Said {
@@ -11,60 +14,50 @@ pub enum Said {
     Error,
 }
 
-// A name and a number.
-pub fn put_field(out: &mut [u8], at: usize, name: &[u8], n: u64) -> usize {
-    let at = put_text(out, at, name);
-    put_decimal(out, at, n)
-}
-
-// The beginning of a line: the call, the ledger's number, and a space.
-pub fn put_call(out: &mut [u8], at: usize, name: &[u8], index: u64) -> usize {
-    let at = put_field(out, at, name, index);
-    put(out, at, b' ')
+// The beginning of a line: the call, as it stands in the line that is answered, and a ledger's number.
+pub fn put_call(out: &mut [u8], at: usize, s: &[u8], index: u64) -> usize {
+    let w = word(s, 0);
+    let from = w.from;
+    let to = w.to;
+    let at = put_text(out, at, &s[from..to]);
+    put_field(out, at, b" ", index)
 }
 
 // The whole end of a line that refuses.
-pub fn put_refused(out: &mut [u8], at: usize, n: u64) -> Said {
-    let at = put_field(out, at, b"Refused ", n);
-    Said::Line(put_text(out, at, b" charge=0"))
+pub fn put_refused(out: &mut [u8], at: usize, n: u64) -> usize {
+    let at = put_field(out, at, b" Refused ", n);
+    put_text(out, at, b" charge=0")
 }
 
-// The seed mark.
-fn put_mark(out: &mut [u8], at: usize, mark: Mark) -> usize {
-    match mark {
-        Mark::Unmarked => put_text(out, at, b" mark=none"),
-        Mark::Marked { number, born } => {
-            let at = put_field(out, at, b" mark=", number);
-            put_field(out, at, b":", born)
+// The answer's case by its name, the word of `names` that it counts. Where the name ends with a colon the answer's value stands for it.
+pub fn put_case(out: &mut [u8], at: usize, names: &[u8], answer: &[u64; 3]) -> usize {
+    let w = nth(names, answer[0]);
+    let from = w.from;
+    let to = w.to;
+    let at = put(out, at, b' ');
+    if from < to {
+        let last = to - 1;
+        if names[last] == b':' {
+            let at = put_text(out, at, &names[from..last]);
+            return put_field(out, at, b" ", answer[1]);
         }
     }
-}
-
-// The first half of a header.
-fn put_counts(out: &mut [u8], at: usize, header: Header) -> usize {
-    let at = put_field(out, at, b"rows=", header.rows);
-    let at = put_field(out, at, b" born=", header.born);
-    let at = put_field(out, at, b" epoch=", header.epoch);
-    let at = put_field(out, at, b" attempts=", header.attempts);
-    let at = put_field(out, at, b" remaining=", header.remaining.0);
-    put_field(out, at, b" sharing=", header.sharing.0)
-}
-
-// The second half, but for the mark.
-fn put_flags(out: &mut [u8], at: usize, header: Header) -> usize {
-    let at = put_field(out, at, b" evicted=", header.evicted);
-    let at = put_field(out, at, b" deliveries=", header.deliveries);
-    let at = put_field(out, at, b" seeded=", header.seeded);
-    let at = put_field(out, at, b" stale=", wire::flag_word(header.stale));
-    put_field(out, at, b" full=", wire::flag_word(header.full))
+    put_text(out, at, &names[from..to])
 }
 
 // The header, but for its limits and its number.
-pub fn put_head(out: &mut [u8], at: usize, header: Header) -> usize {
-    let at = put_counts(out, at, header);
-    let at = put_flags(out, at, header);
-    let mark = header.mark;
-    put_mark(out, at, mark)
+pub fn put_head(out: &mut [u8], at: usize, head: &[u64]) -> usize {
+    if head.len() < HEAD_WORDS {
+        return at;
+    }
+    let names =
+        b"rows= born= epoch= attempts= remaining= sharing= evicted= deliveries= seeded= stale= full=";
+    let at = put_fields(out, at, names, &head[11..22]);
+    if head[22] == 0 {
+        return put_text(out, at, b" mark=none");
+    }
+    let at = put_field(out, at, b" mark=", head[23]);
+    put_field(out, at, b":", head[24])
 }
 
 // The charge.
@@ -72,14 +65,8 @@ pub fn put_charge(out: &mut [u8], at: usize, ticks: u64) -> usize {
     put_field(out, at, b" charge=", ticks)
 }
 
-// The end of a line: the header.
-pub fn put_tail(out: &mut [u8], at: usize, header: Header) -> Said {
-    let at = put(out, at, b' ');
-    Said::Line(put_head(out, at, header))
-}
-
 // The end of a line: the charge and the header.
-pub fn put_end(out: &mut [u8], at: usize, ticks: u64, header: Header) -> Said {
+pub fn put_end(out: &mut [u8], at: usize, ticks: u64, head: &[u64]) -> usize {
     let at = put_charge(out, at, ticks);
-    put_tail(out, at, header)
+    put_head(out, at, head)
 }

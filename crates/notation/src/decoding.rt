@@ -1,7 +1,7 @@
 // The codes of a row, read from the words of its slot, whatever they are.
 ghost use Prim.Native.Nat.{_≤_};
 ghost use lib.ListN.{length};
-use contents::SLOT_WORDS;
+use model::SLOT_WORDS;
 use std::num::wrapping_sub_u64;
 use text::Span;
 use words::MAX_ATOMS;

@@ -1,4 +1,4 @@
-// Where the words of a ledger lie in the program's arrays, and its header among them.
+// Where the words of a ledger lie in the program's arrays: its header in a table, its slots and its postings.
 ghost use lib.ListN.{length};
 ghost use Rattle.notation.specs.Placing.{Within};
 use crate::rooms::HEAD_WORDS;
@@ -6,15 +6,12 @@ use crate::rooms::LEDGERS;
 use crate::rooms::POSTINGS;
 use crate::rooms::ROWS;
 use crate::rooms::SLOTS;
-use contents::POSTING_WORDS;
-use contents::SLOT_WORDS;
-use model::Header;
+use model::POSTING_WORDS;
+use model::SLOT_WORDS;
 
-// The parts of a ledger: where each begins and ends. `there` is false for a ledger that is not made or has no room.
+// The slots and the postings of a ledger: where they begin and end. `there` is false for a ledger that is not made or has no room.
 pub struct Place {
     pub there: bool,
-    pub head: usize,
-    pub head_end: usize,
     pub slots: usize,
     pub slots_end: usize,
     pub postings: usize,
@@ -22,13 +19,11 @@ pub struct Place {
 }
 
 // No place at all.
-fn nowhere(heads: &[u64], slots: &[u64], postings: &[u64]) -> Place
-    ensures { λ r. ⌜ Within r (length (now (heads .entry))) (length (now (slots .entry))) (length (now (postings .entry))) ⌝ }
+fn nowhere(slots: &[u64], postings: &[u64]) -> Place
+    ensures { λ r. ⌜ Within r (length (now (slots .entry))) (length (now (postings .entry))) ⌝ }
 {
     Place {
         there: false,
-        head: 0,
-        head_end: 0,
         slots: 0,
         slots_end: 0,
         postings: 0,
@@ -37,36 +32,29 @@ fn nowhere(heads: &[u64], slots: &[u64], postings: &[u64]) -> Place
 }
 
 // The place for a ledger of so many rows.
-pub fn room(heads: &[u64], slots: &[u64], postings: &[u64], index: u64, rows: u64) -> Place
-    ensures { λ r. ⌜ Within r (length (now (heads .entry))) (length (now (slots .entry))) (length (now (postings .entry))) ⌝ }
+pub fn room(slots: &[u64], postings: &[u64], index: u64, rows: u64) -> Place
+    ensures { λ r. ⌜ Within r (length (now (slots .entry))) (length (now (postings .entry))) ⌝ }
 {
     if LEDGERS <= index {
-        return nowhere(heads, slots, postings);
+        return nowhere(slots, postings);
     }
     if ROWS < rows {
-        return nowhere(heads, slots, postings);
+        return nowhere(slots, postings);
     }
     let i = index as usize;
     let n = rows as usize;
-    let head = HEAD_WORDS * i;
     let slot = SLOTS * i;
     let posting = POSTINGS * i;
-    let head_end = head + HEAD_WORDS;
     let slots_end = slot + SLOT_WORDS * n;
     let postings_end = posting + POSTING_WORDS * n;
-    if heads.len() < head_end {
-        return nowhere(heads, slots, postings);
-    }
     if slots.len() < slots_end {
-        return nowhere(heads, slots, postings);
+        return nowhere(slots, postings);
     }
     if postings.len() < postings_end {
-        return nowhere(heads, slots, postings);
+        return nowhere(slots, postings);
     }
     Place {
         there: 0 < rows,
-        head,
-        head_end,
         slots: slot,
         slots_end,
         postings: posting,
@@ -74,48 +62,30 @@ pub fn room(heads: &[u64], slots: &[u64], postings: &[u64], index: u64, rows: u6
     }
 }
 
-// The place of a ledger that is made: its header has rows.
-pub fn made(heads: &[u64], slots: &[u64], postings: &[u64], index: u64) -> Place
-    ensures { λ r. ⌜ Within r (length (now (heads .entry))) (length (now (slots .entry))) (length (now (postings .entry))) ⌝ }
-{
+// The header of a ledger; zeros for one that is not made.
+pub fn head_in(table: &[u64], index: u64) -> [u64; 25] {
+    let mut head = [0u64; 25];
     if LEDGERS <= index {
-        return nowhere(heads, slots, postings);
+        return head;
     }
-    let rows = HEAD_WORDS * (index as usize) + 1;
-    if heads.len() <= rows {
-        return nowhere(heads, slots, postings);
+    let a = HEAD_WORDS * (index as usize);
+    let e = a + HEAD_WORDS;
+    if table.len() < e {
+        return head;
     }
-    room(heads, slots, postings, index, heads[rows])
+    lists::copy(&table[a..e], &mut head);
+    head
 }
 
-// The header in these words.
-pub fn header_in(words: &[u64]) -> Header {
-    let mut head = [0u64; 25];
-    if words.len() == HEAD_WORDS {
-        lists::copy(words, &mut head);
+// Puts the header of a ledger into the table.
+pub fn keep(table: &mut [u64], index: u64, head: &[u64; 25]) {
+    if LEDGERS <= index {
+        return;
     }
-    wire::header_of(&head)
-}
-
-// Puts one word, where there is room.
-pub fn put_word(words: &mut [u64], i: usize, word: u64) {
-    if i < words.len() {
-        words[i] = word;
+    let a = HEAD_WORDS * (index as usize);
+    let e = a + HEAD_WORDS;
+    if table.len() < e {
+        return;
     }
-}
-
-// Puts the words of a header.
-fn put_words(head: &[u64; 25], words: &mut [u64]) {
-    let mut i: usize = 0;
-    while i < HEAD_WORDS {
-        put_word(words, i, head[i]);
-        i += 1;
-    }
-}
-
-// Puts a header into these words.
-pub fn keep(words: &mut [u64], header: Header) {
-    let mut head = [0u64; 25];
-    wire::put_header(header, &mut head);
-    put_words(&head, words);
+    lists::copy(head, &mut table[a..e]);
 }

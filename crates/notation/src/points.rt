@@ -4,12 +4,11 @@
 ghost use Prim.Native.Nat.{_+_, _≤_};
 ghost use lib.ListN.{length};
 use crate::answers::Said;
-use crate::answers::put_field;
-use crate::places::put_word;
 use text::Parsed;
 use text::pack;
 use text::put;
 use text::put_decimal;
+use text::put_field;
 use text::put_packed;
 use words::MAX_ATOMS;
 
@@ -122,6 +121,13 @@ pub fn find(points: &[u64], name: Name) -> u64 {
         e += ENTRY;
     }
     0
+}
+
+// Puts one word, where there is room.
+fn put_word(words: &mut [u64], i: usize, word: u64) {
+    if i < words.len() {
+        words[i] = word;
+    }
 }
 
 // Puts a name into an entry, and answers whether there is room.

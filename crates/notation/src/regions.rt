@@ -1,10 +1,12 @@
 // The regions of a line: lists of atoms held and cut, as words, and back.
 ghost use Prim.Native.Nat.{_≤_};
 ghost use lib.ListN.{length};
+use crate::arguments::Lists;
 use crate::literals::CODES;
 use crate::points::put_atom;
 use std::num::wrapping_add_u64;
 use text::Parsed;
+use text::ended;
 use text::find;
 use text::is_text;
 use text::put;
@@ -15,14 +17,6 @@ use text::word;
 use words::Found;
 use words::MAX_ATOMS;
 use words::WORD_BITS;
-
-// How many words of each set are lent, and the place after both lists; `ok` is false where the line has no two lists.
-pub struct Masks {
-    pub ok: bool,
-    pub held: usize,
-    pub cut: usize,
-    pub at: usize,
-}
 
 // A set that was read: the place after it, and whether every atom lies below its bound; `ok` is false for a word that is no list.
 struct Set {
@@ -100,17 +94,16 @@ fn word_count(atoms: u64, words: &[u64], fit: bool) -> usize
     n + 1
 }
 
-// The two lists from `at` on, held and cut, as a region over `atoms` atoms. The words hold none yet.
-pub fn read_region(s: &[u8], at: usize, atoms: u64, held: &mut [u64], cut: &mut [u64]) -> Masks
-    ensures { λ r. ⌜ (r .held ≤ length (now (held .entry))) × (r .cut ≤ length (now (cut .entry))) ⌝ }
+// The two lists from `at` on, held and cut, as a region over `atoms` atoms. The words hold no atom yet.
+pub fn read_region(s: &[u8], at: usize, atoms: u64, held: &mut [u64], cut: &mut [u64]) -> Lists
+    ensures { λ r. ⌜ (r .first ≤ length (now (held .entry))) × (r .second ≤ length (now (cut .entry))) ⌝ }
 {
     let h = read_set(s, at, atoms, held);
     let c = read_set(s, h.at, atoms, cut);
-    Masks {
-        ok: h.ok && c.ok,
-        held: word_count(atoms, held, h.fit),
-        cut: word_count(atoms, cut, c.fit),
-        at: c.at,
+    Lists {
+        ok: h.ok && c.ok && ended(s, c.at),
+        first: word_count(atoms, held, h.fit),
+        second: word_count(atoms, cut, c.fit),
     }
 }
 
@@ -138,16 +131,15 @@ fn mark_codes(atoms: u64, set: &[u64], held: &mut [u64], cut: &mut [u64]) -> boo
     fit
 }
 
-// The region over `atoms` atoms of the literals of a set of codes. The words hold no atom yet.
-pub fn region_of(atoms: u64, set: &[u64], held: &mut [u64], cut: &mut [u64]) -> Masks
-    ensures { λ r. ⌜ (r .held ≤ length (now (held .entry))) × (r .cut ≤ length (now (cut .entry))) ⌝ }
+// The region over `atoms` atoms of the literals of a set of codes, if the line was `ok`. The words hold no atom yet.
+pub fn region_of(ok: bool, atoms: u64, set: &[u64], held: &mut [u64], cut: &mut [u64]) -> Lists
+    ensures { λ r. ⌜ (r .first ≤ length (now (held .entry))) × (r .second ≤ length (now (cut .entry))) ⌝ }
 {
     let fit = mark_codes(atoms, set, held, cut);
-    Masks {
-        ok: true,
-        held: word_count(atoms, held, fit),
-        cut: word_count(atoms, cut, fit),
-        at: 0,
+    Lists {
+        ok,
+        first: word_count(atoms, held, fit),
+        second: word_count(atoms, cut, fit),
     }
 }
 

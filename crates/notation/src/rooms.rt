@@ -17,11 +17,14 @@ pub const POSTINGS: usize = 40960;
 // The most numbers of a list that is kept whole.
 pub const NUMBERS: usize = 65536;
 
-// The headers of four ledgers.
-pub fn heads() -> [u64; 100]
-    ensures { λ r. ⌜ 100 ≡ length r ⌝ }
+// Where the names of points begin in the table, behind the headers of four ledgers.
+pub const NAMES: usize = 100;
+
+// The table: the headers of four ledgers, and the names of 1,024 atoms.
+pub fn table() -> [u64; 5220]
+    ensures { λ r. ⌜ 5220 ≡ length r ⌝ }
 {
-    [0; 100]
+    [0; 5220]
 }
 
 // The slots of four ledgers.
@@ -45,8 +48,8 @@ pub fn text() -> [u8; 524288]
     [0; 524288]
 }
 
-// The words of a set of atoms, and one more.
-pub fn atoms() -> [u64; 513]
+// A list of a call: the words of a set of atoms and one more, or codes, more than a row has.
+pub fn list() -> [u64; 513]
     ensures { λ r. ⌜ 513 ≡ length r ⌝ }
 {
     [0; 513]
@@ -73,32 +76,11 @@ pub fn rows() -> [u64; 512]
     [0; 512]
 }
 
-// The names of 1,024 atoms.
-pub fn points() -> [u64; 5120]
-    ensures { λ r. ⌜ 5120 ≡ length r ⌝ }
-{
-    [0; 5120]
-}
-
 // A bit for each code.
 pub fn literals() -> [u64; 1024]
     ensures { λ r. ⌜ 1024 ≡ length r ⌝ }
 {
     [0; 1024]
-}
-
-// The conditions of a rule, with one more than a row may have.
-pub fn conditions() -> [u64; 17]
-    ensures { λ r. ⌜ 17 ≡ length r ⌝ }
-{
-    [0; 17]
-}
-
-// The outputs of a rule, with one more than a row may have.
-pub fn outputs() -> [u64; 65]
-    ensures { λ r. ⌜ 65 ≡ length r ⌝ }
-{
-    [0; 65]
 }
 
 // A word for each atom that there may be.

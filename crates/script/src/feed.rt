@@ -4,11 +4,11 @@ ghost use Prim.Native.Nat.{_-_, _≤_};
 ghost use lib.ListN.{length};
 use crate::dispatch;
 use notation::answers::Said;
-use notation::answers::put_field;
 use std::num::wrapping_add_u64;
 use text::find;
 use text::flush;
 use text::put;
+use text::put_field;
 
 const STDIN: i32 = 0;
 
@@ -20,13 +20,12 @@ pub enum Lost {
 }
 
 // What goes from line to line: how many lines were read, the place in the output, what was lost of the present line, and how many bytes
-// of the buffer are done (in `lines`) or kept (between turns). `going` is false after the last line.
+// of the buffer are done (in `lines`) or kept (between turns).
 pub struct State {
     pub number: u64,
     pub to: usize,
     pub lost: Lost,
     pub bytes: usize,
-    pub going: bool,
 }
 
 // The answer to a line that is no call.
@@ -47,17 +46,16 @@ fn is_comment(s: &[u8]) -> bool {
 fn answer(
     s: &[u8],
     number: u64,
-    heads: &mut [u64],
+    table: &mut [u64],
     slots: &mut [u64],
     postings: &mut [u64],
-    points: &mut [u64],
     out: &mut [u8],
     at: usize,
 ) -> usize {
     if is_comment(s) {
         return at;
     }
-    match dispatch::run(s, heads, slots, postings, points, out, at) {
+    match dispatch::run(s, table, slots, postings, out, at) {
         Said::Line(to) => put(out, to, b'\n'),
         Said::Error => put_error(out, at, number),
     }
@@ -67,16 +65,15 @@ fn answer(
 fn line(
     s: &[u8],
     f: State,
-    heads: &mut [u64],
+    table: &mut [u64],
     slots: &mut [u64],
     postings: &mut [u64],
-    points: &mut [u64],
     out: &mut [u8],
 ) -> State {
     let number = wrapping_add_u64(f.number, 1);
     let lost = f.lost;
     let to = match lost {
-        Lost::Nothing => answer(s, number, heads, slots, postings, points, out, f.to),
+        Lost::Nothing => answer(s, number, table, slots, postings, out, f.to),
         Lost::Call => put_error(out, f.to, number),
         Lost::Comment => f.to,
     };
@@ -85,7 +82,6 @@ fn line(
         to,
         lost: Lost::Nothing,
         bytes: f.bytes,
-        going: f.going,
     }
 }
 
@@ -93,10 +89,9 @@ fn line(
 fn lines(
     s: &[u8],
     before: State,
-    heads: &mut [u64],
+    table: &mut [u64],
     slots: &mut [u64],
     postings: &mut [u64],
-    points: &mut [u64],
     out: &mut [u8],
 ) -> State
     ensures { λ r. ⌜ r .bytes ≤ length (now (s .entry)) ⌝ }
@@ -109,7 +104,7 @@ fn lines(
             return State { bytes: from, ..f };
         }
         let next = end + 1;
-        f = line(&s[from..end], f, heads, slots, postings, points, out);
+        f = line(&s[from..end], f, table, slots, postings, out);
         from = next;
     }
 }
@@ -166,7 +161,6 @@ fn kept(buf: &[u8], left: usize, f: State) -> State
         to: f.to,
         lost,
         bytes: 0,
-        going: f.going,
     }
 }
 
@@ -189,87 +183,47 @@ fn is_over(s: &[u8], lost: Lost) -> bool {
     }
 }
 
-// The answer to the last line, where it has no end.
+// Writes the answer to the last line, where it has no end.
 fn last(
     s: &[u8],
     f: State,
-    heads: &mut [u64],
+    table: &mut [u64],
     slots: &mut [u64],
     postings: &mut [u64],
-    points: &mut [u64],
     out: &mut [u8],
-) -> usize {
+) {
     let lost = f.lost;
     if is_over(s, lost) {
-        return f.to;
+        return;
     }
-    let g = line(s, f, heads, slots, postings, points, out);
-    g.to
+    let g = line(s, f, table, slots, postings, out);
+    flush(out, g.to);
 }
 
-// The answers to the lines that are whole among the first bytes of the buffer, which are then gone from it.
+// Writes the answers to the lines that are whole among the first bytes of the buffer, which are then gone from it.
 fn some(
     buf: &mut [u8],
     n: usize,
     f: State,
-    heads: &mut [u64],
+    table: &mut [u64],
     slots: &mut [u64],
     postings: &mut [u64],
-    points: &mut [u64],
     out: &mut [u8],
 ) -> State
     requires { ⌜ n ≤ length (now buf) ⌝ }
     ensures { λ r. ⌜ r .bytes ≤ length (now (buf .entry)) ⌝ }
 {
-    let g = lines(&buf[0..n], f, heads, slots, postings, points, out);
-    rest(buf, n, g)
-}
-
-// Reads once, and answers the lines that are whole then, or the last one.
-fn turn(
-    buf: &mut [u8],
-    f: State,
-    heads: &mut [u64],
-    slots: &mut [u64],
-    postings: &mut [u64],
-    points: &mut [u64],
-    out: &mut [u8],
-) -> State
-    requires { ⌜ f .bytes ≤ length (now buf) ⌝ }
-    ensures { λ r. ⌜ r .bytes ≤ length (now (buf .entry)) ⌝ }
-{
-    let before = f.bytes;
-    let n = read_more(buf, before);
-    if before < n {
-        return some(buf, n, f, heads, slots, postings, points, out);
-    }
-    let to = last(&buf[0..n], f, heads, slots, postings, points, out);
-    State {
-        number: f.number,
-        to,
-        lost: Lost::Nothing,
-        bytes: 0,
-        going: false,
-    }
-}
-
-// Writes the answers that are there.
-fn written(out: &[u8], f: State) -> State
-    ensures { λ r. ⌜ r .bytes ≡ f .bytes ⌝ }
-{
-    State {
-        to: flush(out, f.to),
-        ..f
-    }
+    let g = lines(&buf[0..n], f, table, slots, postings, out);
+    let to = flush(out, g.to);
+    rest(buf, n, State { to, ..g })
 }
 
 // Reads to the end of the input, and writes every answer; those to the lines of one read are written before the next.
 pub fn run(
     buf: &mut [u8],
-    heads: &mut [u64],
+    table: &mut [u64],
     slots: &mut [u64],
     postings: &mut [u64],
-    points: &mut [u64],
     out: &mut [u8],
 ) {
     let mut f = State {
@@ -277,15 +231,16 @@ pub fn run(
         to: 0,
         lost: Lost::Nothing,
         bytes: 0,
-        going: true,
     };
     let mut turns = u64::MAX;
     while 0 < turns {
-        f = turn(buf, f, heads, slots, postings, points, out);
-        f = written(out, f);
-        if !f.going {
+        turns -= 1;
+        let before = f.bytes;
+        let n = read_more(buf, before);
+        if n <= before {
+            last(&buf[0..n], f, table, slots, postings, out);
             return;
         }
-        turns -= 1;
+        f = some(buf, n, f, table, slots, postings, out);
     }
 }

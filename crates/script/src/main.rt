@@ -7,17 +7,9 @@ use notation::rooms;
 
 fn main() {
     let mut buf = rooms::text();
-    let mut heads = rooms::heads();
+    let mut table = rooms::table();
     let mut slots = rooms::slots();
     let mut postings = rooms::postings();
-    let mut points = rooms::points();
     let mut out = io::large_buffer();
-    feed::run(
-        &mut buf,
-        &mut heads,
-        &mut slots,
-        &mut postings,
-        &mut points,
-        &mut out,
-    );
+    feed::run(&mut buf, &mut table, &mut slots, &mut postings, &mut out);
 }

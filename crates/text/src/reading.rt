@@ -2,6 +2,7 @@
 ghost use mathlib.Core.Path.{_≡_};
 ghost use Prim.Native.Nat.{_≤_, min};
 ghost use lib.ListN.{length};
+use std::num::wrapping_add_u64;
 
 // The largest number whose tenfold fits with every digit behind it.
 const MOST_TENS: u64 = 1844674407370955161;
@@ -18,7 +19,7 @@ pub enum Parsed {
     Bad,
 }
 
-// How many numbers a list has, and the place after its word; `ok` is false for a word that is no list.
+// How many numbers were read, and the place after their words; `ok` is false where a word is none.
 pub struct Listed {
     pub ok: bool,
     pub count: usize,
@@ -99,6 +100,40 @@ pub fn is_text(s: &[u8], from: usize, to: usize, text: &[u8]) -> bool
     true
 }
 
+// The n-th word of a text, the first for 0; an empty one where there are fewer.
+pub fn nth(text: &[u8], n: u64) -> Span
+    ensures { λ r. ⌜ (r .from ≤ r .to) × (r .to ≤ length (now (text .entry))) ⌝ }
+{
+    let mut w = word(text, 0);
+    let mut i: u64 = 0;
+    while i < n {
+        w = word(text, w.to);
+        i += 1;
+    }
+    w
+}
+
+// Which word of a text the bytes from `from` on and before `to` are, 0 for the first; or how many words there are.
+pub fn position(s: &[u8], from: usize, to: usize, text: &[u8]) -> u64
+    requires { ⌜ (from ≤ to) × (to ≤ length (now s)) ⌝ }
+{
+    let mut at = 0;
+    let mut n: u64 = 0;
+    loop {
+        let w = word(text, at);
+        let a = w.from;
+        let e = w.to;
+        if a == e {
+            return n;
+        }
+        if is_text(s, from, to, &text[a..e]) {
+            return n;
+        }
+        at = e;
+        n = wrapping_add_u64(n, 1);
+    }
+}
+
 // A byte as a word.
 fn wide(x: u8) -> u64
     ensures { λ r. ⌜ r ≡ x ⌝ }
@@ -171,12 +206,31 @@ pub fn number(s: &[u8], at: usize) -> Parsed {
     value(s, from, to)
 }
 
-// A word that is no list.
+// No list.
 fn no_list() -> Listed {
     Listed {
         ok: false,
         count: 0,
         at: 0,
+    }
+}
+
+// As many numbers as there is room for, a word each.
+pub fn numbers(s: &[u8], at: usize, words: &mut [u64]) -> Listed {
+    let mut next = at;
+    let mut i = 0;
+    while i < words.len() {
+        let Parsed::Number(n, after) = number(s, next) else {
+            return no_list();
+        };
+        words[i] = n;
+        next = after;
+        i += 1;
+    }
+    Listed {
+        ok: true,
+        count: i,
+        at: next,
     }
 }
 

@@ -1,5 +1,7 @@
 // Output: bytes are put into a lent buffer, and written to standard output when it is full. Each function takes the place of the next
 // byte and answers the place after what it put.
+use crate::reading::nth;
+
 const STDOUT: i32 = 1;
 
 // Writes the bytes before `at`, and answers the first place.
@@ -69,6 +71,33 @@ pub fn put_hexadecimal(out: &mut [u8], at: usize, n: u64) -> usize {
     let mut digits = [0u8; 16];
     let k = io::hex(n, 1, &mut digits);
     put_text(out, at, &digits[..k])
+}
+
+// A text and a number.
+pub fn put_field(out: &mut [u8], at: usize, name: &[u8], n: u64) -> usize {
+    let at = put_text(out, at, name);
+    put_decimal(out, at, n)
+}
+
+// The n-th word of a text, after a space.
+fn put_nth(out: &mut [u8], at: usize, text: &[u8], n: u64) -> usize {
+    let w = nth(text, n);
+    let from = w.from;
+    let to = w.to;
+    let at = put(out, at, b' ');
+    put_text(out, at, &text[from..to])
+}
+
+// Numbers, each after the name that is its word of a text, and a space before each name.
+pub fn put_fields(out: &mut [u8], at: usize, names: &[u8], numbers: &[u64]) -> usize {
+    let mut next = at;
+    let mut i = 0;
+    while i < numbers.len() {
+        next = put_nth(out, next, names, i as u64);
+        next = put_decimal(out, next, numbers[i]);
+        i += 1;
+    }
+    next
 }
 
 // The comma before an item of a list that is not the first.

@@ -1,10 +1,10 @@
--- `looking::dump::put_groups`. The buffer keeps its length; the words left fall. Assumes nothing.
+-- `notation::rows::put_groups`. The buffer keeps its length; the words left fall. Assumes nothing.
 use mathlib.Core.Path.{_≡_}
 use Prim.Native.Nat.{_-_, _≤_}
 use lib.ListN.{length}
 use borrow.Author.Needs.{needs}
-use Rattle.looking.proofs.dump.put_groups.Statement.{statement}
-use Rattle.looking.proofs.dump.put_groups.Tie as tie
+use Rattle.notation.proofs.rows.put_groups.Statement.{statement}
+use Rattle.notation.proofs.rows.put_groups.Tie as tie
 
 abbrev Inv-loop : tie.InvT-loop
 Inv-loop out₀ at groups to₀ i₀ out to i = (length out ≡ length out₀) × (i ≤ length groups)
