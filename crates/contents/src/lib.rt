@@ -16,16 +16,16 @@ mod posted;
 use lists::all_zero;
 use model::Header;
 use model::LearningLimits;
+use model::MAX_CONDITIONS;
+use model::MAX_OUTPUTS;
+use model::MAX_ROWS;
+pub use model::POSTING_WORDS;
+pub use model::SLOT_WORDS;
 use placed::are_filed;
 use placed::used;
 use posted::are_due;
 use slotcheck::is_slot;
 use words::MAX_ATOMS;
-
-// The words of a slot, and of the postings for each row of the tier.
-pub const SLOT_WORDS: usize = 168;
-
-pub const POSTING_WORDS: usize = 80;
 
 // Whether the limits are within their ranges.
 pub fn limits_ok(limits: LearningLimits) -> bool
@@ -40,13 +40,13 @@ pub fn limits_ok(limits: LearningLimits) -> bool
     if limits.tier_rows < 1 {
         return false;
     }
-    if 4096 < limits.tier_rows {
+    if MAX_ROWS < limits.tier_rows {
         return false;
     }
-    if 16 < limits.founded_conditions {
+    if MAX_CONDITIONS < limits.founded_conditions {
         return false;
     }
-    limits.founded_outputs <= 64
+    limits.founded_outputs <= MAX_OUTPUTS
 }
 
 // Whether the header's counts are within its limits.

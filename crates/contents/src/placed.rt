@@ -12,19 +12,18 @@ ghost use Rattle.slots.specs.Layout.{rowsIn};
 ghost use Rattle.slotcheck.specs.Check.{shifted, allZero};
 ghost use Rattle.contents.specs.Lent.{Rows, Holds, postedAtoms, hasAtom, oneIf};
 ghost use Rattle.contents.specs.Placed.{Grown, fresh, anew, hasBit, notFiled};
-use crate::SLOT_WORDS;
 use crate::posted::atom_count;
 use lists::all_zero;
+use model::MAX_ROWS;
+use model::SLOT_WORDS;
+use words::MAX_ATOMS;
 use words::WORD_BITS;
-
-// A posting is an atom times this, plus a position; and so many atoms have a place.
-const MAX_ROWS: u64 = 4096;
 
 // No atom and no posting.
 const NONE: u64 = 0xffff_ffff_ffff_ffff;
 
-// The words of a set of 32,768 atoms.
-const MAX_WORDS: u64 = 512;
+// The words of a set of the most atoms.
+const MAX_WORDS: u64 = MAX_ATOMS / WORD_BITS;
 
 // In place of a number of postings, above all of them: some posting does not stand at its place.
 const NOT_FILED: usize = 0xffff_ffff_ffff_ffff;
@@ -218,7 +217,7 @@ fn file_rows(words: &[u64], places: &mut [u16], slots: &[u64], rows: usize) -> u
     count
 }
 
-// Whether the words are seen to be the postings of the first rows ascending. Only atoms below 4,096 have a place.
+// Whether the words are seen to be the postings of the first rows ascending. Only atoms below MAX_ROWS have a place.
 pub fn are_filed(words: &[u64], slots: &[u64], rows: usize) -> bool
     requires { ⌜ Rows rows (now slots) ⌝ }
     ensures { λ r. ⌜ (r ≡ true → same (now (words .entry)) (sortOf (postingsOf (rowsIn rows (now (slots .entry))))) ≡ true) ⌝ }
@@ -226,7 +225,7 @@ pub fn are_filed(words: &[u64], slots: &[u64], rows: usize) -> bool
     if 65535 < words.len() {
         return false;
     }
-    let mut places = [0u16; 4096];
+    let mut places = [0u16; MAX_ROWS as usize];
     if !note_places(words, &mut places) {
         return false;
     }

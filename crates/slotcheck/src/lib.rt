@@ -1,4 +1,4 @@
-// The check of one slot: whether 168 words are those of a row. It reads the words where they lie, and lays out no row.
+// The check of one slot: whether its words are those of a row. It reads the words where they lie, and lays out no row.
 ghost use mathlib.Core.Path.{_≡_};
 ghost use Prim.Native.Nat.{_+_, _*_, _^_, _≤_, _<_};
 ghost use lib.Count.{ones};
@@ -7,6 +7,8 @@ ghost use lib.ListN.{length, getD};
 ghost use Rattle.lists.specs.Lists.{distinct};
 ghost use Rattle.slotcheck.specs.Check.{key, climbs, shifted, room, groupOk, sideCodes, scalarOk, packedOk, slotOk};
 use lists::all_zero;
+use model::MAX_CONDITIONS;
+use model::MAX_OUTPUTS;
 
 // The number of codes of words that are no side of a slot: no side has so many.
 const NO_SIDE: usize = 0xffff_ffff;
@@ -180,15 +182,15 @@ fn is_packed(slot: &[u64], atoms: u64) -> bool
     all_zero(&slot[end..])
 }
 
-// Whether 168 words are the slot of a row over `atoms` atoms, born from 1 to `born`.
+// Whether the words are the slot of a row over `atoms` atoms, born from 1 to `born`.
 pub fn is_slot(slot: &[u64], atoms: u64, born: u64) -> bool
     requires { ⌜ length (now slot) ≡ 168 ⌝ ∗ ⌜ atoms ≤ 32768 ⌝ }
     ensures { λ r. ⌜ r ≡ slotOk atoms born (now (slot .entry)) ⌝ }
 {
-    if 16 < slot[0] {
+    if MAX_CONDITIONS < slot[0] {
         return false;
     }
-    if 64 < slot[1] {
+    if MAX_OUTPUTS < slot[1] {
         return false;
     }
     if slot[6] < 1 {

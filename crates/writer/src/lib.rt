@@ -18,6 +18,7 @@ use meter::Judged;
 use meter::Meter;
 use meter::Read;
 use meter::Verdict;
+use model::SLOT_WORDS;
 use slotcheck::run_count;
 use words::locate;
 
@@ -203,5 +204,5 @@ pub fn write_row(slot: &mut [u64], p: &[u64], form: Form, hits: u64, born: u64)
     ensures { λ _. ⌜ now (slot .exit) ≡ slotOf (newEntry (rowIn (now (p .entry))) hits born) ⌝ }
 {
     write_head(&mut slot[0..8], p[0], p[1], form, hits, born);
-    write_body(&mut slot[8..168], p, form);
+    write_body(&mut slot[8..SLOT_WORDS], p, form);
 }
