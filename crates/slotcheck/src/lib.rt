@@ -5,6 +5,8 @@ ghost use lib.Count.{ones};
 ghost use lib.Dec.{ltb};
 ghost use lib.ListN.{length, getD};
 ghost use Rattle.lists.specs.Lists.{distinct};
+ghost use Rattle.words.specs.Region.{maxAtoms};
+ghost use Rattle.model.specs.Records.{slotWords, maxConditions, maxOutputs};
 ghost use Rattle.slotcheck.specs.Check.{key, climbs, shifted, room, groupOk, sideCodes, scalarOk, packedOk, slotOk};
 use lists::all_zero;
 use model::MAX_CONDITIONS;
@@ -105,7 +107,7 @@ fn codes_in(present: u64, absent: u64) -> usize
 
 // How many codes the words hold, if they are whole groups with ascending words; else more than any side has.
 fn group_codes(words: &[u64], apart: bool, atoms: u64) -> usize
-    requires { ⌜ length (now words) ≤ 168 ⌝ }
+    requires { ⌜ length (now words) ≤ slotWords ⌝ }
     ensures { λ r. ⌜ r ≡ sideCodes apart atoms (now (words .entry)) ⌝ }
 {
     let mut least: u64 = 0;
@@ -130,7 +132,7 @@ fn group_codes(words: &[u64], apart: bool, atoms: u64) -> usize
 
 // The scalar form: the codes in order, too few to be packed, and zeros after them.
 fn is_scalar(slot: &[u64], atoms: u64) -> bool
-    requires { ⌜ length (now slot) ≡ 168 ⌝ ∗ ⌜ getD (now slot) 0 0 ≤ 16 ⌝ ∗ ⌜ getD (now slot) 1 0 ≤ 64 ⌝ ∗ ⌜ atoms ≤ 32768 ⌝ }
+    requires { ⌜ length (now slot) ≡ slotWords ⌝ ∗ ⌜ getD (now slot) 0 0 ≤ maxConditions ⌝ ∗ ⌜ getD (now slot) 1 0 ≤ maxOutputs ⌝ ∗ ⌜ atoms ≤ maxAtoms ⌝ }
     ensures { λ r. ⌜ r ≡ scalarOk atoms (now (slot .entry)) ⌝ }
 {
     if slot[3] != 0 {
@@ -155,7 +157,7 @@ fn is_scalar(slot: &[u64], atoms: u64) -> bool
 
 // The packed form: the groups in order, few enough, as many codes as the slot says, and zeros after them.
 fn is_packed(slot: &[u64], atoms: u64) -> bool
-    requires { ⌜ length (now slot) ≡ 168 ⌝ ∗ ⌜ getD (now slot) 0 0 ≤ 16 ⌝ ∗ ⌜ getD (now slot) 1 0 ≤ 64 ⌝ }
+    requires { ⌜ length (now slot) ≡ slotWords ⌝ ∗ ⌜ getD (now slot) 0 0 ≤ maxConditions ⌝ ∗ ⌜ getD (now slot) 1 0 ≤ maxOutputs ⌝ }
     ensures { λ r. ⌜ r ≡ packedOk atoms (now (slot .entry)) ⌝ }
 {
     let nc = slot[0] as usize;
@@ -184,7 +186,7 @@ fn is_packed(slot: &[u64], atoms: u64) -> bool
 
 // Whether the words are the slot of a row over `atoms` atoms, born from 1 to `born`.
 pub fn is_slot(slot: &[u64], atoms: u64, born: u64) -> bool
-    requires { ⌜ length (now slot) ≡ 168 ⌝ ∗ ⌜ atoms ≤ 32768 ⌝ }
+    requires { ⌜ length (now slot) ≡ slotWords ⌝ ∗ ⌜ atoms ≤ maxAtoms ⌝ }
     ensures { λ r. ⌜ r ≡ slotOk atoms born (now (slot .entry)) ⌝ }
 {
     if MAX_CONDITIONS < slot[0] {
