@@ -12,7 +12,8 @@ use Rattle.lists.specs.Counts.{times, Each}
 use Rattle.lists.proofs.Tests.{any-append, below-each}
 use Rattle.words.specs.Literal.{atom}
 use Rattle.words.proofs.Bools.{T-true}
-use Rattle.model.specs.Records.{Row, isRow}
+use Rattle.words.specs.Region.{maxAtoms}
+use Rattle.model.specs.Records.{Row, isRow, postingWords}
 use Rattle.model.specs.Slots.{rowIn, codesOf, ungroup}
 use Rattle.slots.proofs.Laying.{row-scalar, row-packed}
 use Rattle.slotcheck.specs.Check.{shifted, groupsOk}
@@ -63,11 +64,11 @@ module _ (ws : List ℕ) (h : Holds ws) where
   held-row : isRow (h .atoms) (rowIn ws) ≡ true
   held-row = T-true (isRow (h .atoms) (rowIn ws)) (h .stored .row)
 
-  pub held-few : length (postedAtoms (rowIn ws)) ≤ 80
+  pub held-few : length (postedAtoms (rowIn ws)) ≤ postingWords
   held-few = posts-few (h .atoms) (rowIn ws) held-row
 
   -- codes of at most 32,768 atoms
-  held-under : (cs : List ℕ) → below (2 * h .atoms) cs ≡ true → Each (λ v. v < 65536) cs
+  held-under : (cs : List ℕ) → below (2 * h .atoms) cs ≡ true → Each (λ v. v < 2 * maxAtoms) cs
   held-under cs e = let a = h .stored .atoms in λ v k. omega (arith, below-each (2 * h .atoms) cs e v k)
 
   -- posted at all: the atom is of either side
@@ -96,11 +97,11 @@ module _ (ws : List ℕ) (h : Holds ws) where
     scalar-second : rowIn ws .outputs ≡ take ((8 + nc + no) - (8 + nc)) (drop (8 + nc) ws)
     scalar-second = ap (λ r. r .outputs) (row-scalar ws z) ∙ sym (part ws (8 + nc) (8 + nc + no) no refl)
 
-    pub scalar-under : Each (λ v. v < 65536) (take ((8 + nc) - 8) (drop 8 ws)) × Each (λ v. v < 65536) (take ((8 + nc + no) - (8 + nc)) (drop (8 + nc) ws))
+    pub scalar-under : Each (λ v. v < 2 * maxAtoms) (take ((8 + nc) - 8) (drop 8 ws)) × Each (λ v. v < 2 * maxAtoms) (take ((8 + nc + no) - (8 + nc)) (drop (8 + nc) ws))
     scalar-under =
         let p = row-parts (h .atoms) (rowIn ws) held-row in (
-          subst (Each (λ v. v < 65536)) scalar-first (held-under (rowIn ws .conditions) (p .conditionsUnder)),
-          subst (Each (λ v. v < 65536)) scalar-second (held-under (rowIn ws .outputs) (p .outputsUnder)),
+          subst (Each (λ v. v < 2 * maxAtoms)) scalar-first (held-under (rowIn ws .conditions) (p .conditionsUnder)),
+          subst (Each (λ v. v < 2 * maxAtoms)) scalar-second (held-under (rowIn ws .outputs) (p .outputsUnder)),
         )
 
     pub count-scalar : (k : ℕ) → k ≡ length (distinct (shifted 1 (take ((8 + nc + no) - (8 + nc)) (drop (8 + nc) ws)))) →

@@ -5,6 +5,7 @@ ghost use mathlib.Core.List.{[]};
 ghost use Prim.Native.Nat.{_*_, _≤_};
 ghost use lib.ListN.{length};
 ghost use Rattle.lists.specs.Lists.{same, pad};
+ghost use Rattle.words.specs.Region.{maxAtoms};
 ghost use Rattle.model.specs.Records.{limitsOk, slotWords, postingWords};
 ghost use Rattle.model.specs.Refusals.{refusal, accepts, countsOk};
 ghost use Rattle.slots.specs.Layout.{rowsIn};
@@ -64,7 +65,7 @@ fn counts_ok(header: Header) -> bool
 
 // Whether the first slots hold rows over `atoms` atoms, each born from 1 to `born`, and every word after them is 0.
 fn slots_ok(slots: &[u64], rows: usize, atoms: u64, born: u64) -> bool
-    requires { ⌜ slotWords * rows ≤ length (now slots) ⌝ ∗ ⌜ atoms ≤ 32768 ⌝ }
+    requires { ⌜ slotWords * rows ≤ length (now slots) ⌝ ∗ ⌜ atoms ≤ maxAtoms ⌝ }
     ensures { λ r. ⌜ r ≡ slotsOk atoms born rows (now (slots .entry)) ⌝ }
 {
     let mut p: usize = 0;

@@ -6,7 +6,7 @@ ghost use lib.Dec.{eqb, leb, ltb};
 ghost use lib.ListN.{length};
 ghost use Rattle.lists.specs.Lists.{same, sortOf, pad};
 ghost use Rattle.lists.specs.Counts.{times};
-ghost use Rattle.model.specs.Records.{postingWords};
+ghost use Rattle.model.specs.Records.{postingWords, slotWords};
 ghost use Rattle.model.specs.Slots.{rowIn, codesOf, ungroup};
 ghost use Rattle.model.specs.Postings.{postingsOf};
 ghost use Rattle.slots.specs.Layout.{rowsIn};
@@ -22,7 +22,7 @@ const TOP: u64 = 9223372036854775808;
 
 // How many atoms the groups hold.
 pub fn atom_count(words: &[u64]) -> usize
-    requires { ⌜ length (now words) ≤ 168 ⌝ }
+    requires { ⌜ length (now words) ≤ slotWords ⌝ }
     ensures { λ r. ⌜ r ≡ atomCount (now (words .entry)) ⌝ }
 {
     let mut count: usize = 0;
