@@ -10,7 +10,7 @@ use Rattle.lists.specs.Lists.{all}
 use Rattle.lists.proofs.Tests.{all-at}
 use Rattle.words.specs.Region.{maxAtoms}
 use Rattle.words.proofs.Bools.{T-true, T-of}
-use Rattle.model.specs.Records.{Entry, isRow}
+use Rattle.model.specs.Records.{Entry, isRow, slotWords}
 use Rattle.model.specs.Slots.{slotOf, rowIn, entriesIn}
 use Rattle.model.proofs.Slots.{valid-of, row-there, entries-length}
 use Rattle.slots.specs.Layout.{Laid}
@@ -23,12 +23,12 @@ module _ (rows p : ℕ) (ws : List ℕ) (k : Held rows ws) (l : p < rows) where
   entry = getD (entriesIn rows ws) p no-entry
 
   abbrev part : List ℕ
-  part = take ((168 * p + 168) - 168 * p) (drop (168 * p) ws)
+  part = take ((slotWords * p + slotWords) - slotWords * p) (drop (slotWords * p) ws)
 
   part-slot : part ≡ slotOf entry
   part-slot =
-      let n : (168 * p + 168) - 168 * p ≡ 168 = omega arith in
-      ap (λ (m : ℕ). take m (drop (168 * p) ws)) n ∙ slot-held rows p ws k l
+      let n : (slotWords * p + slotWords) - slotWords * p ≡ slotWords = omega arith in
+      ap (λ (m : ℕ). take m (drop (slotWords * p) ws)) n ∙ slot-held rows p ws k l
 
   held-ok : T (isRow maxAtoms (entry .row))
   held-ok =

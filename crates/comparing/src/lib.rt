@@ -20,9 +20,8 @@ use meter::Account;
 use meter::Judged;
 use meter::Meter;
 use meter::Verdict;
+use model::SLOT_WORDS;
 use rows::Charge;
-
-const SLOT_WORDS: usize = 168;
 
 // How a proposal compares with every row of a tier: it may take the place of the rows marked, or a row at a position subsumes it, or a read
 // was not paid.

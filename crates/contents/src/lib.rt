@@ -5,6 +5,7 @@ ghost use mathlib.Core.List.{[]};
 ghost use Prim.Native.Nat.{_*_, _≤_};
 ghost use lib.ListN.{length};
 ghost use Rattle.lists.specs.Lists.{same, pad};
+ghost use Rattle.words.specs.Region.{maxAtoms};
 ghost use Rattle.model.specs.Records.{limitsOk, slotWords, postingWords};
 ghost use Rattle.model.specs.Refusals.{refusal, accepts, countsOk};
 ghost use Rattle.slots.specs.Layout.{rowsIn};
@@ -16,16 +17,16 @@ mod posted;
 use lists::all_zero;
 use model::Header;
 use model::LearningLimits;
+use model::MAX_CONDITIONS;
+use model::MAX_OUTPUTS;
+use model::MAX_ROWS;
+pub use model::POSTING_WORDS;
+pub use model::SLOT_WORDS;
 use placed::are_filed;
 use placed::used;
 use posted::are_due;
 use slotcheck::is_slot;
 use words::MAX_ATOMS;
-
-// The words of a slot, and of the postings for each row of the tier.
-pub const SLOT_WORDS: usize = 168;
-
-pub const POSTING_WORDS: usize = 80;
 
 // Whether the limits are within their ranges.
 pub fn limits_ok(limits: LearningLimits) -> bool
@@ -40,13 +41,13 @@ pub fn limits_ok(limits: LearningLimits) -> bool
     if limits.tier_rows < 1 {
         return false;
     }
-    if 4096 < limits.tier_rows {
+    if MAX_ROWS < limits.tier_rows {
         return false;
     }
-    if 16 < limits.founded_conditions {
+    if MAX_CONDITIONS < limits.founded_conditions {
         return false;
     }
-    limits.founded_outputs <= 64
+    limits.founded_outputs <= MAX_OUTPUTS
 }
 
 // Whether the header's counts are within its limits.
@@ -64,7 +65,7 @@ fn counts_ok(header: Header) -> bool
 
 // Whether the first slots hold rows over `atoms` atoms, each born from 1 to `born`, and every word after them is 0.
 fn slots_ok(slots: &[u64], rows: usize, atoms: u64, born: u64) -> bool
-    requires { ⌜ slotWords * rows ≤ length (now slots) ⌝ ∗ ⌜ atoms ≤ 32768 ⌝ }
+    requires { ⌜ slotWords * rows ≤ length (now slots) ⌝ ∗ ⌜ atoms ≤ maxAtoms ⌝ }
     ensures { λ r. ⌜ r ≡ slotsOk atoms born rows (now (slots .entry)) ⌝ }
 {
     let mut p: usize = 0;

@@ -2,29 +2,31 @@
 // The places are guesses, and nothing is known of them: a yes is sure, a no says nothing.
 ghost use mathlib.Core.Path.{_≡_};
 ghost use mathlib.Core.Bool.{true};
-ghost use Prim.Native.Nat.{ℕ, _≤_, _<_};
+ghost use Prim.Native.Nat.{ℕ, _*_, _≤_, _<_};
 ghost use lib.ListN.{length, drop};
 ghost use Rattle.lists.specs.Lists.{same, sortOf, distinct};
 ghost use Rattle.lists.specs.Counts.{is, times, Each, Sorted};
+ghost use Rattle.words.specs.Region.{maxAtoms};
+ghost use Rattle.model.specs.Records.{maxRows};
 ghost use Rattle.model.specs.Slots.{rowIn, ungroup};
 ghost use Rattle.model.specs.Postings.{postingsOf};
+ghost use Rattle.slots.specs.Cursor.{maxWords};
 ghost use Rattle.slots.specs.Layout.{rowsIn};
 ghost use Rattle.slotcheck.specs.Check.{shifted, allZero};
 ghost use Rattle.contents.specs.Lent.{Rows, Holds, postedAtoms, hasAtom, oneIf};
 ghost use Rattle.contents.specs.Placed.{Grown, fresh, anew, hasBit, notFiled};
-use crate::SLOT_WORDS;
 use crate::posted::atom_count;
 use lists::all_zero;
+use model::MAX_ROWS;
+use model::SLOT_WORDS;
+use words::MAX_ATOMS;
 use words::WORD_BITS;
-
-// A posting is an atom times this, plus a position; and so many atoms have a place.
-const MAX_ROWS: u64 = 4096;
 
 // No atom and no posting.
 const NONE: u64 = 0xffff_ffff_ffff_ffff;
 
-// The words of a set of 32,768 atoms.
-const MAX_WORDS: u64 = 512;
+// The words of a set of the most atoms.
+const MAX_WORDS: u64 = MAX_ATOMS / WORD_BITS;
 
 // In place of a number of postings, above all of them: some posting does not stand at its place.
 const NOT_FILED: usize = 0xffff_ffff_ffff_ffff;
@@ -63,7 +65,7 @@ pub fn used(words: &[u64]) -> usize
 
 // Whether the words ascend. The place of an atom is then that of its first posting.
 fn note_places(words: &[u64], places: &mut [u16]) -> bool
-    requires { ⌜ length (now words) ≤ 65535 ⌝ ∗ ⌜ length (now places) ≡ 4096 ⌝ }
+    requires { ⌜ length (now words) ≤ 65535 ⌝ ∗ ⌜ length (now places) ≡ maxRows ⌝ }
     ensures { λ r. ⌜ (r ≡ true → Sorted (now (words .entry))) ⌝ }
 {
     let mut least = NONE;
@@ -83,7 +85,7 @@ fn note_places(words: &[u64], places: &mut [u16]) -> bool
 
 // Whether the posting of an atom at a position stands at the atom's place, which then moves past it.
 fn file(words: &[u64], places: &mut [u16], atom: u64, position: u64) -> bool
-    requires { ⌜ length (now words) ≤ 65535 ⌝ ∗ ⌜ length (now places) ≡ 4096 ⌝ ∗ ⌜ position < 4096 ⌝ ∗ ⌜ atom < 32768 ⌝ }
+    requires { ⌜ length (now words) ≤ 65535 ⌝ ∗ ⌜ length (now places) ≡ maxRows ⌝ ∗ ⌜ position < maxRows ⌝ ∗ ⌜ atom < maxAtoms ⌝ }
     ensures { λ r. ⌜ (r ≡ true → Grown (now (words .entry)) (now (places .entry)) (now (places .exit)) position (λ a. is a atom)) ⌝ }
 {
     let at = (atom % MAX_ROWS) as usize;
@@ -100,7 +102,7 @@ fn file(words: &[u64], places: &mut [u16], atom: u64, position: u64) -> bool
 
 // Files the posting so, unless its atom was filed last: both signs of an output have one posting. The number filed, or NOT_FILED.
 fn file_fresh(words: &[u64], places: &mut [u16], last: u64, atom: u64, position: u64) -> usize
-    requires { ⌜ length (now words) ≤ 65535 ⌝ ∗ ⌜ length (now places) ≡ 4096 ⌝ ∗ ⌜ position < 4096 ⌝ ∗ ⌜ atom < 32768 ⌝ }
+    requires { ⌜ length (now words) ≤ 65535 ⌝ ∗ ⌜ length (now places) ≡ maxRows ⌝ ∗ ⌜ position < maxRows ⌝ ∗ ⌜ atom < maxAtoms ⌝ }
     ensures { λ r. ⌜ ((r ≡ notFiled → ⊥) → (r ≡ anew last atom) × Grown (now (words .entry)) (now (places .entry)) (now (places .exit)) position (fresh last atom)) ⌝ }
 {
     if atom == last {
@@ -114,7 +116,7 @@ fn file_fresh(words: &[u64], places: &mut [u16], last: u64, atom: u64, position:
 
 // The same for the atoms of codes.
 fn file_codes(words: &[u64], places: &mut [u16], codes: &[u64], position: u64) -> usize
-    requires { ⌜ length (now words) ≤ 65535 ⌝ ∗ ⌜ length (now places) ≡ 4096 ⌝ ∗ ⌜ position < 4096 ⌝ ∗ ⌜ Each (λ v. v < 65536) (now codes) ⌝ }
+    requires { ⌜ length (now words) ≤ 65535 ⌝ ∗ ⌜ length (now places) ≡ maxRows ⌝ ∗ ⌜ position < maxRows ⌝ ∗ ⌜ Each (λ v. v < 2 * maxAtoms) (now codes) ⌝ }
     ensures { λ r. ⌜ ((r ≡ notFiled → ⊥) → (r ≡ length (distinct (shifted 1 (now (codes .entry))))) × Grown (now (words .entry)) (now (places .entry)) (now (places .exit)) position (λ a. oneIf (hasAtom a (now (codes .entry))))) ⌝ }
 {
     let mut last = NONE;
@@ -135,7 +137,7 @@ fn file_codes(words: &[u64], places: &mut [u16], codes: &[u64], position: u64) -
 
 // Whether the postings of the atoms of word x that have a bit stand at their places, which then move past them.
 fn file_bits(words: &[u64], places: &mut [u16], x: u64, bits: u64, position: u64) -> bool
-    requires { ⌜ length (now words) ≤ 65535 ⌝ ∗ ⌜ length (now places) ≡ 4096 ⌝ ∗ ⌜ position < 4096 ⌝ ∗ ⌜ x < 512 ⌝ }
+    requires { ⌜ length (now words) ≤ 65535 ⌝ ∗ ⌜ length (now places) ≡ maxRows ⌝ ∗ ⌜ position < maxRows ⌝ ∗ ⌜ x < maxWords ⌝ }
     ensures { λ r. ⌜ (r ≡ true → Grown (now (words .entry)) (now (places .entry)) (now (places .exit)) position (λ a. oneIf (hasBit x bits a))) ⌝ }
 {
     let mut left = bits;
@@ -151,7 +153,7 @@ fn file_bits(words: &[u64], places: &mut [u16], x: u64, bits: u64, position: u64
 
 // The same for the atoms of groups.
 fn file_groups(words: &[u64], places: &mut [u16], groups: &[u64], position: u64) -> bool
-    requires { ⌜ length (now words) ≤ 65535 ⌝ ∗ ⌜ length (now places) ≡ 4096 ⌝ ∗ ⌜ position < 4096 ⌝ }
+    requires { ⌜ length (now words) ≤ 65535 ⌝ ∗ ⌜ length (now places) ≡ maxRows ⌝ ∗ ⌜ position < maxRows ⌝ }
     ensures { λ r. ⌜ (r ≡ true → Grown (now (words .entry)) (now (places .entry)) (now (places .exit)) position (λ a. oneIf (hasAtom a (ungroup (now (groups .entry)))))) ⌝ }
 {
     let mut at = 0;
@@ -171,7 +173,7 @@ fn file_groups(words: &[u64], places: &mut [u16], groups: &[u64], position: u64)
 
 // Files the postings of the row in a slot, at its position: their number, or NOT_FILED.
 fn file_row(words: &[u64], places: &mut [u16], slot: &[u64], position: u64) -> usize
-    requires { ⌜ length (now words) ≤ 65535 ⌝ ∗ ⌜ length (now places) ≡ 4096 ⌝ ∗ ⌜ position < 4096 ⌝ ∗ ⌜ Holds (now slot) ⌝ }
+    requires { ⌜ length (now words) ≤ 65535 ⌝ ∗ ⌜ length (now places) ≡ maxRows ⌝ ∗ ⌜ position < maxRows ⌝ ∗ ⌜ Holds (now slot) ⌝ }
     ensures { λ r. ⌜ ((r ≡ notFiled → ⊥) → (r ≡ length (postedAtoms (rowIn (now (slot .entry))))) × Grown (now (words .entry)) (now (places .entry)) (now (places .exit)) position (λ a. times a (postedAtoms (rowIn (now (slot .entry)))))) ⌝ }
 {
     let nc = slot[0] as usize;
@@ -200,7 +202,7 @@ fn file_row(words: &[u64], places: &mut [u16], slot: &[u64], position: u64) -> u
 
 // The same for the first rows. Where their number is that of the words, no posting is due more often than it stands among the words.
 fn file_rows(words: &[u64], places: &mut [u16], slots: &[u64], rows: usize) -> usize
-    requires { ⌜ length (now words) ≤ 65535 ⌝ ∗ ⌜ length (now places) ≡ 4096 ⌝ ∗ ⌜ Rows rows (now slots) ⌝ }
+    requires { ⌜ length (now words) ≤ 65535 ⌝ ∗ ⌜ length (now places) ≡ maxRows ⌝ ∗ ⌜ Rows rows (now slots) ⌝ }
     ensures { λ r. ⌜ (r ≡ length (now (words .entry)) → (length (postingsOf (rowsIn rows (now (slots .entry)))) ≡ length (now (words .entry))) × ((v : ℕ) → times v (postingsOf (rowsIn rows (now (slots .entry)))) ≤ times v (now (words .entry)))) ⌝ }
 {
     let mut count: usize = 0;
@@ -218,7 +220,7 @@ fn file_rows(words: &[u64], places: &mut [u16], slots: &[u64], rows: usize) -> u
     count
 }
 
-// Whether the words are seen to be the postings of the first rows ascending. Only atoms below 4,096 have a place.
+// Whether the words are seen to be the postings of the first rows ascending. Only atoms below MAX_ROWS have a place.
 pub fn are_filed(words: &[u64], slots: &[u64], rows: usize) -> bool
     requires { ⌜ Rows rows (now slots) ⌝ }
     ensures { λ r. ⌜ (r ≡ true → same (now (words .entry)) (sortOf (postingsOf (rowsIn rows (now (slots .entry))))) ≡ true) ⌝ }
@@ -226,7 +228,7 @@ pub fn are_filed(words: &[u64], slots: &[u64], rows: usize) -> bool
     if 65535 < words.len() {
         return false;
     }
-    let mut places = [0u16; 4096];
+    let mut places = [0u16; MAX_ROWS as usize];
     if !note_places(words, &mut places) {
         return false;
     }

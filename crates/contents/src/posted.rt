@@ -6,25 +6,23 @@ ghost use lib.Dec.{eqb, leb, ltb};
 ghost use lib.ListN.{length};
 ghost use Rattle.lists.specs.Lists.{same, sortOf, pad};
 ghost use Rattle.lists.specs.Counts.{times};
-ghost use Rattle.model.specs.Records.{postingWords};
+ghost use Rattle.model.specs.Records.{postingWords, slotWords};
 ghost use Rattle.model.specs.Slots.{rowIn, codesOf, ungroup};
 ghost use Rattle.model.specs.Postings.{postingsOf};
 ghost use Rattle.slots.specs.Layout.{rowsIn};
 ghost use Rattle.contents.specs.Lent.{Rows, Holds, postedAtoms, postingsDue, atomCount, hasAtom, oneIf, top};
-use crate::SLOT_WORDS;
 use lists::Run;
 use lists::all_zero;
+use model::MAX_ROWS;
+use model::SLOT_WORDS;
 use slotcheck::run_count;
-
-// A posting is an atom times this, plus a position.
-const MAX_ROWS: u64 = 4096;
 
 // The highest bit of a word.
 const TOP: u64 = 9223372036854775808;
 
 // How many atoms the groups hold.
 pub fn atom_count(words: &[u64]) -> usize
-    requires { ⌜ length (now words) ≤ 168 ⌝ }
+    requires { ⌜ length (now words) ≤ slotWords ⌝ }
     ensures { λ r. ⌜ r ≡ atomCount (now (words .entry)) ⌝ }
 {
     let mut count: usize = 0;

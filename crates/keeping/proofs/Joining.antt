@@ -12,7 +12,7 @@ use Rattle.lists.specs.Lists.{all, below, same, ascending}
 use Rattle.lists.proofs.Tests.{and-both, and-yes}
 use Rattle.words.specs.Literal.{atom}
 use Rattle.words.proofs.Bools.{T-of}
-use Rattle.model.specs.Records.{Row, isRow}
+use Rattle.model.specs.Records.{Row, isRow, maxOutputs}
 use Rattle.model.specs.Union.{union, mayJoin, joins, grown}
 use Rattle.model.specs.Priority.{In}
 use Rattle.model.proofs.Cover.{and-left, and-right}
@@ -39,7 +39,7 @@ below-union n xs ys e f = in-below n (union xs ys) (λ x m. go x (union-out xs y
     go x (inl m) = below-in n xs e x m
     go x (inr m) = below-in n ys f x m
 
-pub grown-row : (n m : ℕ) (r p : Row) → m ≤ 64 → T (joins m r p) → isRow n r ≡ true → isRow n p ≡ true → isRow n (grown r p) ≡ true
+pub grown-row : (n m : ℕ) (r p : Row) → m ≤ maxOutputs → T (joins m r p) → isRow n r ≡ true → isRow n p ≡ true → isRow n (grown r p) ≡ true
 unfolding joins grown
 grown-row n m r p l t e f =
     let a = row-parts n r e in

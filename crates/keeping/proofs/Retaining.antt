@@ -17,7 +17,7 @@ use Rattle.meter.specs.declared.Read.{Read}
 use Rattle.meter.specs.declared.Read.the-variants.{Paid, Declined, Stopped}
 use Rattle.meter.specs.Meter.{andThen, pay}
 use Rattle.model.specs.declared.Header.{Header}
-use Rattle.model.specs.Records.{Row, Entry, Ledger, isRow, limitsOk, plus, withHits, withAdded, withRows}
+use Rattle.model.specs.Records.{Row, Entry, Ledger, isRow, limitsOk, plus, withHits, withAdded, withRows, maxOutputs}
 use Rattle.model.specs.Retention.{halved, settle, newborn, place, Verdict, subsumed, protected, placing, evicting, verdict, Retained, untaken, carryOut, retained, retainReads, retain}
 use Rattle.model.specs.Refusals.{entryOk}
 use Rattle.model.specs.Priority.{In}
@@ -123,7 +123,7 @@ all-rows n b [] h r m = absurd m
 all-rows n b (e ∷ es) h r (inl q) = subst (λ (x : Row). isRow n x ≡ true) (sym q) (and-both (isRow n (e .row)) _ (and-both (ok n b e) _ h .0) .0)
 all-rows n b (e ∷ es) h r (inr m) = all-rows n b es (and-both (ok n b e) _ h .1) r m
 
-module _ (l : Ledger) (most hits : ℕ) (t : Row) (k : most ≤ 64) (g : Good l) (r : isRow (l .header .limits .atoms) t ≡ true) where
+module _ (l : Ledger) (most hits : ℕ) (t : Row) (k : most ≤ maxOutputs) (g : Good l) (r : isRow (l .header .limits .atoms) t ≡ true) where
   retained-good : (run : Read) → Good (retained l most hits t run .ledger)
   unfolding retained untaken entryOk
   retained-good (Paid a m) =

@@ -9,7 +9,7 @@ use Rattle.lists.specs.Lists.{adjust}
 use Rattle.words.specs.Bit.{maxWord}
 use Rattle.meter.specs.declared.Read.{Read}
 use Rattle.model.specs.declared.Header.{Header}
-use Rattle.model.specs.Records.{Row, Entry, Ledger, isRow, plus, rowsOf, withRows, withHits, withDelivered}
+use Rattle.model.specs.Records.{Row, Entry, Ledger, isRow, plus, rowsOf, withRows, withHits, withDelivered, maxOutputs}
 use Rattle.model.specs.Slots.{slotsOf, entriesIn}
 use Rattle.model.specs.Retention.{Retained, Outcome, retain}
 use Rattle.model.specs.Transfers.{changeAt}
@@ -63,7 +63,7 @@ module _ (h : Header) (slots postings : List ℕ) (l : Ledger) (s : Stood h slot
     pub stood-meter : retain (ledgerIn (lent h slots postings)) most hits t run .meter ≡ retain l most hits t run .meter
     stood-meter = ap (λ (d : Retained). d .meter) same-end
 
-    pub stood-retained : (k : Header) (ws ps : List ℕ) → most ≤ 64 → isRow (h .limits .atoms) t ≡ true →
+    pub stood-retained : (k : Header) (ws ps : List ℕ) → most ≤ maxOutputs → isRow (h .limits .atoms) t ≡ true →
         lent k ws ps ≡ lentOf (retain (ledgerIn (lent h slots postings)) most hits t run .ledger) → Stood k ws ps (retain l most hits t run .ledger)
     stood-retained k ws ps m r e = record {
       good = retain-good l most hits t m (s .good) (ap (λ x. isRow (x .atoms) t) (sym stood-limits) ∙ r) run;

@@ -23,8 +23,11 @@ use meter::Verdict;
 use model::DeduceAnswer;
 use model::DeduceResult;
 use model::Deduction;
+use model::MAX_CONDITIONS;
+use model::MAX_OUTPUTS;
 use model::NextAnswer;
 use model::OutputCursor;
+use model::SLOT_WORDS;
 use words::Found;
 use words::MAX_ATOMS;
 use words::MAX_WORD;
@@ -146,7 +149,7 @@ fn is_row(atoms: u64, conditions: &[u64], outputs: &[u64]) -> bool
     if MAX_ATOMS < atoms {
         return false;
     }
-    proposals::is_row(atoms, 16, 64, conditions, outputs)
+    proposals::is_row(atoms, MAX_CONDITIONS, MAX_OUTPUTS, conditions, outputs)
 }
 
 // p becomes the proposal of a row, and true; false, and nothing changed, if the lists are no row.
@@ -166,7 +169,7 @@ fn store(atoms: u64, conditions: &[u64], outputs: &[u64], slot: &mut [u64]) -> b
     requires { ⌜ length (now slot) ≡ slotWords ⌝ }
     ensures { λ r. ⌜ (r ≡ true → Stored atoms (now (slot .exit))) ⌝ }
 {
-    let mut p = [0u64; 168];
+    let mut p = [0u64; SLOT_WORDS];
     if !propose(atoms, conditions, outputs, &mut p) {
         return false;
     }
@@ -343,7 +346,7 @@ fn publish(
     0
 }
 
-// The form of a row and its reads; the slot has its 168 words where they are paid.
+// The form of a row and its reads; the slot has its words where they are paid.
 #[no_mangle]
 pub extern "C" fn leaf_prepare(
     atoms: u64,
@@ -354,11 +357,11 @@ pub extern "C" fn leaf_prepare(
     slot: &mut [u64],
     answer: &mut [u64; 4],
 ) -> u64 {
-    let mut p = [0u64; 168];
+    let mut p = [0u64; SLOT_WORDS];
     if !propose(atoms, conditions, outputs, &mut p) {
         return NO_ROW;
     }
-    if slot.len() != 168 {
+    if slot.len() != SLOT_WORDS {
         return NO_SLOT;
     }
     let j = prepare_times(&p, slot, account_of(paying), meter_of(paying), times);
@@ -377,8 +380,8 @@ pub extern "C" fn leaf_includes(
     times: u64,
     answer: &mut [u64; 4],
 ) -> u64 {
-    let mut a = [0u64; 168];
-    let mut b = [0u64; 168];
+    let mut a = [0u64; SLOT_WORDS];
+    let mut b = [0u64; SLOT_WORDS];
     if !lay(atoms, &candidates[0..0], candidates, forms % 2 == 1, &mut a) {
         return NO_ROW;
     }
@@ -406,8 +409,8 @@ pub extern "C" fn leaf_subsumes(
     times: u64,
     answer: &mut [u64; 4],
 ) -> u64 {
-    let mut r = [0u64; 168];
-    let mut p = [0u64; 168];
+    let mut r = [0u64; SLOT_WORDS];
+    let mut p = [0u64; SLOT_WORDS];
     if !lay(atoms, conditions, outputs, true, &mut r) {
         return NO_ROW;
     }
@@ -438,17 +441,17 @@ pub extern "C" fn leaf_union_outputs(
     slot: &mut [u64],
     answer: &mut [u64; 4],
 ) -> u64 {
-    let mut r = [0u64; 168];
+    let mut r = [0u64; SLOT_WORDS];
     if !lay(atoms, conditions, outputs, true, &mut r) {
         return NO_ROW;
     }
     if !is_row(atoms, other_conditions, other_outputs) {
         return NO_ROW;
     }
-    if 64 < maximum {
+    if MAX_OUTPUTS < maximum {
         return NO_CHOICE;
     }
-    if slot.len() != 168 {
+    if slot.len() != SLOT_WORDS {
         return NO_SLOT;
     }
     let j = union_times(
@@ -477,7 +480,7 @@ pub extern "C" fn leaf_deduction(
     times: u64,
     answer: &mut [u64; 4],
 ) -> u64 {
-    let mut slot = [0u64; 168];
+    let mut slot = [0u64; SLOT_WORDS];
     if !store(atoms, conditions, outputs, &mut slot) {
         return NO_ROW;
     }
@@ -501,7 +504,7 @@ pub extern "C" fn leaf_next_output(
     paying: &[u64; 4],
     answer: &mut [u64; 4],
 ) -> u64 {
-    let mut slot = [0u64; 168];
+    let mut slot = [0u64; SLOT_WORDS];
     if !store(atoms, conditions, outputs, &mut slot) {
         return NO_ROW;
     }

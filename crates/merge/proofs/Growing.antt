@@ -18,7 +18,7 @@ use Rattle.meter.specs.declared.Verdict.{Verdict}
 use Rattle.meter.specs.declared.Verdict.the-variants as verdict
 use Rattle.meter.specs.Meter.{pay, judged, pay-none}
 use Rattle.meter.proofs.Verdict.{the-type}
-use Rattle.model.specs.Records.{Row}
+use Rattle.model.specs.Records.{Row, slotWords, maxConditions, maxOutputs}
 use Rattle.model.specs.Union.{union, grown}
 use Rattle.model.specs.Slots.{rowIn}
 use Rattle.slots.specs.declared.Side.{Side}
@@ -77,11 +77,11 @@ module _ (ws us : List ℕ) (p : Proposed ws) (more : length (rowIn ws .outputs)
   place : at ≡ 8 + length cs
   place = omega (arith, proposed-conditions ws p)
 
-  pub grow-fits : (at ≤ 24) × (length counted ≡ 168)
+  pub grow-fits : (at ≤ 8 + maxConditions) × (length counted ≡ slotWords)
   grow-fits = let f = p .few in (omega (arith, place), length-set ws 1 (length us) ∙ proposed-long ws p)
 
   -- there is room for the new outputs
-  pub grow-room : length us ≤ 64 → length us ≤ length (midOf at (length counted - at) counted)
+  pub grow-room : length us ≤ maxOutputs → length us ≤ length (midOf at (length counted - at) counted)
   grow-room h = omega (arith, mid-long at counted, grow-fits .0, grow-fits .1)
 
   written : counted ≡ put at os (put 8 cs (blankOf (length cs) (length us)))

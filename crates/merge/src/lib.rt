@@ -20,6 +20,7 @@ use meter::Judged;
 use meter::Meter;
 use meter::Read;
 use meter::Verdict;
+use model::MAX_OUTPUTS;
 use rows::Charge;
 use slots::Cursor;
 use slots::Side;
@@ -184,7 +185,7 @@ fn unite(r: &[u64], p: &mut [u64], most: u64, account: Account, work: Meter) -> 
     let at = 8 + p[0] as usize;
     let end = at + p[1] as usize;
     let room = most as usize;
-    let mut out = [0u64; 64];
+    let mut out = [0u64; MAX_OUTPUTS as usize];
     let counted = merge(
         r,
         slots::outputs(r),

@@ -14,7 +14,7 @@ use Rattle.lists.proofs.Sorts.{length-sort, distinct-short}
 use Rattle.words.specs.Literal.{atom}
 use Rattle.words.proofs.Bools.{T-true, T-of}
 use Rattle.model.specs.declared.Header.{Header}
-use Rattle.model.specs.Records.{Row, Entry, Ledger, rowsOf, isRow, limitsOk, withRows}
+use Rattle.model.specs.Records.{Row, Entry, Ledger, rowsOf, isRow, limitsOk, withRows, slotWords, postingWords}
 use Rattle.model.specs.Slots.{slotOf, slotsOf, entriesIn}
 use Rattle.model.specs.Postings.{posting, rowPostings, postingsFrom, postingsOf, filed}
 use Rattle.model.specs.Refusals.{Lent, refusal, ledgerIn, lentOf, lengthsOk, entryOk, countsOk, wordsOk, contentsOk, accepts}
@@ -32,7 +32,7 @@ entries-valid h (e ∷ es) t = (
   entries-valid h es (and-right (entryOk h e) (all (entryOk h) es) t),
 )
 
-laid-length : (es : List Entry) → AllValid es → length (concat (map slotOf es)) ≡ 168 * length es
+laid-length : (es : List Entry) → AllValid es → length (concat (map slotOf es)) ≡ slotWords * length es
 unfolding concat
 laid-length [] v = refl
 laid-length (e ∷ es) v =
@@ -48,7 +48,7 @@ pad-length n xs h =
     let b = length-replicate {A = ℕ} (n - length xs) 0 in
     omega arith
 
-row-posts : (p : ℕ) (r : Row) → Valid r → length (rowPostings p r) ≤ 80
+row-posts : (p : ℕ) (r : Row) → Valid r → length (rowPostings p r) ≤ postingWords
 unfolding rowPostings
 row-posts p r v =
     let a = length-map (map atom (r .conditions) ++ distinct (map atom (r .outputs))) (posting p) in
@@ -60,7 +60,7 @@ row-posts p r v =
     let g = v .many in
     omega arith
 
-posts-length : (p : ℕ) (es : List Entry) → AllValid es → length (postingsFrom p (map (λ e. e .row) es)) ≤ 80 * length es
+posts-length : (p : ℕ) (es : List Entry) → AllValid es → length (postingsFrom p (map (λ e. e .row) es)) ≤ postingWords * length es
 unfolding postingsFrom
 posts-length p [] v = omega arith
 posts-length p (e ∷ es) v =
@@ -69,16 +69,16 @@ posts-length p (e ∷ es) v =
     let c = length-append (rowPostings p (e .row)) (postingsFrom (suc p) (map (λ e. e .row) es)) in
     omega arith
 
-filed-length : (tier : ℕ) (stale : Bool) (es : List Entry) → AllValid es → length es ≤ tier → length (filed tier stale (map (λ e. e .row) es)) ≡ 80 * tier
+filed-length : (tier : ℕ) (stale : Bool) (es : List Entry) → AllValid es → length es ≤ tier → length (filed tier stale (map (λ e. e .row) es)) ≡ postingWords * tier
 unfolding filed postingsOf
-filed-length tier true es v h = pad-length (80 * tier) [] (omega arith)
+filed-length tier true es v h = pad-length (postingWords * tier) [] (omega arith)
 filed-length tier false es v h =
-    pad-length (80 * tier) (sortOf (postingsFrom 0 (map (λ e. e .row) es)))
+    pad-length (postingWords * tier) (sortOf (postingsFrom 0 (map (λ e. e .row) es)))
     (let a = length-sort (postingsFrom 0 (map (λ e. e .row) es)) in let b = posts-length 0 es v in omega arith)
 
-slots-length : (tier : ℕ) (es : List Entry) → AllValid es → length es ≤ tier → length (slotsOf tier es) ≡ 168 * tier
+slots-length : (tier : ℕ) (es : List Entry) → AllValid es → length es ≤ tier → length (slotsOf tier es) ≡ slotWords * tier
 unfolding slotsOf
-slots-length tier es v h = pad-length (168 * tier) (concat (map slotOf es)) (let a = laid-length es v in omega arith)
+slots-length tier es v h = pad-length (slotWords * tier) (concat (map slotOf es)) (let a = laid-length es v in omega arith)
 
 -- ---- acceptance
 all-pass : (a b c : Bool) → T a → T b → T c → refusal ((a, 1) ∷ (b, 2) ∷ (c, 3) ∷ []) ≡ none
@@ -108,12 +108,12 @@ encoded-accepted l a c e =
     let back : entriesIn (length es) (slotsOf tier es) ≡ es = decode-encode tier es v in
     let ws : List ℕ = slotsOf tier es in
     let ps : List ℕ = filed tier (l .header .stale) (map (λ e. e .row) es) in
-    let long : T (eqb (length ws) (168 * tier) && eqb (length ps) (80 * tier))
-    = both (eqb (length ws) (168 * tier)) (eqb (length ps) (80 * tier)) (eq-eqb _ _ (slots-length tier es v few)) (eq-eqb _ _ (filed-length tier (l .header .stale) es v few)) in
+    let long : T (eqb (length ws) (slotWords * tier) && eqb (length ps) (postingWords * tier))
+    = both (eqb (length ws) (slotWords * tier)) (eqb (length ps) (postingWords * tier)) (eq-eqb _ _ (slots-length tier es v few)) (eq-eqb _ _ (filed-length tier (l .header .stale) es v few)) in
     let words : T (same ws ws && same ps ps) = both (same ws ws) (same ps ps) (same-refl ws) (same-refl ps) in
     let fit : T (all (entryOk h) es && (same ws ws && same ps ps)) = both (all (entryOk h) es) (same ws ws && same ps ps) (T-true (all (entryOk h) es) e) (T-true (same ws ws && same ps ps) words) in
     all-pass _ _ _ a
-    (both (eqb (length ws) (168 * tier) && eqb (length ps) (80 * tier)) true (T-true (eqb (length ws) (168 * tier) && eqb (length ps) (80 * tier)) long) refl)
+    (both (eqb (length ws) (slotWords * tier) && eqb (length ps) (postingWords * tier)) true (T-true (eqb (length ws) (slotWords * tier) && eqb (length ps) (postingWords * tier)) long) refl)
     (subst
     (λ (xs : List Entry). T (countsOk h && (all (entryOk h) xs && (same ws (slotsOf tier xs) && same ps (filed tier (l .header .stale) (map (λ e. e .row) xs))))))
     (sym back)

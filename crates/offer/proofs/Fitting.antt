@@ -12,7 +12,7 @@ use Rattle.lists.proofs.Tests.{and-both, and-yes}
 use Rattle.words.specs.Region.{atomsOk}
 use Rattle.model.specs.declared.LearningLimits.{LearningLimits}
 use Rattle.model.specs.declared.Header.{Header}
-use Rattle.model.specs.Records.{Row, header, attempted, isRow, isRowOver, within, limitsOk}
+use Rattle.model.specs.Records.{Row, header, attempted, isRow, isRowOver, within, limitsOk, maxRows, maxConditions, maxOutputs}
 use Rattle.model.specs.Slots.{rowIn}
 use Rattle.model.specs.Refusals.{Lent, refusal, accepts, entryOk}
 use Rattle.model.proofs.Priority.Steps.{accepted}
@@ -27,17 +27,17 @@ use Rattle.proposals.proofs.Proposing.{proposed-row}
 use Rattle.offer.specs.Ends.{mayCapture}
 
 module _ (l : LearningLimits) (ok : limitsOk l ≡ true) where
-  sizes : (leb (l .«founded_conditions») 16 && leb (l .«founded_outputs») 64) ≡ true
+  sizes : (leb (l .«founded_conditions») maxConditions && leb (l .«founded_outputs») maxOutputs) ≡ true
   unfolding limitsOk
   sizes =
-      and-both (leb 1 (l .«tier_rows») && leb (l .«tier_rows») 4096) _
+      and-both (leb 1 (l .«tier_rows») && leb (l .«tier_rows») maxRows) _
       (and-both (atomsOk (l .atoms)) _ ok .1) .1
 
-  most-conditions : l .«founded_conditions» ≤ 16
-  most-conditions = leb-true (l .«founded_conditions») 16 (and-both (leb (l .«founded_conditions») 16) (leb (l .«founded_outputs») 64) sizes .0)
+  most-conditions : l .«founded_conditions» ≤ maxConditions
+  most-conditions = leb-true (l .«founded_conditions») maxConditions (and-both (leb (l .«founded_conditions») maxConditions) (leb (l .«founded_outputs») maxOutputs) sizes .0)
 
-  pub most-outputs : l .«founded_outputs» ≤ 64
-  most-outputs = leb-true (l .«founded_outputs») 64 (and-both (leb (l .«founded_conditions») 16) (leb (l .«founded_outputs») 64) sizes .1)
+  pub most-outputs : l .«founded_outputs» ≤ maxOutputs
+  most-outputs = leb-true (l .«founded_outputs») maxOutputs (and-both (leb (l .«founded_conditions») maxConditions) (leb (l .«founded_outputs») maxOutputs) sizes .1)
 
   module _ (t : Row) (fit : fitsOffer l t ≡ true) where
     parts : (within (l .«founded_conditions») (l .«founded_outputs») t ≡ true) × (isRowOver (l .atoms) t ≡ true)
@@ -48,17 +48,17 @@ module _ (l : LearningLimits) (ok : limitsOk l ≡ true) where
     unfolding within
     lengths = and-both (leb (length (t .conditions)) (l .«founded_conditions»)) (leb (length (t .outputs)) (l .«founded_outputs»)) (parts .0)
 
-    pub fit-conditions : length (t .conditions) ≤ 16
+    pub fit-conditions : length (t .conditions) ≤ maxConditions
     fit-conditions = le-trans (leb-true (length (t .conditions)) (l .«founded_conditions») (lengths .0)) most-conditions
 
-    pub fit-outputs : length (t .outputs) ≤ 64
+    pub fit-outputs : length (t .outputs) ≤ maxOutputs
     fit-outputs = le-trans (leb-true (length (t .outputs)) (l .«founded_outputs») (lengths .1)) most-outputs
 
     pub fit-row : isRow (l .atoms) t ≡ true
     unfolding isRow within
     fit-row =
-        and-yes (leb (length (t .conditions)) 16 && leb (length (t .outputs)) 64) (isRowOver (l .atoms) t)
-        (and-yes (leb (length (t .conditions)) 16) (leb (length (t .outputs)) 64) (le-leb (length (t .conditions)) 16 fit-conditions) (le-leb (length (t .outputs)) 64 fit-outputs)) (parts .1)
+        and-yes (leb (length (t .conditions)) maxConditions && leb (length (t .outputs)) maxOutputs) (isRowOver (l .atoms) t)
+        (and-yes (leb (length (t .conditions)) maxConditions) (leb (length (t .outputs)) maxOutputs) (le-leb (length (t .conditions)) maxConditions fit-conditions) (le-leb (length (t .outputs)) maxOutputs fit-outputs)) (parts .1)
 
     pub fit-proposed : (p : List ℕ) → p ≡ proposal t → Proposed p
     fit-proposed p e = subst Proposed (sym e) (proposed-row t fit-conditions fit-outputs)

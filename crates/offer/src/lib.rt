@@ -18,6 +18,7 @@ use meter::Meter;
 use model::Header;
 use model::OfferAnswer;
 use model::OfferResult;
+use model::SLOT_WORDS;
 use proposals::is_row;
 use proposals::propose;
 use retention::Retained;
@@ -134,7 +135,7 @@ fn capture(
         (capture (ledgerIn (lent header (now (slots .entry)) (now (postings .entry)))) (rowOf (now (conditions .entry)) (now (outputs .entry))) work)
         ≡ capture (ledgerIn (lent header (now (slots .entry)) (now (postings .entry)))) (rowOf (now (conditions .entry)) (now (outputs .entry))) work ⌝ }
 {
-    let mut p = [0u64; 168];
+    let mut p = [0u64; SLOT_WORDS];
     propose(conditions, outputs, &mut p);
     capture_row(header, slots, postings, &mut p, work)
 }

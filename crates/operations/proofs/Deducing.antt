@@ -18,7 +18,7 @@ use Rattle.model.specs.declared.Deduction.{Deduction}
 use Rattle.model.specs.declared.OutputCursor.{OutputCursor}
 use Rattle.model.specs.declared.DeduceAnswer.the-variants as deduce-answer
 use Rattle.model.specs.declared.NextAnswer.the-variants as next-answer
-use Rattle.model.specs.Records.{Row, rowsOf, rowAt}
+use Rattle.model.specs.Records.{Row, rowsOf, rowAt, slotWords, maxRows}
 use Rattle.model.specs.Slots.{rowIn}
 use Rattle.model.specs.Deduction.{deduction, deductionTicks, nextOutput as publishNext}
 use Rattle.model.specs.Refusals.{Lent, refusal, accepts, ledgerIn}
@@ -44,11 +44,11 @@ module _ (h : Header) (slots postings : List ℕ) (p : ℕ) where
 
   -- the slot that the code lends
   module _ (a : Accepted h slots postings) (l : p < h .rows) where
-    pub slot-fits : (p < 4096) × (168 * p + 168 ≤ length slots)
+    pub slot-fits : (p < maxRows) × (slotWords * p + slotWords ≤ length slots)
     slot-fits = let f = a .few in let m = a .most in let n = a .long in (omega arith, omega arith)
 
     abbrev part : List ℕ
-    part = take ((168 * p + 168) - 168 * p) (drop (168 * p) slots)
+    part = take ((slotWords * p + slotWords) - slotWords * p) (drop (slotWords * p) slots)
 
     stored-part : Stored (h .limits .atoms) part
     stored-part = subst (Stored (h .limits .atoms)) (sym (slot-code slots p)) (a .stored p l)

@@ -8,7 +8,7 @@ use borrow.Author.Tests.{eq-eqb, ne-eqb}
 use Rattle.lists.specs.Lists.{zeroed}
 use Rattle.model.specs.declared.LearningLimits.{LearningLimits}
 use Rattle.model.specs.declared.MakeAnswer.the-variants.{Refused, Made}
-use Rattle.model.specs.Records.{limitsOk, fresh}
+use Rattle.model.specs.Records.{limitsOk, fresh, slotWords, postingWords}
 use Rattle.model.specs.Refusals.{refusal}
 use Rattle.model.specs.Operations.{make}
 use Rattle.operations.specs.Ends.{makeEnd}
@@ -18,17 +18,17 @@ module _ (l : LearningLimits) (number : ℕ) (slots postings : List ℕ) where
   unfolding make refusal
   make-limits e = rw (e, make, refusal)
 
-  pub make-slots : limitsOk l ≡ true → (length slots ≡ 168 * l .«tier_rows» → ⊥) →
+  pub make-slots : limitsOk l ≡ true → (length slots ≡ slotWords * l .«tier_rows» → ⊥) →
       makeEnd (record { answer = Refused 2; ticks = 0 }) slots postings ≡ make l number slots postings
   unfolding make refusal
-  make-slots e f = rw (e, ne-eqb (length slots) (168 * l .«tier_rows») f, make, refusal)
+  make-slots e f = rw (e, ne-eqb (length slots) (slotWords * l .«tier_rows») f, make, refusal)
 
-  pub make-postings : limitsOk l ≡ true → length slots ≡ 168 * l .«tier_rows» → (length postings ≡ 80 * l .«tier_rows» → ⊥) →
+  pub make-postings : limitsOk l ≡ true → length slots ≡ slotWords * l .«tier_rows» → (length postings ≡ postingWords * l .«tier_rows» → ⊥) →
       makeEnd (record { answer = Refused 2; ticks = 0 }) slots postings ≡ make l number slots postings
   unfolding make refusal
-  make-postings e s f = rw (e, eq-eqb (length slots) (168 * l .«tier_rows») s, ne-eqb (length postings) (80 * l .«tier_rows») f, make, refusal)
+  make-postings e s f = rw (e, eq-eqb (length slots) (slotWords * l .«tier_rows») s, ne-eqb (length postings) (postingWords * l .«tier_rows») f, make, refusal)
 
-  pub make-made : limitsOk l ≡ true → length slots ≡ 168 * l .«tier_rows» → length postings ≡ 80 * l .«tier_rows» →
+  pub make-made : limitsOk l ≡ true → length slots ≡ slotWords * l .«tier_rows» → length postings ≡ postingWords * l .«tier_rows» →
       makeEnd (record { answer = Made (fresh l number); ticks = 0 }) (zeroed slots) (zeroed postings) ≡ make l number slots postings
   unfolding make refusal
-  make-made e s p = rw (e, eq-eqb (length slots) (168 * l .«tier_rows») s, eq-eqb (length postings) (80 * l .«tier_rows») p, make, refusal)
+  make-made e s p = rw (e, eq-eqb (length slots) (slotWords * l .«tier_rows») s, eq-eqb (length postings) (postingWords * l .«tier_rows») p, make, refusal)

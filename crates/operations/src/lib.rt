@@ -4,8 +4,6 @@ ghost use Rattle.model.specs.Records.{fresh};
 ghost use Rattle.model.specs.Operations.{make, hit, deduce, nextOutput, begin, decide};
 ghost use Rattle.contents.specs.Lent.{lent};
 ghost use Rattle.operations.specs.Ends.{makeEnd, hitEnd, deduceEnd, outputEnd, beginEnd, decideEnd};
-use contents::POSTING_WORDS;
-use contents::SLOT_WORDS;
 use contents::accept;
 use contents::limits_ok;
 use lists::fill_zero;
@@ -31,6 +29,8 @@ use model::Mark;
 use model::NextAnswer;
 use model::NextResult;
 use model::OutputCursor;
+use model::POSTING_WORDS;
+use model::SLOT_WORDS;
 use words::is_region;
 
 // The header of a ledger with no rows.

@@ -16,15 +16,11 @@ use lists::sort;
 use meter::Meter;
 use meter::Tick;
 use model::Header;
+use model::MAX_ROWS;
+use model::SLOT_WORDS;
 use slots::Side;
 use slots::Step;
 use words::MAX_ATOMS;
-
-// A posting is an atom times this, plus a position.
-pub const MAX_ROWS: u64 = 4096;
-
-// The words of a slot.
-pub const SLOT_WORDS: usize = 168;
 
 // How a filling ended, and the place after the last posting that it wrote.
 pub struct Posted {

@@ -13,7 +13,7 @@ use Rattle.meter.specs.declared.Meter.{Meter}
 use Rattle.meter.specs.declared.Account.{Account}
 use Rattle.meter.specs.declared.Judged.{Judged}
 use Rattle.meter.specs.Meter.{pay, judged}
-use Rattle.model.specs.Records.{Row, literals}
+use Rattle.model.specs.Records.{Row, literals, slotWords, maxConditions, maxOutputs}
 use Rattle.slots.specs.Layout.{proposal}
 use Rattle.rows.proofs.Charges.{onYes, ask-both}
 use Rattle.proposals.specs.Offered.{rowOf}
@@ -98,22 +98,22 @@ pub put-proposal : (cs os : List ℕ) → put 8 (cs ++ os) (blankOf (length cs) 
 unfolding proposal pad
 put-proposal cs os =
     let k : ℕ = length (cs ++ os) in
-    let n : 160 - k ≡ 168 - suc (suc (suc (suc (suc (suc (suc (suc k))))))) = omega arith in
-    ap (λ (z : List ℕ). length cs ∷ length os ∷ 0 ∷ 0 ∷ 0 ∷ 0 ∷ 0 ∷ 0 ∷ ((cs ++ os) ++ z)) (drop-zeros k 160 ∙ ap zeros n)
+    let n : slotWords - 8 - k ≡ slotWords - suc (suc (suc (suc (suc (suc (suc (suc k))))))) = omega arith in
+    ap (λ (z : List ℕ). length cs ∷ length os ∷ 0 ∷ 0 ∷ 0 ∷ 0 ∷ 0 ∷ 0 ∷ ((cs ++ os) ++ z)) (drop-zeros k (slotWords - 8) ∙ ap zeros n)
 
 -- the counts, then the conditions, then the outputs
-module _ (ws x cs os : List ℕ) (at : ℕ) (few : length cs ≤ 16) (many : length os ≤ 64)
+module _ (ws x cs os : List ℕ) (at : ℕ) (few : length cs ≤ maxConditions) (many : length os ≤ maxOutputs)
     (b : ws ≡ blankOf (length cs) (length os)) (e : at ≡ 8 + length cs) (f : x ≡ put 0 cs (midOf 8 (length ws - 8) ws)) where
   abbrev half : List ℕ
   half = putMid 8 (length ws - 8) ws x
 
-  blank-long : length ws ≡ 168
+  blank-long : length ws ≡ slotWords
   blank-long = ap length b
 
   half-is : half ≡ put 8 cs ws
   half-is = put-part 8 cs ws (omega (arith, blank-long)) f
 
-  half-long : length half ≡ 168
+  half-long : length half ≡ slotWords
   half-long = ap length half-is ∙ length-put 8 cs ws (omega (arith, blank-long)) ∙ blank-long
 
   -- there is room for the outputs

@@ -5,7 +5,7 @@ use Prim.Native.Nat.{ℕ, suc, _+_, _-_, _≤_}
 use native.Mathlib.Omega.{arith}
 use lib.ListN.{length, getD, take, drop, replicate, length-append, length-replicate}
 use Rattle.lists.specs.Lists.{pad}
-use Rattle.model.specs.Records.{Row, maxConditions, maxOutputs}
+use Rattle.model.specs.Records.{Row, maxConditions, maxOutputs, slotWords}
 use Rattle.model.specs.Slots.{rowIn}
 use Rattle.slots.specs.Layout.{proposal, Laid}
 use Rattle.slots.proofs.Laying.{row-scalar, laid-scalar}
@@ -23,26 +23,26 @@ says : (r : Row) → Says r (proposal r)
 unfolding proposal pad
 says r = record { conditions = refl; outputs = refl; total = refl; first = refl }
 
-proposal-long : (r : Row) → length (r .conditions) ≤ maxConditions → length (r .outputs) ≤ maxOutputs → length (proposal r) ≡ 168
+proposal-long : (r : Row) → length (r .conditions) ≤ maxConditions → length (r .outputs) ≤ maxOutputs → length (proposal r) ≡ slotWords
 unfolding proposal pad
 proposal-long r f m =
     let k : ℕ = length (r .conditions ++ r .outputs) in
     let n : ℕ = suc (suc (suc (suc (suc (suc (suc (suc k))))))) in
-    omega (arith, length-append (r .conditions ++ r .outputs) (replicate (168 - n) 0), length-append (r .conditions) (r .outputs), length-replicate {A = ℕ} (168 - n) 0)
+    omega (arith, length-append (r .conditions ++ r .outputs) (replicate (slotWords - n) 0), length-append (r .conditions) (r .outputs), length-replicate {A = ℕ} (slotWords - n) 0)
 
 pub proposed-row : (r : Row) → length (r .conditions) ≤ maxConditions → length (r .outputs) ≤ maxOutputs → Proposed (proposal r)
 proposed-row r f m =
     record {
       form = ap proposal (row-proposal r);
-      few = subst (λ (q : Row). length (q .conditions) ≤ 16) (sym (row-proposal r)) f;
-      many = subst (λ (q : Row). length (q .outputs) ≤ 64) (sym (row-proposal r)) m;
+      few = subst (λ (q : Row). length (q .conditions) ≤ maxConditions) (sym (row-proposal r)) f;
+      many = subst (λ (q : Row). length (q .outputs) ≤ maxOutputs) (sym (row-proposal r)) m;
     }
 
 module _ (ws : List ℕ) (p : Proposed ws) where
   words : Says (rowIn ws) ws
   words = subst (Says (rowIn ws)) (p .form) (says (rowIn ws))
 
-  pub proposed-long : length ws ≡ 168
+  pub proposed-long : length ws ≡ slotWords
   proposed-long = sym (ap length (p .form)) ∙ proposal-long (rowIn ws) (p .few) (p .many)
 
   pub proposed-conditions : getD ws 0 0 ≡ length (rowIn ws .conditions)

@@ -7,7 +7,7 @@ use Rattle.model.specs.Records.{maxConditions, maxOutputs}
 use Rattle.model.specs.Slots.{rowIn}
 use Rattle.slots.specs.Layout.{proposal}
 
--- 168 words that are a proposal of a row within the limits of a slot
+-- the words of a slot that are a proposal of a row within the limits of a slot
 pub record Proposed (ws : List ℕ) : Type 0 where
   pub form : proposal (rowIn ws) ≡ ws
   pub few : length (rowIn ws .conditions) ≤ maxConditions

@@ -17,7 +17,7 @@ use Rattle.model.specs.declared.Deduction.{Deduction}
 use Rattle.model.specs.declared.Deduction.the-variants.{Nothing, Force, Require}
 use Rattle.model.specs.declared.DeduceAnswer.the-variants as deduce-answer
 use Rattle.model.specs.declared.DeduceResult.{DeduceResult}
-use Rattle.model.specs.Records.{Row, Entry, Ledger, rowAt}
+use Rattle.model.specs.Records.{Row, Entry, Ledger, rowAt, slotWords}
 use Rattle.model.specs.Slots.{rowIn}
 use Rattle.model.specs.Deduction.{deduction, deductionTicks, startCursor}
 use Rattle.model.specs.Closing.{State, Turn, going, halted, withMeter, hitAt, counted, decideOn, publish, obey, act}
@@ -107,7 +107,7 @@ module _ (n p : ℕ) (l : Ledger) (held cut : List ℕ) (m : Meter) (r : Row) (e
 -- ---- by the words
 module _ (n rows p : ℕ) (slots held cut : List ℕ) (m : Meter) (k : Held rows slots) (i : p < rows) where
   abbrev partOf : List ℕ → List ℕ
-  partOf ws = take ((168 * p + 168) - 168 * p) (drop (168 * p) ws)
+  partOf ws = take ((slotWords * p + slotWords) - slotWords * p) (drop (slotWords * p) ws)
 
   abbrev row : Row
   row = rowIn (partOf slots)

@@ -9,10 +9,10 @@ use lib.ListN.{length, getD, take, drop}
 use Rattle.lists.specs.Lists.{all, adjust}
 use Rattle.lists.proofs.Selects.{length-adjust, map-adjust}
 use Rattle.lists.proofs.Tests.{all-at}
-use Rattle.words.specs.Region.{region, isRegion}
+use Rattle.words.specs.Region.{region, isRegion, maxAtoms}
 use Rattle.words.proofs.Bools.{T-of, T-true}
 use Rattle.model.specs.declared.Header.{Header}
-use Rattle.model.specs.Records.{Row, Entry, isRow, rowsOf, rowAt, hitEntry}
+use Rattle.model.specs.Records.{Row, Entry, isRow, rowsOf, rowAt, hitEntry, slotWords}
 use Rattle.model.specs.Slots.{slotsOf, entriesIn, rowIn}
 use Rattle.model.proofs.Slots.{AllValid, decode-encode, entries-length}
 use Rattle.slots.specs.Layout.{Stored, slotAt, rowsIn}
@@ -63,12 +63,12 @@ module _ (rows p : ℕ) (ws : List ℕ) (k : Held rows ws) (l : p < rows) where
       let f = k .few in
       let n = hits-count in
       let m : length hits ≤ tierOf ws = omega arith in
-      let e : length (hitWords p ws) ≡ 168 * tierOf ws = ap length (hit-held rows p ws k l) ∙ slots-length (tierOf ws) hits hits-valid m in
-      ap (λ (x : ℕ). x / 168) (e ∙ sym (holding rows ws k .long))
+      let e : length (hitWords p ws) ≡ slotWords * tierOf ws = ap length (hit-held rows p ws k l) ∙ slots-length (tierOf ws) hits hits-valid m in
+      ap (λ (x : ℕ). x / slotWords) (e ∙ sym (holding rows ws k .long))
 
   pub hit-holds : Held rows (hitWords p ws)
   hit-holds = record {
-    each = subst T (sym (ap (all (λ e. isRow 32768 (e .row))) hit-entries ∙ all-hit (isRow 32768) p es)) (k .each);
+    each = subst T (sym (ap (all (λ e. isRow maxAtoms (e .row))) hit-entries ∙ all-hit (isRow maxAtoms) p es)) (k .each);
     few = subst (λ (n : ℕ). rows ≤ n) (sym hit-tier) (k .few);
     same = ap (λ (n : ℕ). slotsOf n (entriesIn rows (hitWords p ws))) hit-tier ∙ ap (slotsOf (tierOf ws)) hit-entries ∙ sym (hit-held rows p ws k l);
   }
@@ -78,7 +78,7 @@ module _ (rows p : ℕ) (ws : List ℕ) (k : Held rows ws) (l : p < rows) where
   hit-rows = ap (map (λ e. e .row)) hit-entries ∙ map-adjust hitEntry (λ e. e .row) p es hit-row
 
 module _ (n rows : ℕ) (rs : List Row) (slots held cut : List ℕ) (s : Standing n rows rs slots held cut) where
-  pub slot-fits : (p : ℕ) → p < rows → 168 * p + 168 ≤ length slots
+  pub slot-fits : (p : ℕ) → p < rows → slotWords * p + slotWords ≤ length slots
   slot-fits p l = let f = rows-fit rows slots (s .holds) in omega arith
 
   stored-at : (p : ℕ) → p < rows → Stored n (slotAt slots p)
@@ -90,7 +90,7 @@ module _ (n rows : ℕ) (rs : List Row) (slots held cut : List ℕ) (s : Standin
       (T-of (all-at (λ e. isRow n (e .row)) (entriesIn rows slots) p no-entry (T-true (all (λ e. isRow n (e .row)) (entriesIn rows slots)) (s .each)) i)) (s .atoms))
 
   -- the slot that the code lends
-  pub stored-part : (p : ℕ) → p < rows → Stored n (take ((168 * p + 168) - 168 * p) (drop (168 * p) slots))
+  pub stored-part : (p : ℕ) → p < rows → Stored n (take ((slotWords * p + slotWords) - slotWords * p) (drop (slotWords * p) slots))
   stored-part p l = subst (Stored n) (sym (slot-code slots p)) (stored-at p l)
 
   hit-kept : (p : ℕ) → p < rows → Standing n rows rs (hitWords p slots) held cut

@@ -19,11 +19,9 @@ use model::DeduceAnswer;
 use model::Deduction;
 use model::NextAnswer;
 use model::OutputCursor;
+use model::SLOT_WORDS;
 use tier::hit;
 use words::decide_literal;
-
-// The words of a slot.
-const SLOT_WORDS: usize = 168;
 
 // How far a closing came: it goes on, a decision was false, or a tick was not made.
 pub enum Ending {

@@ -14,7 +14,7 @@ use Rattle.lists.proofs.Concats.{Blocks, length-blocks, block-more}
 use Rattle.lists.proofs.Pads.{drop-zeros}
 use Rattle.words.specs.Region.{maxAtoms}
 use Rattle.words.proofs.Bools.{T-true, T-of}
-use Rattle.model.specs.Records.{Entry, isRow}
+use Rattle.model.specs.Records.{Entry, isRow, slotWords}
 use Rattle.model.specs.Slots.{slotOf, slotsOf, entriesIn}
 use Rattle.model.proofs.Slots.{Valid, valid-of, AllValid, slot-length, decode-encode, entries-length}
 use Rattle.tier.specs.Tier.{tierOf, Held, keptBy, closedUp}
@@ -137,10 +137,10 @@ module _ (rows : ℕ) (ws : List ℕ) (k : Held rows ws) (e : Entry) (v : isRow 
       let n = entries-length rows ws in
       ap (slotPut p e) (sym (k .same)) ∙ put-slot tier p es e (holding rows ws k .valid) valid (omega arith)
 
-  blocks : Blocks slotOf 168 es
+  blocks : Blocks slotOf slotWords es
   blocks i d l = slot-length (getD es i d) (valid-at i es d (holding rows ws k .valid) l)
 
-  more : Blocks slotOf 168 (es ++ (e ∷ []))
+  more : Blocks slotOf slotWords (es ++ (e ∷ []))
   more i d l =
       slot-length (getD (es ++ (e ∷ [])) i d)
       (valid-at i (es ++ (e ∷ [])) d (rows-valid maxAtoms (es ++ (e ∷ [])) (all-placed (λ x. isRow maxAtoms (x .row)) After (λ j. false) es e rows-held v)) l)
@@ -150,13 +150,13 @@ module _ (rows : ℕ) (ws : List ℕ) (k : Held rows ws) (e : Entry) (v : isRow 
   unfolding slotsOf pad
   put-after l =
       let n : length es ≡ rows = entries-length rows ws in
-      let z : ℕ = 168 * tier - length (concat (map slotOf es)) in
+      let z : ℕ = slotWords * tier - length (concat (map slotOf es)) in
       let w : ws ≡ concat (map slotOf es) ++ replicate z 0 = sym (k .same) in
-      let b : length (concat (map slotOf es)) ≡ 168 * length es = length-blocks slotOf 168 es blocks in
-      let c : length (concat (map slotOf (es ++ (e ∷ [])))) ≡ 168 * length (es ++ (e ∷ [])) = length-blocks slotOf 168 (es ++ (e ∷ [])) more in
+      let b : length (concat (map slotOf es)) ≡ slotWords * length es = length-blocks slotOf slotWords es blocks in
+      let c : length (concat (map slotOf (es ++ (e ∷ [])))) ≡ slotWords * length (es ++ (e ∷ [])) = length-blocks slotOf slotWords (es ++ (e ∷ [])) more in
       let d : length (es ++ (e ∷ [])) ≡ length es + 1 = length-append es (e ∷ []) in
-      let y : z - 168 ≡ 168 * tier - length (concat (map slotOf (es ++ (e ∷ [])))) = omega arith in
-      ap (λ (x : List ℕ). take (168 * rows) ws ++ (slotOf e ++ x)) (sym (drop-drop 168 (168 * rows) ws))
-      ∙ ap₂ (λ (m : ℕ) (x : List ℕ). take (168 * m) x ++ (slotOf e ++ drop 168 (drop (168 * m) x))) (sym n) w
-      ∙ block-more slotOf 168 es e (replicate z 0) blocks
-      ∙ ap (λ (x : List ℕ). concat (map slotOf (es ++ (e ∷ []))) ++ x) (drop-zeros z 168 ∙ ap (λ (m : ℕ). replicate m 0) y)
+      let y : z - slotWords ≡ slotWords * tier - length (concat (map slotOf (es ++ (e ∷ [])))) = omega arith in
+      ap (λ (x : List ℕ). take (slotWords * rows) ws ++ (slotOf e ++ x)) (sym (drop-drop slotWords (slotWords * rows) ws))
+      ∙ ap₂ (λ (m : ℕ) (x : List ℕ). take (slotWords * m) x ++ (slotOf e ++ drop slotWords (drop (slotWords * m) x))) (sym n) w
+      ∙ block-more slotOf slotWords es e (replicate z 0) blocks
+      ∙ ap (λ (x : List ℕ). concat (map slotOf (es ++ (e ∷ []))) ++ x) (drop-zeros z slotWords ∙ ap (λ (m : ℕ). replicate m 0) y)

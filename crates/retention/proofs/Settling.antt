@@ -11,7 +11,7 @@ use borrow.Author.Tests.{le-leb, lt-leb}
 use Rattle.lists.specs.Lists.{pad, zeroed}
 use Rattle.lists.proofs.Pads.{pad-zeroed}
 use Rattle.model.specs.declared.Header.{Header}
-use Rattle.model.specs.Records.{Row, Entry, Ledger, header, plus, rowsOf, withRows, withAdded, withHits}
+use Rattle.model.specs.Records.{Row, Entry, Ledger, header, plus, rowsOf, withRows, withAdded, withHits, postingWords}
 use Rattle.model.specs.Slots.{slotsOf}
 use Rattle.model.specs.Postings.{filed}
 use Rattle.model.specs.Retention.{halved, settle}
@@ -23,11 +23,11 @@ unfolding halved
 halved-length es = length-map es (λ e. withHits e (e .hits / 2))
 
 -- stale postings are zeros
-filed-stale : (tier : ℕ) (rs : List Row) (postings : List ℕ) → length postings ≡ 80 * tier → zeroed postings ≡ filed tier true rs
+filed-stale : (tier : ℕ) (rs : List Row) (postings : List ℕ) → length postings ≡ postingWords * tier → zeroed postings ≡ filed tier true rs
 unfolding filed
 filed-stale tier rs postings e = sym (pad-zeroed postings) ∙ ap (λ (n : ℕ). pad n []) e
 
-module _ (h : Header) (rows evicted : ℕ) (postings : List ℕ) (wide : length postings ≡ 80 * h .limits .«tier_rows») where
+module _ (h : Header) (rows evicted : ℕ) (postings : List ℕ) (wide : length postings ≡ postingWords * h .limits .«tier_rows») where
   -- the header that the code makes, at the epoch e
   abbrev after : ℕ → ℕ → Header
   after e born =

@@ -6,7 +6,7 @@ use Prim.Native.Nat.{ℕ, _+_, _*_, _≤_, _<_}
 use native.Mathlib.Omega.{arith}
 use lib.ListN.{length, set, length-append, length-set}
 use Rattle.words.specs.Region.{maxAtoms}
-use Rattle.model.specs.Records.{Entry, isRow}
+use Rattle.model.specs.Records.{Entry, isRow, slotWords}
 use Rattle.model.specs.Slots.{slotsOf, rowIn, entriesIn}
 use Rattle.tier.specs.Tier.{tierOf, Held, closedUp}
 use Rattle.model.proofs.Slots.{entries-length}
@@ -18,20 +18,20 @@ use Rattle.retention.specs.Places.{placedBy, Fits, Placing, slotPut}
 use Rattle.retention.proofs.Placing.{Rows, all-placed, rows-held, tier-slots, entries-back, held-slots, put-held, put-after}
 
 -- a position within the rows, or the next one of a tier that is not full, has its slot
-slot-inside : (rows q : ℕ) (slots : List ℕ) → Held rows slots → q < tierOf slots → 168 * q + 168 ≤ length slots
+slot-inside : (rows q : ℕ) (slots : List ℕ) → Held rows slots → q < tierOf slots → slotWords * q + slotWords ≤ length slots
 slot-inside rows q slots k l = let a = holding rows slots k .long in omega arith
 
 module _ (room : Room) (rows : ℕ) (slots p : List ℕ) (k : Placing room rows slots p) where
   fits-as : {r : Room} → room ≡ r → Fits r rows (tierOf slots)
   fits-as e = subst (λ (r : Room). Fits r rows (tierOf slots)) e (k .fits)
 
-  pub after-inside : room ≡ After → 168 * rows + 168 ≤ length slots
+  pub after-inside : room ≡ After → slotWords * rows + slotWords ≤ length slots
   after-inside e = slot-inside rows rows slots (k .held) (fits-as e)
 
-  pub first-inside : (t : ℕ) → room ≡ First t → 168 * t + 168 ≤ length slots
+  pub first-inside : (t : ℕ) → room ≡ First t → slotWords * t + slotWords ≤ length slots
   first-inside t e = let l : t < rows = fits-as e in let f = k .held .few in slot-inside rows t slots (k .held) (omega arith)
 
-  pub victim-inside : (v : ℕ) → room ≡ Victim v → 168 * v + 168 ≤ length slots
+  pub victim-inside : (v : ℕ) → room ≡ Victim v → slotWords * v + slotWords ≤ length slots
   victim-inside v e = let l : v < rows = fits-as e in let f = k .held .few in slot-inside rows v slots (k .held) (omega arith)
 
   pub first-before : (t : ℕ) → room ≡ First t → t < rows

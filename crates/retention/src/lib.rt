@@ -29,12 +29,13 @@ use meter::Read;
 use meter::Verdict;
 use model::Header;
 use model::LearningLimits;
+use model::MAX_ROWS;
+use model::SLOT_WORDS;
 use words::Found;
+use words::WORD_BITS;
 use writer::Form;
 use writer::prepare;
 use writer::write_row;
-
-const SLOT_WORDS: usize = 168;
 
 // Where a proposal goes that no row subsumes: after all rows, into the first place that it replaces, into a victim's place, or nowhere,
 // because the floor protects the rows.
@@ -347,7 +348,7 @@ pub fn retain(
     ensures { λ r. ⌜ retainEnd r (now (slots .exit)) (now (postings .exit))
         ≡ endOf (retainOf (ledgerIn (lent header (now (slots .entry)) (now (postings .entry)))) most hits (rowIn (now (p .entry))) (Paid account work)) ⌝ }
 {
-    let mut replaced = [0u64; 64];
+    let mut replaced = [0u64; (MAX_ROWS / WORD_BITS) as usize];
     let beside = compare(
         slots,
         header.rows as usize,

@@ -15,6 +15,7 @@ use borrow.Author.Tests.{eq-eqb, ne-eqb, lt-ltb, le-ltb, le-leb, lt-leb}
 use Rattle.lists.specs.Lists.{distinct}
 use Rattle.lists.proofs.Sorts.{distinct-one, distinct-same, distinct-other, distinct-short}
 use Rattle.words.specs.Literal.{atom, wordOf}
+use Rattle.model.specs.Records.{maxOutputs}
 use Rattle.model.specs.Rows.{enter, groups}
 use Rattle.slotcheck.specs.Check.{key, climbs, shifted, room, groupOk, groupsOk, codeCount, noSide, sideCodes}
 use Rattle.slotcheck.proofs.Groups.{groups-head, group-passed}
@@ -188,7 +189,7 @@ unfolding sideCodes
 side-is apart n ws b e = ap (λ (d : Bool). elim d as (λ k. ℕ) [ true ↦ codeCount ws | false ↦ noSide ]) e
 
 -- both tests of a side at once
-pub side-test : (apart : Bool) (n m : ℕ) (ws : List ℕ) → m ≤ 64 → eqb (sideCodes apart n ws) m ≡ (groupsOk apart n 0 ws && eqb (codeCount ws) m)
+pub side-test : (apart : Bool) (n m : ℕ) (ws : List ℕ) → m ≤ maxOutputs → eqb (sideCodes apart n ws) m ≡ (groupsOk apart n 0 ws && eqb (codeCount ws) m)
 unfolding sideCodes
 side-test apart n m ws h = go (groupsOk apart n 0 ws)
   where

@@ -14,7 +14,7 @@ use Rattle.lists.specs.Lists.{all, same, concat, ascending, above, below, pad, 
 use Rattle.lists.proofs.Tests.{and-both, and-yes, same-yes, same-true}
 use Rattle.lists.proofs.Concats.{concat-map-append}
 use Rattle.words.specs.Literal.{atom}
-use Rattle.model.specs.Records.{Row, Entry, isRow, isRowOver, within, literals}
+use Rattle.model.specs.Records.{Row, Entry, isRow, isRowOver, within, literals, slotWords, maxConditions, maxOutputs}
 use Rattle.model.specs.Rows.{groups, groupCount, packed}
 use Rattle.model.specs.Slots.{groupWords, ungroup, ifPacked, flag, body, slotOf, rowIn, entryIn}
 use Rattle.model.proofs.Packing.{Asc, Under, words-length, unpack-pack}
@@ -64,8 +64,8 @@ map-key (x ∷ xs) = ap (λ (l : List ℕ). x ∷ l) (map-key xs)
 
 -- ---- a row by its parts
 pub record Parts (n : ℕ) (r : Row) : Type 0 where
-  pub few : length (r .conditions) ≤ 16
-  pub many : length (r .outputs) ≤ 64
+  pub few : length (r .conditions) ≤ maxConditions
+  pub many : length (r .outputs) ≤ maxOutputs
   pub conditionsUnder : below (2 * n) (r .conditions) ≡ true
   pub outputsUnder : below (2 * n) (r .outputs) ≡ true
   pub conditionsRise : ascending (map atom (r .conditions)) ≡ true
@@ -74,14 +74,14 @@ pub record Parts (n : ℕ) (r : Row) : Type 0 where
 pub row-parts : (n : ℕ) (r : Row) → isRow n r ≡ true → Parts n r
 unfolding isRow within isRowOver
 row-parts n r e =
-    let s = and-both (within 16 64 r) (isRowOver n r) e in
-    let w = and-both (leb (length (r .conditions)) 16) (leb (length (r .outputs)) 64) (s .0) in
+    let s = and-both (within maxConditions maxOutputs r) (isRowOver n r) e in
+    let w = and-both (leb (length (r .conditions)) maxConditions) (leb (length (r .outputs)) maxOutputs) (s .0) in
     let o = and-both (below (2 * n) (r .conditions) && below (2 * n) (r .outputs)) (ascending (map atom (r .conditions)) && ascending (r .outputs)) (s .1) in
     let u = and-both (below (2 * n) (r .conditions)) (below (2 * n) (r .outputs)) (o .0) in
     let a = and-both (ascending (map atom (r .conditions))) (ascending (r .outputs)) (o .1) in
     record {
-      few = leb-true (length (r .conditions)) 16 (w .0);
-      many = leb-true (length (r .outputs)) 64 (w .1);
+      few = leb-true (length (r .conditions)) maxConditions (w .0);
+      many = leb-true (length (r .outputs)) maxOutputs (w .1);
       conditionsUnder = u .0;
       outputsUnder = u .1;
       conditionsRise = a .0;
@@ -91,7 +91,7 @@ row-parts n r e =
 pub parts-row : (n : ℕ) (r : Row) → Parts n r → isRow n r ≡ true
 unfolding isRow within isRowOver
 parts-row n r p =
-    and-yes _ _ (and-yes _ _ (le-leb (length (r .conditions)) 16 (p .few)) (le-leb (length (r .outputs)) 64 (p .many)))
+    and-yes _ _ (and-yes _ _ (le-leb (length (r .conditions)) maxConditions (p .few)) (le-leb (length (r .outputs)) maxOutputs (p .many)))
     (and-yes _ _ (and-yes _ _ (p .conditionsUnder) (p .outputsUnder)) (and-yes _ _ (p .conditionsRise) (p .outputsRise)))
 
 -- ---- the words of a slot by the form of its row
@@ -99,14 +99,14 @@ abbrev pub words : List ℕ → List ℕ
 words cs = concat (map groupWords (groups cs))
 
 tail : Row → List ℕ
-tail r = body r ++ replicate (160 - length (body r)) 0
+tail r = body r ++ replicate (slotWords - 8 - length (body r)) 0
 
 shape : (e : Entry) → slotOf e ≡ length (e .row .conditions) ∷ length (e .row .outputs) ∷ ifPacked (e .row) (groupCount (e .row))
     ∷ ifPacked (e .row) (length (groups (e .row .conditions))) ∷ e .hits ∷ e .unshared ∷ e .born ∷ flag (e .delivered) ∷ tail (e .row)
 unfolding slotOf pad tail
 shape e =
     let r : Row = e .row in
-    let n : 168 - suc (suc (suc (suc (suc (suc (suc (suc (length (body r))))))))) ≡ 160 - length (body r) = omega arith in
+    let n : slotWords - suc (suc (suc (suc (suc (suc (suc (suc (length (body r))))))))) ≡ slotWords - 8 - length (body r) = omega arith in
     ap (λ (k : ℕ). length (r .conditions) ∷ length (r .outputs) ∷ ifPacked r (groupCount r)
     ∷ ifPacked r (length (groups (r .conditions))) ∷ e .hits ∷ e .unshared ∷ e .born ∷ flag (e .delivered) ∷ (body r ++ replicate k 0)) n
 
@@ -192,7 +192,7 @@ module _ (n : ℕ) (ws : List ℕ) (row : isRow n (rowIn ws) ≡ true) (words-ar
       let f = flag-small (eqb (getD ws 7 0) 1) in
       let p = parts .few in
       let q = parts .many in
-      and-yes _ _ (and-yes _ _ (le-leb (getD ws 0 0) 16 (omega arith)) (le-leb (getD ws 1 0) 64 (omega arith)))
+      and-yes _ _ (and-yes _ _ (le-leb (getD ws 0 0) maxConditions (omega arith)) (le-leb (getD ws 1 0) maxOutputs (omega arith)))
       (and-yes _ _ b6 (le-leb (getD ws 7 0) 1 (omega arith)))
 
   scalar-there : packed r ≡ false → (eqb (getD ws 2 0) 0 ≡ true) × (scalarOk n ws ≡ true)
@@ -200,7 +200,7 @@ module _ (n : ℕ) (ws : List ℕ) (row : isRow n (rowIn ws) ≡ true) (words-ar
   scalar-there k =
       let c : List ℕ = r .conditions in
       let o : List ℕ = r .outputs in
-      let z : List ℕ = replicate (160 - length (body r)) 0 in
+      let z : List ℕ = replicate (slotWords - 8 - length (body r)) 0 in
       let nc : ℕ = getD ws 0 0 in
       let no : ℕ = getD ws 1 0 in
       let d8 : drop 8 ws ≡ (c ++ o) ++ z = at8 ∙ ap (λ (l : List ℕ). l ++ z) (body-scalar r k) in
@@ -220,7 +220,7 @@ module _ (n : ℕ) (ws : List ℕ) (row : isRow n (rowIn ws) ≡ true) (words-ar
             (ap (climbs false (2 * n) 0) eo ∙ climbs-outputs (2 * n) o ∙ and-yes _ _ (parts .outputsUnder) (parts .outputsRise)))
             (and-yes _ _
             (ap₂ (λ (x y : List ℕ). leb (2 * (nc + no)) (3 * (length (groups x) + length (groups y)))) ec eo ∙ le-leb (2 * (nc + no)) (3 * groupsOf r) (omega arith))
-            (ap allZero ez ∙ zeros-there (160 - length (body r))))),
+            (ap allZero ez ∙ zeros-there (slotWords - 8 - length (body r))))),
       )
 
   -- the groups of one side
@@ -235,7 +235,7 @@ module _ (n : ℕ) (ws : List ℕ) (row : isRow n (rowIn ws) ≡ true) (words-ar
   packed-there k =
       let c : List ℕ = r .conditions in
       let o : List ℕ = r .outputs in
-      let z : List ℕ = replicate (160 - length (body r)) 0 in
+      let z : List ℕ = replicate (slotWords - 8 - length (body r)) 0 in
       let nc : ℕ = getD ws 0 0 in
       let no : ℕ = getD ws 1 0 in
       let w : ℕ = getD ws 2 0 in
@@ -263,7 +263,7 @@ module _ (n : ℕ) (ws : List ℕ) (row : isRow n (rowIn ws) ≡ true) (words-ar
             (and-yes _ _ (ap (groupsOk true n 0) ec ∙ sc .0) (ap (groupsOk false n 0) eo ∙ so .0))
             (and-yes _ _
             (and-yes _ _ (eq-eqb _ nc (ap codeCount ec ∙ sc .1 ∙ sym at0)) (eq-eqb _ no (ap codeCount eo ∙ so .1 ∙ sym at1)))
-            (ap allZero ez ∙ zeros-there (160 - length (body r))))),
+            (ap allZero ez ∙ zeros-there (slotWords - 8 - length (body r))))),
       )
 
   form-there : (elim (eqb (getD ws 2 0) 0) [ true ↦ scalarOk n ws | false ↦ packedOk n ws ]) ≡ true
@@ -327,17 +327,17 @@ head-eq : (a b x y d a′ b′ x′ y′ d′ : ℕ) (t t′ : List ℕ) (h u k 
 head-eq a b x y d a′ b′ x′ y′ d′ t t′ h u k p q r s v w = cc
 
 -- a body of m words, and zeros after it
-fill-back : (ds b : List ℕ) (m : ℕ) → length ds ≡ 160 → m ≤ 160 → b ≡ take m ds → allZero (drop m ds) ≡ true → b ++ replicate (160 - length b) 0 ≡ ds
+fill-back : (ds b : List ℕ) (m : ℕ) → length ds ≡ slotWords - 8 → m ≤ slotWords - 8 → b ≡ take m ds → allZero (drop m ds) ≡ true → b ++ replicate (slotWords - 8 - length b) 0 ≡ ds
 unfolding zeroed
 fill-back ds b m l h e z =
     let lb : length b ≡ m = ap length e ∙ length-take-le m ds (omega arith) in
-    let lz : 160 - length b ≡ length (drop m ds) = omega (arith, length-drop m ds) in
-    let zs : replicate (160 - length b) 0 ≡ drop m ds = ap (λ (k : ℕ). replicate k 0) lz ∙ sym (same-true (drop m ds) (zeroed (drop m ds)) z) in
+    let lz : slotWords - 8 - length b ≡ length (drop m ds) = omega (arith, length-drop m ds) in
+    let zs : replicate (slotWords - 8 - length b) 0 ≡ drop m ds = ap (λ (k : ℕ). replicate k 0) lz ∙ sym (same-true (drop m ds) (zeroed (drop m ds)) z) in
     _∙_ {b = take m ds ++ drop m ds} (ap₂ (λ (x y : List ℕ). x ++ y) e zs) (take-append-drop m ds)
 
-tail-is : (r : Row) (b : List ℕ) → body r ≡ b → tail r ≡ b ++ replicate (160 - length b) 0
+tail-is : (r : Row) (b : List ℕ) → body r ≡ b → tail r ≡ b ++ replicate (slotWords - 8 - length b) 0
 unfolding tail
-tail-is r b e = ap (λ (l : List ℕ). l ++ replicate (160 - length l) 0) e
+tail-is r b e = ap (λ (l : List ℕ). l ++ replicate (slotWords - 8 - length l) 0) e
 
 scalar-form : (r : Row) → 2 * codesIn r ≤ 3 * groupsOf r → packed r ≡ false
 unfolding packed groupCount literals
@@ -364,8 +364,8 @@ pub row-packed : (ws : List ℕ) → (getD ws 2 0 ≡ 0 → ⊥) → rowIn ws �
 unfolding rowIn
 row-packed ws z = ap (λ (b : Bool). elim b as (λ k. Row) [ true ↦ scalarRow ws | false ↦ packedRow ws ]) (ne-eqb (getD ws 2 0) 0 z)
 
-module _ (n born : ℕ) (ws : List ℕ) (long : length ws ≡ 168) where
-  ds-long : length (drop 8 ws) ≡ 160
+module _ (n born : ℕ) (ws : List ℕ) (long : length ws ≡ slotWords) where
+  ds-long : length (drop 8 ws) ≡ slotWords - 8
   ds-long = omega (arith, length-drop 8 ws)
 
   -- a row over n whose slot these words are
@@ -381,7 +381,7 @@ module _ (n born : ℕ) (ws : List ℕ) (long : length ws ≡ 168) where
         ∙ head-eq _ _ _ _ _ _ _ _ _ _ _ _ (getD ws 4 0) (getD ws 5 0) (getD ws 6 0) a b c d (flag-back (getD ws 7 0) flagged) t
         ∙ sym (eight ws (omega arith)))))
 
-    scalar-back : getD ws 0 0 ≤ 16 → getD ws 1 0 ≤ 64 → getD ws 2 0 ≡ 0 → scalarOk n ws ≡ true → slotOk n born ws ≡ true
+    scalar-back : getD ws 0 0 ≤ maxConditions → getD ws 1 0 ≤ maxOutputs → getD ws 2 0 ≡ 0 → scalarOk n ws ≡ true → slotOk n born ws ≡ true
     unfolding scalarOk
     scalar-back few many z ok =
         let nc : ℕ = getD ws 0 0 in
@@ -411,7 +411,7 @@ module _ (n born : ℕ) (ws : List ℕ) (long : length ws ≡ 168) where
         (if-packed r false (length (groups c)) pk ∙ sym (eqb-true (getD ws 3 0) 0 (s .0)))
         (tail-is r (c ++ o) (body-scalar r pk) ∙ fill-back (drop 8 ws) (c ++ o) (nc + no) ld (omega arith) eb (v .1))
 
-    packed-back : getD ws 0 0 ≤ 16 → getD ws 1 0 ≤ 64 → (getD ws 2 0 ≡ 0 → ⊥) → packedOk n ws ≡ true → slotOk n born ws ≡ true
+    packed-back : getD ws 0 0 ≤ maxConditions → getD ws 1 0 ≤ maxOutputs → (getD ws 2 0 ≡ 0 → ⊥) → packedOk n ws ≡ true → slotOk n born ws ≡ true
     unfolding packedOk groupCount
     packed-back few many z ok =
         let nc : ℕ = getD ws 0 0 in
@@ -464,15 +464,15 @@ module _ (n born : ℕ) (ws : List ℕ) (long : length ws ≡ 168) where
   unfolding wordsPass headOk
   passed ok =
       let s = and-both (headOk born ws) _ ok in
-      let h = and-both (leb (getD ws 0 0) 16 && leb (getD ws 1 0) 64) _ (s .0) in
-      let a = and-both (leb (getD ws 0 0) 16) (leb (getD ws 1 0) 64) (h .0) in
+      let h = and-both (leb (getD ws 0 0) maxConditions && leb (getD ws 1 0) maxOutputs) _ (s .0) in
+      let a = and-both (leb (getD ws 0 0) maxConditions) (leb (getD ws 1 0) maxOutputs) (h .0) in
       let b = and-both (leb 1 (getD ws 6 0) && leb (getD ws 6 0) born) (leb (getD ws 7 0) 1) (h .1) in
-      let few = leb-true (getD ws 0 0) 16 (a .0) in
-      let many = leb-true (getD ws 1 0) 64 (a .1) in
+      let few = leb-true (getD ws 0 0) maxConditions (a .0) in
+      let many = leb-true (getD ws 1 0) maxOutputs (a .1) in
       let flagged = leb-true (getD ws 7 0) 1 (b .1) in
       by (ℕ-discrete (getD ws 2 0) 0) few many (b .0) flagged (s .1)
     where
-      by : Dec (getD ws 2 0 ≡ 0) → getD ws 0 0 ≤ 16 → getD ws 1 0 ≤ 64 → (leb 1 (getD ws 6 0) && leb (getD ws 6 0) born) ≡ true → getD ws 7 0 ≤ 1 →
+      by : Dec (getD ws 2 0 ≡ 0) → getD ws 0 0 ≤ maxConditions → getD ws 1 0 ≤ maxOutputs → (leb 1 (getD ws 6 0) && leb (getD ws 6 0) born) ≡ true → getD ws 7 0 ≤ 1 →
           (elim (eqb (getD ws 2 0) 0) as (λ k. Bool) [ true ↦ scalarOk n ws | false ↦ packedOk n ws ]) ≡ true → slotOk n born ws ≡ true
       by (yes z) few many b f t =
           scalar-back b f few many z (sym (ap (λ (q : Bool). elim q as (λ k. Bool) [ true ↦ scalarOk n ws | false ↦ packedOk n ws ]) (eq-eqb (getD ws 2 0) 0 z)) ∙ t)
@@ -480,5 +480,5 @@ module _ (n born : ℕ) (ws : List ℕ) (long : length ws ≡ 168) where
           packed-back b f few many z (sym (ap (λ (q : Bool). elim q as (λ k. Bool) [ true ↦ scalarOk n ws | false ↦ packedOk n ws ]) (ne-eqb (getD ws 2 0) 0 z)) ∙ t)
 
 -- the tests are the definition
-pub words-slot : (n born : ℕ) (ws : List ℕ) → length ws ≡ 168 → wordsPass n born ws ≡ slotOk n born ws
+pub words-slot : (n born : ℕ) (ws : List ℕ) → length ws ≡ slotWords → wordsPass n born ws ≡ slotOk n born ws
 words-slot n born ws long = bool-iff (wordsPass n born ws) (slotOk n born ws) (passed n born ws long) (passes n born ws)

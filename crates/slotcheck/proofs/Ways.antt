@@ -9,6 +9,7 @@ use lib.ListN.{length, getD, take, drop, length-drop}
 use lib.Seq.{drop-drop, take-all}
 use borrow.Author.Tests.{eq-eqb, ne-eqb, lt-ltb, le-ltb, le-leb, lt-leb}
 use Rattle.lists.proofs.Tests.{and-yes}
+use Rattle.model.specs.Records.{slotWords, maxConditions, maxOutputs}
 use Rattle.model.specs.Rows.{groups}
 use Rattle.slotcheck.specs.Check.{climbs, groupsOk, codeCount, sideCodes, allZero, headOk, scalarOk, packedOk, wordsPass, slotOk}
 use Rattle.slotcheck.proofs.Loops.{runs, groups-runs, side-test}
@@ -179,14 +180,14 @@ module _ (n : ℕ) (ws : List ℕ) where
   next-groups : g ≤ w → take ((8 + 3 * w) - (8 + 3 * g)) (drop (8 + 3 * g) ws) ≡ qs
   next-groups h = next-part ws 8 (3 * g) (8 + 3 * w) (3 * (w - g)) (omega arith)
 
-  module _ (few : kc ≤ 16) (most : ko ≤ 64) where
+  module _ (few : kc ≤ maxConditions) (most : ko ≤ maxOutputs) where
     pub packed-many : 53 < w → false ≡ packedOk n ws
     packed-many h = packed-form (omega arith)
 
     packed-sides : packedOk n ws ≡ ((t1 && t2) && ((u1 && u2) && t7))
     unfolding packedOk
     packed-sides =
-        let m : kc ≤ 64 = omega arith in
+        let m : kc ≤ maxOutputs = omega arith in
         ap (λ (b : Bool). (t1 && t2) && b)
         (by-sides t3 t4 t5 t6 t7 ∙ sym (ap₂ (λ (x y : Bool). (x && y) && t7) (side-test true n kc ps m) (side-test false n ko qs most)))
 
@@ -212,13 +213,13 @@ module _ (n : ℕ) (ws : List ℕ) where
           ∙ sym packed-sides
 
 -- ---- a slot
-module _ (n born : ℕ) (ws : List ℕ) (long : length ws ≡ 168) where
+module _ (n born : ℕ) (ws : List ℕ) (long : length ws ≡ slotWords) where
   -- the tests of the head, and of the body
   abbrev h1 : Bool
-  h1 = leb (getD ws 0 0) 16
+  h1 = leb (getD ws 0 0) maxConditions
 
   abbrev h2 : Bool
-  h2 = leb (getD ws 1 0) 64
+  h2 = leb (getD ws 1 0) maxOutputs
 
   abbrev h3 : Bool
   h3 = leb 1 (getD ws 6 0)
@@ -236,13 +237,13 @@ module _ (n born : ℕ) (ws : List ℕ) (long : length ws ≡ 168) where
   unfolding wordsPass
   head-no e = sym (no-left (headOk born ws) formed e) ∙ words-slot n born ws long
 
-  pub slot-conditions : 16 < getD ws 0 0 → false ≡ slotOk n born ws
+  pub slot-conditions : maxConditions < getD ws 0 0 → false ≡ slotOk n born ws
   unfolding headOk
-  slot-conditions h = head-no (no-left (h1 && h2) ((h3 && h4) && h5) (no-left h1 h2 (lt-leb (getD ws 0 0) 16 h)))
+  slot-conditions h = head-no (no-left (h1 && h2) ((h3 && h4) && h5) (no-left h1 h2 (lt-leb (getD ws 0 0) maxConditions h)))
 
-  pub slot-outputs : 64 < getD ws 1 0 → false ≡ slotOk n born ws
+  pub slot-outputs : maxOutputs < getD ws 1 0 → false ≡ slotOk n born ws
   unfolding headOk
-  slot-outputs h = head-no (no-left (h1 && h2) ((h3 && h4) && h5) (no-right h1 h2 (lt-leb (getD ws 1 0) 64 h)))
+  slot-outputs h = head-no (no-left (h1 && h2) ((h3 && h4) && h5) (no-right h1 h2 (lt-leb (getD ws 1 0) maxOutputs h)))
 
   pub slot-unborn : getD ws 6 0 < 1 → false ≡ slotOk n born ws
   unfolding headOk
@@ -256,11 +257,11 @@ module _ (n born : ℕ) (ws : List ℕ) (long : length ws ≡ 168) where
   unfolding headOk
   slot-flag h = head-no (no-right (h1 && h2) ((h3 && h4) && h5) (no-right (h3 && h4) h5 (lt-leb (getD ws 7 0) 1 h)))
 
-  module _ (a : getD ws 0 0 ≤ 16) (b : getD ws 1 0 ≤ 64) (c : 1 ≤ getD ws 6 0) (d : getD ws 6 0 ≤ born) (e : getD ws 7 0 ≤ 1) where
+  module _ (a : getD ws 0 0 ≤ maxConditions) (b : getD ws 1 0 ≤ maxOutputs) (c : 1 ≤ getD ws 6 0) (d : getD ws 6 0 ≤ born) (e : getD ws 7 0 ≤ 1) where
     head-yes : headOk born ws ≡ true
     unfolding headOk
     head-yes =
-        ap₂ (λ (x y : Bool). x && y) (ap₂ (λ (x y : Bool). x && y) (le-leb (getD ws 0 0) 16 a) (le-leb (getD ws 1 0) 64 b))
+        ap₂ (λ (x y : Bool). x && y) (ap₂ (λ (x y : Bool). x && y) (le-leb (getD ws 0 0) maxConditions a) (le-leb (getD ws 1 0) maxOutputs b))
         (ap₂ (λ (x y : Bool). x && y) (ap₂ (λ (x y : Bool). x && y) (le-leb 1 (getD ws 6 0) c) (le-leb (getD ws 6 0) born d)) (le-leb (getD ws 7 0) 1 e))
 
     pub slot-scalar : (r : Bool) → getD ws 2 0 ≡ 0 → r ≡ scalarOk n ws → r ≡ slotOk n born ws

@@ -1,12 +1,16 @@
-// The check of one slot: whether 168 words are those of a row. It reads the words where they lie, and lays out no row.
+// The check of one slot: whether its words are those of a row. It reads the words where they lie, and lays out no row.
 ghost use mathlib.Core.Path.{_≡_};
 ghost use Prim.Native.Nat.{_+_, _*_, _^_, _≤_, _<_};
 ghost use lib.Count.{ones};
 ghost use lib.Dec.{ltb};
 ghost use lib.ListN.{length, getD};
 ghost use Rattle.lists.specs.Lists.{distinct};
+ghost use Rattle.words.specs.Region.{maxAtoms};
+ghost use Rattle.model.specs.Records.{slotWords, maxConditions, maxOutputs};
 ghost use Rattle.slotcheck.specs.Check.{key, climbs, shifted, room, groupOk, sideCodes, scalarOk, packedOk, slotOk};
 use lists::all_zero;
+use model::MAX_CONDITIONS;
+use model::MAX_OUTPUTS;
 
 // The number of codes of words that are no side of a slot: no side has so many.
 const NO_SIDE: usize = 0xffff_ffff;
@@ -103,7 +107,7 @@ fn codes_in(present: u64, absent: u64) -> usize
 
 // How many codes the words hold, if they are whole groups with ascending words; else more than any side has.
 fn group_codes(words: &[u64], apart: bool, atoms: u64) -> usize
-    requires { ⌜ length (now words) ≤ 168 ⌝ }
+    requires { ⌜ length (now words) ≤ slotWords ⌝ }
     ensures { λ r. ⌜ r ≡ sideCodes apart atoms (now (words .entry)) ⌝ }
 {
     let mut least: u64 = 0;
@@ -128,7 +132,7 @@ fn group_codes(words: &[u64], apart: bool, atoms: u64) -> usize
 
 // The scalar form: the codes in order, too few to be packed, and zeros after them.
 fn is_scalar(slot: &[u64], atoms: u64) -> bool
-    requires { ⌜ length (now slot) ≡ 168 ⌝ ∗ ⌜ getD (now slot) 0 0 ≤ 16 ⌝ ∗ ⌜ getD (now slot) 1 0 ≤ 64 ⌝ ∗ ⌜ atoms ≤ 32768 ⌝ }
+    requires { ⌜ length (now slot) ≡ slotWords ⌝ ∗ ⌜ getD (now slot) 0 0 ≤ maxConditions ⌝ ∗ ⌜ getD (now slot) 1 0 ≤ maxOutputs ⌝ ∗ ⌜ atoms ≤ maxAtoms ⌝ }
     ensures { λ r. ⌜ r ≡ scalarOk atoms (now (slot .entry)) ⌝ }
 {
     if slot[3] != 0 {
@@ -153,7 +157,7 @@ fn is_scalar(slot: &[u64], atoms: u64) -> bool
 
 // The packed form: the groups in order, few enough, as many codes as the slot says, and zeros after them.
 fn is_packed(slot: &[u64], atoms: u64) -> bool
-    requires { ⌜ length (now slot) ≡ 168 ⌝ ∗ ⌜ getD (now slot) 0 0 ≤ 16 ⌝ ∗ ⌜ getD (now slot) 1 0 ≤ 64 ⌝ }
+    requires { ⌜ length (now slot) ≡ slotWords ⌝ ∗ ⌜ getD (now slot) 0 0 ≤ maxConditions ⌝ ∗ ⌜ getD (now slot) 1 0 ≤ maxOutputs ⌝ }
     ensures { λ r. ⌜ r ≡ packedOk atoms (now (slot .entry)) ⌝ }
 {
     let nc = slot[0] as usize;
@@ -180,15 +184,15 @@ fn is_packed(slot: &[u64], atoms: u64) -> bool
     all_zero(&slot[end..])
 }
 
-// Whether 168 words are the slot of a row over `atoms` atoms, born from 1 to `born`.
+// Whether the words are the slot of a row over `atoms` atoms, born from 1 to `born`.
 pub fn is_slot(slot: &[u64], atoms: u64, born: u64) -> bool
-    requires { ⌜ length (now slot) ≡ 168 ⌝ ∗ ⌜ atoms ≤ 32768 ⌝ }
+    requires { ⌜ length (now slot) ≡ slotWords ⌝ ∗ ⌜ atoms ≤ maxAtoms ⌝ }
     ensures { λ r. ⌜ r ≡ slotOk atoms born (now (slot .entry)) ⌝ }
 {
-    if 16 < slot[0] {
+    if MAX_CONDITIONS < slot[0] {
         return false;
     }
-    if 64 < slot[1] {
+    if MAX_OUTPUTS < slot[1] {
         return false;
     }
     if slot[6] < 1 {

@@ -1,4 +1,4 @@
--- What a check of 168 words has to see: words with the form of a row's slot are the slot of their row, and a slot has that form. Assumes nothing.
+-- What a check of the words of a slot has to see: words with the form of a row's slot are the slot of their row, and a slot has that form. Assumes nothing.
 use mathlib.Core.Path.{_≡_, refl, sym, ap, ap₂, _∙_, subst}
 use mathlib.Core.Bool.{Bool, true, false}
 use mathlib.Core.List.{List, [], _∷_, _++_, map}

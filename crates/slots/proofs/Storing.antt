@@ -12,7 +12,7 @@ use Rattle.lists.specs.Lists.{concat, pad, below, ascending}
 use Rattle.words.specs.Literal.{atom}
 use Rattle.words.proofs.Bools.{T-of}
 use Rattle.words.specs.Region.{maxAtoms, wordsFor}
-use Rattle.model.specs.Records.{Row, Entry, isRow, isRowOver, within, slotWords}
+use Rattle.model.specs.Records.{Row, Entry, isRow, isRowOver, within, slotWords, maxConditions, maxOutputs}
 use Rattle.model.specs.Rows.{groups, groupCount, packed}
 use Rattle.model.specs.Slots.{bitsOf, codesOf, groupWords, ifPacked, flag, body, slotOf, rowIn, entryIn}
 use Rattle.model.proofs.Cover.{and-left, and-right}
@@ -31,7 +31,7 @@ pub row-under : (n : ℕ) (r : Row) → T (isRow n r) → Under (2 * n) (r .cond
 unfolding isRow isRowOver
 row-under n r t =
     let both = and-left (below (2 * n) (r .conditions) && below (2 * n) (r .outputs)) (ascending (map atom (r .conditions)) && ascending (r .outputs))
-    (and-right (within 16 64 r) _ t) in (
+    (and-right (within maxConditions maxOutputs r) _ t) in (
       below-under (2 * n) (r .conditions) (and-left (below (2 * n) (r .conditions)) (below (2 * n) (r .outputs)) both),
       below-under (2 * n) (r .outputs) (and-right (below (2 * n) (r .conditions)) (below (2 * n) (r .outputs)) both),
     )
@@ -42,7 +42,7 @@ unfolding isRow isRowOver
 row-atoms n r t =
     ascending-asc (map atom (r .conditions))
     (and-left (ascending (map atom (r .conditions))) (ascending (r .outputs))
-    (and-right (below (2 * n) (r .conditions) && below (2 * n) (r .outputs)) _ (and-right (within 16 64 r) _ t)))
+    (and-right (below (2 * n) (r .conditions) && below (2 * n) (r .outputs)) _ (and-right (within maxConditions maxOutputs r) _ t)))
 
 -- ---- the words of a slot
 module _ (e : Entry) where
@@ -144,17 +144,17 @@ module _ (n : ℕ) (e : Entry) (ok : T (isRow n (e .row))) (small : n ≤ maxAto
       ws : List ℕ
       ws = slotOf e
 
-      few : getD ws 0 0 ≤ 16
-      few = subst (λ (m : ℕ). m ≤ 16) (sym (slot-conditions e)) (valid .few)
+      few : getD ws 0 0 ≤ maxConditions
+      few = subst (λ (m : ℕ). m ≤ maxConditions) (sym (slot-conditions e)) (valid .few)
 
-      most : getD ws 1 0 ≤ 64
-      most = subst (λ (m : ℕ). m ≤ 64) (sym (slot-outputs e)) (valid .many)
+      most : getD ws 1 0 ≤ maxOutputs
+      most = subst (λ (m : ℕ). m ≤ maxOutputs) (sym (slot-outputs e)) (valid .many)
 
       form : (b : Bool) → packed (e .row) ≡ b → Laid ws
       form false k =
           let z = slot-scalar e k in
           let p : getD ws 3 0 ≤ getD ws 2 0 = let x = z .0 in let y = z .1 in omega arith in
-          let w : 3 * getD ws 2 0 ≤ 160 = let x = z .0 in omega arith in
+          let w : 3 * getD ws 2 0 ≤ slotWords - 8 = let x = z .0 in omega arith in
           laid-scalar ws (slot-length e valid) (record { few = few; most = most; parts = p; words = w }) (z .0)
       form true k =
           let z = slot-packed e k in
@@ -165,7 +165,7 @@ module _ (n : ℕ) (e : Entry) (ok : T (isRow n (e .row))) (small : n ≤ maxAto
           let a = valid .few in
           let b = valid .many in
           let p : getD ws 3 0 ≤ getD ws 2 0 = omega arith in
-          let w : 3 * getD ws 2 0 ≤ 160 = omega arith in
+          let w : 3 * getD ws 2 0 ≤ slotWords - 8 = omega arith in
           let l = length-append cs os in
           laid-packed ws (slot-length e valid) (record { few = few; most = most; parts = p; words = w }) (λ q. omega arith)
           (λ g h. filled-at n ws (8 + 3 * g) (getD (cs ++ os) g []) small

@@ -33,7 +33,7 @@ pub record Counted (ws : List ℕ) : Type 0 where
   pub parts : getD ws 3 0 ≤ getD ws 2 0
   pub words : 3 * getD ws 2 0 ≤ slotWords - 8
 
--- 168 words that hold a row, in either form, as `prepare` leaves it or as a scalar proposal
+-- the words of a slot that hold a row, in either form, as `prepare` leaves it or as a scalar proposal
 pub record Laid (ws : List ℕ) : Type 0 where
   pub long : length ws ≡ slotWords
   pub counted : Counted ws
@@ -44,7 +44,7 @@ pub record Laid (ws : List ℕ) : Type 0 where
   pub conditionCount : length (rowIn ws .conditions) ≡ getD ws 0 0
   pub outputCount : length (rowIn ws .outputs) ≡ getD ws 1 0
 
--- 168 words that are the slot of a row over n atoms: what a ledger that was accepted holds
+-- words that are the slot of a row over n atoms: what a ledger that was accepted holds
 pub record Stored (n : ℕ) (ws : List ℕ) : Type 0 where
   pub atoms : n ≤ maxAtoms
   pub row : T (isRow n (rowIn ws))

@@ -35,7 +35,7 @@ laid-append (x ∷ xs) ys =
     laid-cons x (xs ++ ys) ∙ ap (λ (l : List ℕ). slotOf x ++ l) (laid-append xs ys) ∙ sym (append-assoc (slotOf x) (laid xs) (laid ys))
     ∙ ap (λ (l : List ℕ). l ++ laid ys) (sym (laid-cons x xs))
 
-pub laid-length : (es : List Entry) → AllValid es → length (laid es) ≡ 168 * length es
+pub laid-length : (es : List Entry) → AllValid es → length (laid es) ≡ slotWords * length es
 laid-length [] v = ap length laid-nil
 laid-length (e ∷ es) v =
     let a : length (laid (e ∷ es)) ≡ length (slotOf e) + length (laid es) = ap length (laid-cons e es) ∙ length-append (slotOf e) (laid es) in
@@ -60,7 +60,7 @@ valid-at (suc p) (e ∷ es) d v h = valid-at p es d (v .1) (omega arith)
 
 -- ---- a slot of the buffer, by what stands before and after it
 pub slots-split : (tier p : ℕ) (es : List Entry) (d : Entry) → p < length es
-    → slotsOf tier es ≡ laid (take p es) ++ (slotOf (getD es p d) ++ (laid (drop (suc p) es) ++ replicate (168 * tier - length (laid es)) 0))
+    → slotsOf tier es ≡ laid (take p es) ++ (slotOf (getD es p d) ++ (laid (drop (suc p) es) ++ replicate (slotWords * tier - length (laid es)) 0))
 unfolding slotsOf pad
 slots-split tier p es d h =
     ap (λ (l : List ℕ). l ++ z) (ap laid (split-at es p d h) ∙ laid-append (take p es) (getD es p d ∷ drop (suc p) es)
@@ -69,20 +69,20 @@ slots-split tier p es d h =
     ∙ ap (λ (l : List ℕ). laid (take p es) ++ l) (append-assoc (slotOf (getD es p d)) (laid (drop (suc p) es)) z)
   where
     z : List ℕ
-    z = replicate (168 * tier - length (laid es)) 0
+    z = replicate (slotWords * tier - length (laid es)) 0
 
-front-length : (p : ℕ) (es : List Entry) → AllValid es → p ≤ length es → length (laid (take p es)) ≡ 168 * p
+front-length : (p : ℕ) (es : List Entry) → AllValid es → p ≤ length es → length (laid (take p es)) ≡ slotWords * p
 front-length p es v h =
     let a = laid-length (take p es) (valid-take p es v) in
     let b = length-take p es in
     omega arith
 
 pub slot-at : (tier p : ℕ) (es : List Entry) (d : Entry) → AllValid es → p < length es
-    → take 168 (drop (168 * p) (slotsOf tier es)) ≡ slotOf (getD es p d)
+    → take slotWords (drop (slotWords * p) (slotsOf tier es)) ≡ slotOf (getD es p d)
 slot-at tier p es d v h =
-    ap (λ (l : List ℕ). take 168 (drop (168 * p) l)) (slots-split tier p es d h)
-    ∙ ap (take 168) (drop-at (laid (take p es)) _ (168 * p) (front-length p es v (omega arith)))
-    ∙ take-at (slotOf (getD es p d)) _ 168 (slot-length (getD es p d) (valid-at p es d v h))
+    ap (λ (l : List ℕ). take slotWords (drop (slotWords * p) l)) (slots-split tier p es d h)
+    ∙ ap (take slotWords) (drop-at (laid (take p es)) _ (slotWords * p) (front-length p es v (omega arith)))
+    ∙ take-at (slotOf (getD es p d)) _ slotWords (slot-length (getD es p d) (valid-at p es d v h))
 
 take-set : {A : Type 0} (l : List A) (i : ℕ) (a : A) → take i (set l i a) ≡ take i l
 take-set [] zero a = refl
@@ -112,34 +112,34 @@ valid-set (suc p) (x ∷ es) e v w = (v .0, valid-set p es e (v .1) w)
 
 -- a slot written anew
 pub put-slot : (tier p : ℕ) (es : List Entry) (e : Entry) → AllValid es → Valid (e .row) → p < length es
-    → take (168 * p) (slotsOf tier es) ++ (slotOf e ++ drop (168 * p + 168) (slotsOf tier es)) ≡ slotsOf tier (set es p e)
+    → take (slotWords * p) (slotsOf tier es) ++ (slotOf e ++ drop (slotWords * p + slotWords) (slotsOf tier es)) ≡ slotsOf tier (set es p e)
 put-slot tier p es e v w h =
     let front = laid (take p es) in
-    let back = laid (drop (suc p) es) ++ replicate (168 * tier - length (laid es)) 0 in
+    let back = laid (drop (suc p) es) ++ replicate (slotWords * tier - length (laid es)) 0 in
     let old = slotOf (getD es p e) in
-    let f : length front ≡ 168 * p = front-length p es v (omega arith) in
-    let g : length (front ++ old) ≡ 168 * p + 168 = length-append front old ∙ (let s = slot-length (getD es p e) (valid-at p es e v h) in omega arith) in
+    let f : length front ≡ slotWords * p = front-length p es v (omega arith) in
+    let g : length (front ++ old) ≡ slotWords * p + slotWords = length-append front old ∙ (let s = slot-length (getD es p e) (valid-at p es e v h) in omega arith) in
     ap₂ (λ (a b : List ℕ). a ++ (slotOf e ++ b))
-    (ap (take (168 * p)) (slots-split tier p es e h) ∙ take-at front _ (168 * p) f)
-    (ap (drop (168 * p + 168)) (slots-split tier p es e h ∙ sym (append-assoc front old back)) ∙ drop-at (front ++ old) back (168 * p + 168) g)
+    (ap (take (slotWords * p)) (slots-split tier p es e h) ∙ take-at front _ (slotWords * p) f)
+    (ap (drop (slotWords * p + slotWords)) (slots-split tier p es e h ∙ sym (append-assoc front old back)) ∙ drop-at (front ++ old) back (slotWords * p + slotWords) g)
     ∙ sym (slots-split tier p (set es p e) e (subst (λ (n : ℕ). p < n) (sym (len-set es p e)) h)
     ∙ ap₂ (λ (a b : List ℕ). a ++ b) (ap laid (take-set es p e))
     (ap₂ (λ (a b : List ℕ). a ++ b) (ap slotOf (get-set es p e e h))
-    (ap₂ (λ (a : List ℕ) (n : ℕ). a ++ replicate (168 * tier - n) 0) (ap laid (drop-set es p e)) same)))
+    (ap₂ (λ (a : List ℕ) (n : ℕ). a ++ replicate (slotWords * tier - n) 0) (ap laid (drop-set es p e)) same)))
   where
     same : length (laid (set es p e)) ≡ length (laid es)
-    same = laid-length (set es p e) (valid-set p es e v w) ∙ ap (λ (n : ℕ). 168 * n) (len-set es p e) ∙ sym (laid-length es v)
+    same = laid-length (set es p e) (valid-set p es e v w) ∙ ap (λ (n : ℕ). slotWords * n) (len-set es p e) ∙ sym (laid-length es v)
 
 -- a word of a slot changed
-pub set-part : (ws : List ℕ) (a k v : ℕ) → k < 168 → a + 168 ≤ length ws
-    → set ws (a + k) v ≡ take a ws ++ (set (take 168 (drop a ws)) k v ++ drop (a + 168) ws)
+pub set-part : (ws : List ℕ) (a k v : ℕ) → k < slotWords → a + slotWords ≤ length ws
+    → set ws (a + k) v ≡ take a ws ++ (set (take slotWords (drop a ws)) k v ++ drop (a + slotWords) ws)
 set-part ws a k v h f =
     ap (λ (l : List ℕ). set l (a + k) v) (sym (take-append-drop a ws))
     ∙ set-later (take a ws) (drop a ws) a k v (length-take-le a ws (omega arith))
     ∙ ap (λ (l : List ℕ). take a ws ++ l)
-    (ap (λ (l : List ℕ). set l k v) (sym (take-append-drop 168 (drop a ws)))
-    ∙ set-append-left (take 168 (drop a ws)) (drop 168 (drop a ws)) k v (let m = length-take 168 (drop a ws) in let n = length-drop a ws in omega arith)
-    ∙ ap (λ (l : List ℕ). set (take 168 (drop a ws)) k v ++ l) (drop-drop 168 a ws))
+    (ap (λ (l : List ℕ). set l k v) (sym (take-append-drop slotWords (drop a ws)))
+    ∙ set-append-left (take slotWords (drop a ws)) (drop slotWords (drop a ws)) k v (let m = length-take slotWords (drop a ws) in let n = length-drop a ws in omega arith)
+    ∙ ap (λ (l : List ℕ). set (take slotWords (drop a ws)) k v ++ l) (drop-drop slotWords a ws))
   where
     set-later : (xs ys : List ℕ) (n k a : ℕ) → length xs ≡ n → set (xs ++ ys) (n + k) a ≡ xs ++ set ys k a
     set-later [] ys n k a e = let q : n + k ≡ k = omega (arith, e) in ap (λ (j : ℕ). set ys j a) q
@@ -149,27 +149,27 @@ set-part ws a k v h f =
         let q : suc n + k ≡ suc (n + k) = omega arith in
         ap (λ (j : ℕ). set (x ∷ (xs ++ ys)) j a) q ∙ ap (λ (l : List ℕ). x ∷ l) (set-later xs ys n k a l)
 
-pub slots-length : (tier : ℕ) (es : List Entry) → AllValid es → length es ≤ tier → length (slotsOf tier es) ≡ 168 * tier
+pub slots-length : (tier : ℕ) (es : List Entry) → AllValid es → length es ≤ tier → length (slotsOf tier es) ≡ slotWords * tier
 unfolding slotsOf pad
 slots-length tier es v h =
     let a = laid-length es v in
-    let b = length-append (laid es) (replicate (168 * tier - length (laid es)) 0) in
-    let c = length-replicate {A = ℕ} (168 * tier - length (laid es)) 0 in
+    let b = length-append (laid es) (replicate (slotWords * tier - length (laid es)) 0) in
+    let c = length-replicate {A = ℕ} (slotWords * tier - length (laid es)) 0 in
     omega arith
 
 -- one word of a slot
-pub word-of : (tier p k : ℕ) (es : List Entry) (d : Entry) → AllValid es → p < length es → k < 168
-    → getD (slotsOf tier es) (168 * p + k) 0 ≡ getD (slotOf (getD es p d)) k 0
+pub word-of : (tier p k : ℕ) (es : List Entry) (d : Entry) → AllValid es → p < length es → k < slotWords
+    → getD (slotsOf tier es) (slotWords * p + k) 0 ≡ getD (slotOf (getD es p d)) k 0
 word-of tier p k es d v h l =
-    sym (getD-drop (168 * p) (slotsOf tier es) k 0) ∙ sym (getD-take 168 (drop (168 * p) (slotsOf tier es)) k 0 l)
+    sym (getD-drop (slotWords * p) (slotsOf tier es) k 0) ∙ sym (getD-take slotWords (drop (slotWords * p) (slotsOf tier es)) k 0 l)
     ∙ ap (λ (w : List ℕ). getD w k 0) (slot-at tier p es d v h)
 
-pub set-word : (tier p k v : ℕ) (es : List Entry) (d e : Entry) → AllValid es → Valid (e .row) → p < length es → length es ≤ tier → k < 168
-    → set (slotOf (getD es p d)) k v ≡ slotOf e → set (slotsOf tier es) (168 * p + k) v ≡ slotsOf tier (set es p e)
+pub set-word : (tier p k v : ℕ) (es : List Entry) (d e : Entry) → AllValid es → Valid (e .row) → p < length es → length es ≤ tier → k < slotWords
+    → set (slotOf (getD es p d)) k v ≡ slotOf e → set (slotsOf tier es) (slotWords * p + k) v ≡ slotsOf tier (set es p e)
 set-word tier p k v es d e val w h f l q =
     let n = slots-length tier es val f in
-    set-part (slotsOf tier es) (168 * p) k v l (omega arith)
-    ∙ ap (λ (x : List ℕ). take (168 * p) (slotsOf tier es) ++ (x ++ drop (168 * p + 168) (slotsOf tier es)))
+    set-part (slotsOf tier es) (slotWords * p) k v l (omega arith)
+    ∙ ap (λ (x : List ℕ). take (slotWords * p) (slotsOf tier es) ++ (x ++ drop (slotWords * p + slotWords) (slotsOf tier es)))
     (ap (λ (x : List ℕ). set x k v) (slot-at tier p es d val h) ∙ q)
     ∙ put-slot tier p es e val w h
 
@@ -196,16 +196,16 @@ pub record Holding (rows : ℕ) (ws : List ℕ) : Type 0 where
   pub valid : AllValid (entriesIn rows ws)
   pub count : length (entriesIn rows ws) ≡ rows
   pub room : length (entriesIn rows ws) ≤ tierOf ws
-  pub long : length ws ≡ 168 * tierOf ws
+  pub long : length ws ≡ slotWords * tierOf ws
 
 pub holding : (rows : ℕ) (ws : List ℕ) → Held rows ws → Holding rows ws
 holding rows ws h =
-    let v = all-valid 32768 (entriesIn rows ws) (h .each) in
+    let v = all-valid maxAtoms (entriesIn rows ws) (h .each) in
     let n = entries-length rows ws in
     let r : length (entriesIn rows ws) ≤ tierOf ws = let f = h .few in omega arith in
     record { valid = v; count = n; room = r; long = sym (ap length (h .same)) ∙ slots-length (tierOf ws) (entriesIn rows ws) v r }
 
-pub rows-fit : (rows : ℕ) (ws : List ℕ) → Held rows ws → 168 * rows ≤ length ws
+pub rows-fit : (rows : ℕ) (ws : List ℕ) → Held rows ws → slotWords * rows ≤ length ws
 rows-fit rows ws k = let f = holding rows ws k in let a = f .long in let b = k .few in omega arith
 
 -- ---- the words after a change of one entry
@@ -228,9 +228,9 @@ valid-adjust f zero (e ∷ es) s v = (subst (λ (r : Row). Valid r) (sym (s e)) 
 valid-adjust f (suc p) (e ∷ es) s v = (v .0, valid-adjust f p es s (v .1))
 
 -- f changes word k of a slot to x, and no row
-pub change : (tier p k x : ℕ) (es : List Entry) (d : Entry) (f : Entry → Entry) → AllValid es → p < length es → length es ≤ tier → k < 168
+pub change : (tier p k x : ℕ) (es : List Entry) (d : Entry) (f : Entry → Entry) → AllValid es → p < length es → length es ≤ tier → k < slotWords
     → ((e : Entry) → f e .row ≡ e .row) → set (slotOf (getD es p d)) k x ≡ slotOf (f (getD es p d))
-    → set (slotsOf tier es) (168 * p + k) x ≡ slotsOf tier (adjust f p es)
+    → set (slotsOf tier es) (slotWords * p + k) x ≡ slotsOf tier (adjust f p es)
 change tier p k x es d f v h r l s q =
     set-word tier p k x es d (f (getD es p d)) v (subst (λ (y : Row). Valid y) (sym (s (getD es p d))) (valid-at p es d v h)) h r l q
     ∙ ap (slotsOf tier) (sym (adjust-set f p es d h))
@@ -245,27 +245,27 @@ abbrev pub no-entry : Entry
 no-entry = record { row = record { conditions = []; outputs = [] }; hits = 0; unshared = 0; born = 0; delivered = false }
 
 module _ (tier p : ℕ) (es : List Entry) (v : AllValid es) (h : p < length es) (r : length es ≤ tier) where
-  pub word-hits : getD (slotsOf tier es) (168 * p + 4) 0 ≡ getD es p no-entry .hits
+  pub word-hits : getD (slotsOf tier es) (slotWords * p + 4) 0 ≡ getD es p no-entry .hits
   unfolding slotOf pad
   word-hits = word-of tier p 4 es no-entry v h (omega arith)
 
-  word-unshared : getD (slotsOf tier es) (168 * p + 5) 0 ≡ getD es p no-entry .unshared
+  word-unshared : getD (slotsOf tier es) (slotWords * p + 5) 0 ≡ getD es p no-entry .unshared
   unfolding slotOf pad
   word-unshared = word-of tier p 5 es no-entry v h (omega arith)
 
-  word-born : getD (slotsOf tier es) (168 * p + 6) 0 ≡ getD es p no-entry .born
+  word-born : getD (slotsOf tier es) (slotWords * p + 6) 0 ≡ getD es p no-entry .born
   unfolding slotOf pad
   word-born = word-of tier p 6 es no-entry v h (omega arith)
 
-  pub hits-set : (n : ℕ) → set (slotsOf tier es) (168 * p + 4) n ≡ slotsOf tier (adjust (λ e. withHits e n) p es)
+  pub hits-set : (n : ℕ) → set (slotsOf tier es) (slotWords * p + 4) n ≡ slotsOf tier (adjust (λ e. withHits e n) p es)
   unfolding slotOf pad withHits
   hits-set n = change tier p 4 n es no-entry (λ e. withHits e n) v h r (omega arith) (λ e. refl) refl
 
-  unshared-set : (n : ℕ) → set (slotsOf tier es) (168 * p + 5) n ≡ slotsOf tier (adjust (withUnshared n) p es)
+  unshared-set : (n : ℕ) → set (slotsOf tier es) (slotWords * p + 5) n ≡ slotsOf tier (adjust (withUnshared n) p es)
   unfolding slotOf pad withUnshared
   unshared-set n = change tier p 5 n es no-entry (withUnshared n) v h r (omega arith) (λ e. refl) refl
 
-  delivered-set : set (slotsOf tier es) (168 * p + 7) 1 ≡ slotsOf tier (adjust asDelivered p es)
+  delivered-set : set (slotsOf tier es) (slotWords * p + 7) 1 ≡ slotsOf tier (adjust asDelivered p es)
   unfolding slotOf pad asDelivered flag
   delivered-set = change tier p 7 1 es no-entry asDelivered v h r (omega arith) (λ e. refl) refl
 
@@ -284,16 +284,16 @@ module _ (rows p : ℕ) (ws : List ℕ) (k : Held rows ws) (l : p < rows) where
   at = subst (λ (n : ℕ). p < n) (sym (entries-length rows ws)) l
 
   pub hits-at : getD ws (wordAt p 4) 0 ≡ getD (entriesIn rows ws) p no-entry .hits
-  hits-at = let f = holding rows ws k in ap (λ (w : List ℕ). getD w (168 * p + 4) 0) (sym (k .same)) ∙ word-hits (tierOf ws) p held (f .valid) at (f .room)
+  hits-at = let f = holding rows ws k in ap (λ (w : List ℕ). getD w (slotWords * p + 4) 0) (sym (k .same)) ∙ word-hits (tierOf ws) p held (f .valid) at (f .room)
 
   pub unshared-at : getD ws (wordAt p 5) 0 ≡ getD (entriesIn rows ws) p no-entry .unshared
-  unshared-at = let f = holding rows ws k in ap (λ (w : List ℕ). getD w (168 * p + 5) 0) (sym (k .same)) ∙ word-unshared (tierOf ws) p held (f .valid) at (f .room)
+  unshared-at = let f = holding rows ws k in ap (λ (w : List ℕ). getD w (slotWords * p + 5) 0) (sym (k .same)) ∙ word-unshared (tierOf ws) p held (f .valid) at (f .room)
 
   pub born-at : getD ws (wordAt p 6) 0 ≡ getD (entriesIn rows ws) p no-entry .born
-  born-at = let f = holding rows ws k in ap (λ (w : List ℕ). getD w (168 * p + 6) 0) (sym (k .same)) ∙ word-born (tierOf ws) p held (f .valid) at (f .room)
+  born-at = let f = holding rows ws k in ap (λ (w : List ℕ). getD w (slotWords * p + 6) 0) (sym (k .same)) ∙ word-born (tierOf ws) p held (f .valid) at (f .room)
 
-  pub slot-held : take 168 (drop (slotWords * p) ws) ≡ slotOf (getD (entriesIn rows ws) p no-entry)
-  slot-held = let f = holding rows ws k in ap (λ (w : List ℕ). take 168 (drop (168 * p) w)) (sym (k .same)) ∙ slot-at (tierOf ws) p held no-entry (f .valid) at
+  pub slot-held : take slotWords (drop (slotWords * p) ws) ≡ slotOf (getD (entriesIn rows ws) p no-entry)
+  slot-held = let f = holding rows ws k in ap (λ (w : List ℕ). take slotWords (drop (slotWords * p) w)) (sym (k .same)) ∙ slot-at (tierOf ws) p held no-entry (f .valid) at
 
   pub hit-held : hitWords p ws ≡ slotsOf (tierOf ws) (adjust hitEntry p (entriesIn rows ws))
   unfolding hitWords hitEntry withHits withUnshared
@@ -303,9 +303,9 @@ module _ (rows p : ℕ) (ws : List ℕ) (k : Held rows ws) (l : p < rows) where
       let y : ℕ = plus (getD held p no-entry .unshared) 1 in
       let es = adjust (λ e. withHits e x) p held in
       let n : length es ≡ length held = length-adjust (λ e. withHits e x) p held in
-      ap₂ (λ (a b : ℕ). set (set ws (168 * p + 4) (plus a 1)) (168 * p + 5) (plus b 1)) hits-at unshared-at
-      ∙ ap (λ (w : List ℕ). set (set w (168 * p + 4) x) (168 * p + 5) y) (sym (k .same))
-      ∙ ap (λ (w : List ℕ). set w (168 * p + 5) y) (hits-set (tierOf ws) p held (f .valid) at (f .room) x)
+      ap₂ (λ (a b : ℕ). set (set ws (slotWords * p + 4) (plus a 1)) (slotWords * p + 5) (plus b 1)) hits-at unshared-at
+      ∙ ap (λ (w : List ℕ). set (set w (slotWords * p + 4) x) (slotWords * p + 5) y) (sym (k .same))
+      ∙ ap (λ (w : List ℕ). set w (slotWords * p + 5) y) (hits-set (tierOf ws) p held (f .valid) at (f .room) x)
       ∙ unshared-set (tierOf ws) p es (valid-adjust (λ e. withHits e x) p held (λ e. refl) (f .valid)) (subst (λ (m : ℕ). p < m) (sym n) at) (subst (λ (m : ℕ). m ≤ tierOf ws) (sym n) (f .room)) y
       ∙ ap (slotsOf (tierOf ws)) (adjust-adjust (λ e. withHits e x) (withUnshared y) p held
       ∙ adjust-own (λ a e. withUnshared y (withHits e (plus a 1))) (λ e. e .hits) p held no-entry at
@@ -315,7 +315,7 @@ module _ (rows p : ℕ) (ws : List ℕ) (k : Held rows ws) (l : p < rows) where
   unfolding hitsAdded
   hits-added n =
       let f = holding rows ws k in
-      ap₂ (λ (w : List ℕ) (x : ℕ). set w (168 * p + 4) (plus x n)) (sym (k .same)) hits-at
+      ap₂ (λ (w : List ℕ) (x : ℕ). set w (slotWords * p + 4) (plus x n)) (sym (k .same)) hits-at
       ∙ hits-set (tierOf ws) p held (f .valid) at (f .room) (plus (getD held p no-entry .hits) n)
       ∙ ap (slotsOf (tierOf ws)) (adjust-own (λ x e. withHits e (plus x n)) (λ e. e .hits) p held no-entry at)
 
@@ -323,7 +323,7 @@ module _ (rows p : ℕ) (ws : List ℕ) (k : Held rows ws) (l : p < rows) where
   unfolding markedDelivered withDelivered asDelivered
   marked-delivered =
       let f = holding rows ws k in
-      ap (λ (w : List ℕ). set w (168 * p + 7) 1) (sym (k .same)) ∙ delivered-set (tierOf ws) p held (f .valid) at (f .room)
+      ap (λ (w : List ℕ). set w (slotWords * p + 7) 1) (sym (k .same)) ∙ delivered-set (tierOf ws) p held (f .valid) at (f .room)
 
   pub shared-out : sharedOut p ws ≡ slotsOf (tierOf ws) (adjust (withDelivered 0) p (entriesIn rows ws))
   unfolding sharedOut withDelivered asDelivered withUnshared
@@ -331,7 +331,7 @@ module _ (rows p : ℕ) (ws : List ℕ) (k : Held rows ws) (l : p < rows) where
       let f = holding rows ws k in
       let es = adjust (withUnshared 0) p held in
       let n : length es ≡ length held = length-adjust (withUnshared 0) p held in
-      ap (λ (w : List ℕ). set (set w (168 * p + 5) 0) (168 * p + 7) 1) (sym (k .same))
-      ∙ ap (λ (w : List ℕ). set w (168 * p + 7) 1) (unshared-set (tierOf ws) p held (f .valid) at (f .room) 0)
+      ap (λ (w : List ℕ). set (set w (slotWords * p + 5) 0) (slotWords * p + 7) 1) (sym (k .same))
+      ∙ ap (λ (w : List ℕ). set w (slotWords * p + 7) 1) (unshared-set (tierOf ws) p held (f .valid) at (f .room) 0)
       ∙ delivered-set (tierOf ws) p es (valid-adjust (withUnshared 0) p held (λ e. refl) (f .valid)) (subst (λ (m : ℕ). p < m) (sym n) at) (subst (λ (m : ℕ). m ≤ tierOf ws) (sym n) (f .room))
       ∙ ap (slotsOf (tierOf ws)) (adjust-adjust (withUnshared 0) asDelivered p held)

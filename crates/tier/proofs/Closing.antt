@@ -9,26 +9,26 @@ use lib.ListN.{length, getD, take, drop, replicate, length-append, length-replic
 use lib.Seq.{take-at, drop-at, drop-append-le, drop-drop, length-take-le}
 use borrow.Rule.Slice.PartMut.{putMid, midOf, post-is, mid-len}
 use Rattle.lists.specs.Lists.{pad, zeroed}
-use Rattle.model.specs.Records.{Entry}
+use Rattle.model.specs.Records.{Entry, slotWords}
 use Rattle.model.specs.Slots.{slotOf, slotsOf, entriesIn}
 use Rattle.model.proofs.Slots.{Valid, AllValid, slot-length, entries-length}
 use Rattle.tier.specs.Tier.{tierOf, Held, keptBy, moved, keptWords, keptPlace, closedUp, movedDown}
 use Rattle.tier.proofs.Buffer.{laid, laid-nil, laid-cons, laid-append, laid-length, valid-take, valid-drop, holding}
 
-moved-length : (from to : ℕ) (ws : List ℕ) → to ≤ from → 168 * from + 168 ≤ length ws → length (moved from to ws) ≡ length ws
+moved-length : (from to : ℕ) (ws : List ℕ) → to ≤ from → slotWords * from + slotWords ≤ length ws → length (moved from to ws) ≡ length ws
 unfolding moved
 moved-length from to ws l h =
-    let a = length-append (take (168 * to) ws) (take 168 (drop (168 * from) ws) ++ drop (168 * to + 168) ws) in
-    let b = length-append (take 168 (drop (168 * from) ws)) (drop (168 * to + 168) ws) in
-    let c = length-take-le (168 * to) ws (omega arith) in
-    let d = length-drop (168 * from) ws in
-    let e = length-take-le 168 (drop (168 * from) ws) (omega arith) in
-    let f = length-drop (168 * to + 168) ws in
+    let a = length-append (take (slotWords * to) ws) (take slotWords (drop (slotWords * from) ws) ++ drop (slotWords * to + slotWords) ws) in
+    let b = length-append (take slotWords (drop (slotWords * from) ws)) (drop (slotWords * to + slotWords) ws) in
+    let c = length-take-le (slotWords * to) ws (omega arith) in
+    let d = length-drop (slotWords * from) ws in
+    let e = length-take-le slotWords (drop (slotWords * from) ws) (omega arith) in
+    let f = length-drop (slotWords * to + slotWords) ws in
     omega arith
 
 -- the places from `to` up to `rows` zeroed
 abbrev pub cleared : ℕ → List ℕ × ℕ → List ℕ
-cleared rows r = take (168 * r .1) (r .0) ++ (replicate (168 * rows - 168 * r .1) 0 ++ drop (168 * rows) (r .0))
+cleared rows r = take (slotWords * r .1) (r .0) ++ (replicate (slotWords * rows - slotWords * r .1) 0 ++ drop (slotWords * rows) (r .0))
 
 valid-append : (xs ys : List Entry) → AllValid xs → AllValid ys → AllValid (xs ++ ys)
 valid-append [] ys v w = w
@@ -45,23 +45,23 @@ module _ (f : ℕ → Bool) (tier rows : ℕ) where
   row-of done gap rest n = laid done ++ (gap ++ (laid rest ++ replicate n 0))
 
   nothing-left : (done : List Entry) (gap : List ℕ) (n : ℕ) → AllValid done → length done ≤ rows → rows ≤ tier
-      → length gap ≡ 168 * rows - 168 * length done → n ≡ 168 * tier - 168 * rows
+      → length gap ≡ slotWords * rows - slotWords * length done → n ≡ slotWords * tier - slotWords * rows
       → cleared rows (row-of done gap [] n, length done) ≡ slotsOf tier done
   unfolding slotsOf pad
   nothing-left done gap n v l t g e =
       let d = laid-length done v in
       let w : row-of done gap [] n ≡ laid done ++ (gap ++ replicate n 0) = ap (λ (x : List ℕ). laid done ++ (gap ++ (x ++ replicate n 0))) laid-nil in
-      let front : length (laid done ++ gap) ≡ 168 * rows = length-append (laid done) gap ∙ (omega arith) in
-      let k : (168 * rows - 168 * length done) + n ≡ 168 * tier - length (laid done) = omega arith in
-      ap₂ (λ (x y : List ℕ). x ++ (replicate (168 * rows - 168 * length done) 0 ++ y))
-      (ap (take (168 * length done)) w ∙ take-at (laid done) (gap ++ replicate n 0) (168 * length done) d)
-      (ap (drop (168 * rows)) (w ∙ sym (append-assoc (laid done) gap (replicate n 0))) ∙ drop-at (laid done ++ gap) (replicate n 0) (168 * rows) front)
-      ∙ ap (λ (x : List ℕ). laid done ++ x) (replicate-append-replicate (168 * rows - 168 * length done) n 0 ∙ ap (λ (m : ℕ). replicate m 0) k)
+      let front : length (laid done ++ gap) ≡ slotWords * rows = length-append (laid done) gap ∙ (omega arith) in
+      let k : (slotWords * rows - slotWords * length done) + n ≡ slotWords * tier - length (laid done) = omega arith in
+      ap₂ (λ (x y : List ℕ). x ++ (replicate (slotWords * rows - slotWords * length done) 0 ++ y))
+      (ap (take (slotWords * length done)) w ∙ take-at (laid done) (gap ++ replicate n 0) (slotWords * length done) d)
+      (ap (drop (slotWords * rows)) (w ∙ sym (append-assoc (laid done) gap (replicate n 0))) ∙ drop-at (laid done ++ gap) (replicate n 0) (slotWords * rows) front)
+      ∙ ap (λ (x : List ℕ). laid done ++ x) (replicate-append-replicate (slotWords * rows - slotWords * length done) n 0 ∙ ap (λ (m : ℕ). replicate m 0) k)
 
   -- the slot after the gap comes down to its front
   moved-row : (done : List Entry) (gap : List ℕ) (e : Entry) (rest : List Entry) (n i : ℕ) → AllValid done → Valid (e .row)
-      → length done ≤ i → length gap ≡ 168 * i - 168 * length done
-      → moved i (length done) (row-of done gap (e ∷ rest) n) ≡ row-of (done ++ (e ∷ [])) (drop 168 (gap ++ slotOf e)) rest n
+      → length done ≤ i → length gap ≡ slotWords * i - slotWords * length done
+      → moved i (length done) (row-of done gap (e ∷ rest) n) ≡ row-of (done ++ (e ∷ [])) (drop slotWords (gap ++ slotOf e)) rest n
   unfolding moved
   moved-row done gap e rest n i v x l g =
       let z = laid rest ++ replicate n 0 in
@@ -72,15 +72,15 @@ module _ (f : ℕ → Bool) (tier rows : ℕ) where
       ∙ ap (λ (y : List ℕ). laid done ++ y) (sym (append-assoc gap (slotOf e) z)) in
       let b : laid done ++ ((gap ++ slotOf e) ++ z) ≡ (laid done ++ gap) ++ (slotOf e ++ z)
       = ap (λ (y : List ℕ). laid done ++ y) (append-assoc gap (slotOf e) z) ∙ sym (append-assoc (laid done) gap (slotOf e ++ z)) in
-      let p : length (laid done ++ gap) ≡ 168 * i = length-append (laid done) gap ∙ (omega arith) in
-      let q : 168 ≤ length (gap ++ slotOf e) = let m = length-append gap (slotOf e) in omega arith in
-      ap₂ (λ (y u : List ℕ). y ++ u) (ap (take (168 * length done)) a ∙ take-at (laid done) ((gap ++ slotOf e) ++ z) (168 * length done) d)
+      let p : length (laid done ++ gap) ≡ slotWords * i = length-append (laid done) gap ∙ (omega arith) in
+      let q : slotWords ≤ length (gap ++ slotOf e) = let m = length-append gap (slotOf e) in omega arith in
+      ap₂ (λ (y u : List ℕ). y ++ u) (ap (take (slotWords * length done)) a ∙ take-at (laid done) ((gap ++ slotOf e) ++ z) (slotWords * length done) d)
       (ap₂ (λ (y u : List ℕ). y ++ u)
-      (ap (λ (y : List ℕ). take 168 (drop (168 * i) y)) (a ∙ b) ∙ ap (take 168) (drop-at (laid done ++ gap) (slotOf e ++ z) (168 * i) p) ∙ take-at (slotOf e) z 168 s)
-      (ap (drop (168 * length done + 168)) a ∙ sym (drop-drop 168 (168 * length done) (laid done ++ ((gap ++ slotOf e) ++ z)))
-      ∙ ap (drop 168) (drop-at (laid done) ((gap ++ slotOf e) ++ z) (168 * length done) d) ∙ drop-append-le 168 (gap ++ slotOf e) z q))
-      ∙ sym (append-assoc (laid done) (slotOf e) (drop 168 (gap ++ slotOf e) ++ z))
-      ∙ ap (λ (y : List ℕ). y ++ (drop 168 (gap ++ slotOf e) ++ z)) (sym (laid-snoc done e))
+      (ap (λ (y : List ℕ). take slotWords (drop (slotWords * i) y)) (a ∙ b) ∙ ap (take slotWords) (drop-at (laid done ++ gap) (slotOf e ++ z) (slotWords * i) p) ∙ take-at (slotOf e) z slotWords s)
+      (ap (drop (slotWords * length done + slotWords)) a ∙ sym (drop-drop slotWords (slotWords * length done) (laid done ++ ((gap ++ slotOf e) ++ z)))
+      ∙ ap (drop slotWords) (drop-at (laid done) ((gap ++ slotOf e) ++ z) (slotWords * length done) d) ∙ drop-append-le slotWords (gap ++ slotOf e) z q))
+      ∙ sym (append-assoc (laid done) (slotOf e) (drop slotWords (gap ++ slotOf e) ++ z))
+      ∙ ap (λ (y : List ℕ). y ++ (drop slotWords (gap ++ slotOf e) ++ z)) (sym (laid-snoc done e))
 
   -- the slot after the gap joins it
   joined-row : (done : List Entry) (gap : List ℕ) (e : Entry) (rest : List Entry) (n : ℕ)
@@ -93,18 +93,18 @@ module _ (f : ℕ → Bool) (tier rows : ℕ) where
   Goal a b = (cleared rows a ≡ slotsOf tier b) × (a .1 ≡ length b)
 
   pub down : (rest done : List Entry) (gap : List ℕ) (n i : ℕ) → AllValid done → AllValid rest
-      → length done ≤ i → i + length rest ≡ rows → rows ≤ tier → length gap ≡ 168 * i - 168 * length done → n ≡ 168 * tier - 168 * rows
+      → length done ≤ i → i + length rest ≡ rows → rows ≤ tier → length gap ≡ slotWords * i - slotWords * length done → n ≡ slotWords * tier - slotWords * rows
       → (cleared rows (movedDown f (length rest) i (length done) (row-of done gap rest n)) ≡ slotsOf tier (done ++ keptBy f i rest))
       × (movedDown f (length rest) i (length done) (row-of done gap rest n) .1 ≡ length (done ++ keptBy f i rest))
   unfolding movedDown keptBy
   down [] done gap n i v w l r t g e =
       let i0 : i ≡ rows = omega arith in
-      let g′ : length gap ≡ 168 * rows - 168 * length done = omega arith in
+      let g′ : length gap ≡ slotWords * rows - slotWords * length done = omega arith in
       (nothing-left done gap n v (omega arith) t g′ e ∙ ap (slotsOf tier) (sym (append-nil done)), ap length (sym (append-nil done)))
   down (x ∷ rest) done gap n i v w l r t g e = go (f i) (joins (down rest)) (moves (down rest))
     where
       joins : ((done : List Entry) (gap : List ℕ) (n i : ℕ) → AllValid done → AllValid rest
-          → length done ≤ i → i + length rest ≡ rows → rows ≤ tier → length gap ≡ 168 * i - 168 * length done → n ≡ 168 * tier - 168 * rows
+          → length done ≤ i → i + length rest ≡ rows → rows ≤ tier → length gap ≡ slotWords * i - slotWords * length done → n ≡ slotWords * tier - slotWords * rows
           → Goal (movedDown f (length rest) i (length done) (row-of done gap rest n)) (done ++ keptBy f i rest))
           → Goal (movedDown f (length rest) (suc i) (length done) (row-of done gap (x ∷ rest) n)) (done ++ keptBy f (suc i) rest)
       joins ih =
@@ -114,19 +114,19 @@ module _ (f : ℕ → Bool) (tier rows : ℕ) where
           (ih done (gap ++ slotOf x) n (suc i) v (w .1) (omega arith) (omega arith) t (omega arith) e)
 
       moves : ((done : List Entry) (gap : List ℕ) (n i : ℕ) → AllValid done → AllValid rest
-          → length done ≤ i → i + length rest ≡ rows → rows ≤ tier → length gap ≡ 168 * i - 168 * length done → n ≡ 168 * tier - 168 * rows
+          → length done ≤ i → i + length rest ≡ rows → rows ≤ tier → length gap ≡ slotWords * i - slotWords * length done → n ≡ slotWords * tier - slotWords * rows
           → Goal (movedDown f (length rest) i (length done) (row-of done gap rest n)) (done ++ keptBy f i rest))
           → Goal (movedDown f (length rest) (suc i) (suc (length done)) (moved i (length done) (row-of done gap (x ∷ rest) n))) (done ++ (x ∷ keptBy f (suc i) rest))
       moves ih =
           let s = slot-length x (w .0) in
           let m = length-append gap (slotOf x) in
-          let k = length-drop 168 (gap ++ slotOf x) in
+          let k = length-drop slotWords (gap ++ slotOf x) in
           let o : length (done ++ (x ∷ [])) ≡ suc (length done) = length-append done (x ∷ []) ∙ (omega arith) in
           let u : (done ++ (x ∷ [])) ++ keptBy f (suc i) rest ≡ done ++ (x ∷ keptBy f (suc i) rest) = append-assoc done (x ∷ []) (keptBy f (suc i) rest) in
           subst (λ (y : List Entry). Goal (movedDown f (length rest) (suc i) (suc (length done)) (moved i (length done) (row-of done gap (x ∷ rest) n))) y) u
           (subst (λ (y : List ℕ). Goal (movedDown f (length rest) (suc i) (suc (length done)) y) ((done ++ (x ∷ [])) ++ keptBy f (suc i) rest)) (sym (moved-row done gap x rest n i v (w .0) l g))
-          (subst (λ (y : ℕ). Goal (movedDown f (length rest) (suc i) y (row-of (done ++ (x ∷ [])) (drop 168 (gap ++ slotOf x)) rest n)) ((done ++ (x ∷ [])) ++ keptBy f (suc i) rest)) o
-          (ih (done ++ (x ∷ [])) (drop 168 (gap ++ slotOf x)) n (suc i) (valid-append done (x ∷ []) v (w .0, tt)) (w .1) (omega arith) (omega arith) t (omega arith) e)))
+          (subst (λ (y : ℕ). Goal (movedDown f (length rest) (suc i) y (row-of (done ++ (x ∷ [])) (drop slotWords (gap ++ slotOf x)) rest n)) ((done ++ (x ∷ [])) ++ keptBy f (suc i) rest)) o
+          (ih (done ++ (x ∷ [])) (drop slotWords (gap ++ slotOf x)) n (suc i) (valid-append done (x ∷ []) v (w .0, tt)) (w .1) (omega arith) (omega arith) t (omega arith) e)))
 
       go : (b : Bool)
           → Goal (movedDown f (length rest) (suc i) (length done) (row-of done gap (x ∷ rest) n)) (done ++ keptBy f (suc i) rest)
@@ -143,7 +143,7 @@ kept-marked b from to ws e = rw e (refl, refl)
 pub kept-moved : (b : Bool) (from to : ℕ) (ws now : List ℕ) → b ≡ false → now ≡ moved from to ws → (now ≡ keptWords b from to ws) × (to + 1 ≡ keptPlace b to)
 kept-moved b from to ws now e m = rw e (m, refl)
 
-pub kept-length : (b : Bool) (from to : ℕ) (ws : List ℕ) → to ≤ from → 168 * from + 168 ≤ length ws → length (keptWords b from to ws) ≡ length ws
+pub kept-length : (b : Bool) (from to : ℕ) (ws : List ℕ) → to ≤ from → slotWords * from + slotWords ≤ length ws → length (keptWords b from to ws) ≡ length ws
 kept-length true from to ws l h = refl
 kept-length false from to ws l h = moved-length from to ws l h
 
@@ -177,7 +177,7 @@ close-held f rows first ws k l =
     let rest : List Entry = drop (first + 1) es in
     let a : length done ≡ first + 1 = length-take-le (first + 1) es (omega arith) in
     let b : length rest ≡ rows - (first + 1) = length-drop (first + 1) es ∙ ap (λ (m : ℕ). m - (first + 1)) n in
-    let z : ℕ = 168 * tierOf ws - 168 * rows in
+    let z : ℕ = slotWords * tierOf ws - slotWords * rows in
     let d = laid-length es (h .valid) in
     let w : ws ≡ laid done ++ ([] ++ (laid rest ++ replicate z 0)) = whole done rest z (take-append-drop (first + 1) es) (omega arith) in
     subst (λ (x : ℕ). Goal f (tierOf ws) rows (movedDown f x (first + 1) (first + 1) ws) (done ++ keptBy f (first + 1) rest)) b
@@ -185,7 +185,7 @@ close-held f rows first ws k l =
     (subst (λ (x : ℕ). Goal f (tierOf ws) rows (movedDown f (length rest) (first + 1) x (laid done ++ ([] ++ (laid rest ++ replicate z 0)))) (done ++ keptBy f (first + 1) rest)) a
     (down f (tierOf ws) rows rest done [] z (first + 1) (valid-take (first + 1) es (h .valid)) (valid-drop (first + 1) es (h .valid)) (omega arith) (omega arith) (k .few) (omega arith) refl)))
   where
-    whole : (done rest : List Entry) (z : ℕ) → done ++ rest ≡ entriesIn rows ws → 168 * tierOf ws - length (laid (entriesIn rows ws)) ≡ z
+    whole : (done rest : List Entry) (z : ℕ) → done ++ rest ≡ entriesIn rows ws → slotWords * tierOf ws - length (laid (entriesIn rows ws)) ≡ z
         → ws ≡ laid done ++ ([] ++ (laid rest ++ replicate z 0))
     whole done rest z e q =
         sym (k .same)
@@ -195,7 +195,7 @@ close-held f rows first ws k l =
 -- what the loop keeps: bounds, and that what is left to do from here ends as from the start
 abbrev pub Down : (ℕ → Bool) → ℕ → ℕ → List ℕ → List ℕ → ℕ → ℕ → Type 0
 Down f rows first old ws to i =
-    (to ≤ i) × (i ≤ rows) × (168 * rows ≤ length ws) × (length ws ≡ length old)
+    (to ≤ i) × (i ≤ rows) × (slotWords * rows ≤ length ws) × (length ws ≡ length old)
     × (movedDown f (rows - i) i to ws ≡ movedDown f (rows - (first + 1)) (first + 1) (first + 1) old)
 
 pub down-turn : (f : ℕ → Bool) (rows first : ℕ) (old ws : List ℕ) (to i : ℕ) (now : List ℕ) (r : ℕ) → Down f rows first old ws to i → i < rows
@@ -215,8 +215,8 @@ down-turn f rows first old ws to i now r d l e =
     )
 
 pub down-end : (f : ℕ → Bool) (rows first : ℕ) (old ws : List ℕ) (to i : ℕ) (z : List ℕ) → Held rows old → first < rows → Down f rows first old ws to i → rows ≤ i
-    → z ≡ zeroed (midOf (168 * to) (168 * rows - 168 * to) ws)
-    → (putMid (168 * to) (168 * rows - 168 * to) ws z ≡ slotsOf (tierOf old) (closedUp f first (entriesIn rows old))) × (to ≡ length (closedUp f first (entriesIn rows old)))
+    → z ≡ zeroed (midOf (slotWords * to) (slotWords * rows - slotWords * to) ws)
+    → (putMid (slotWords * to) (slotWords * rows - slotWords * to) ws z ≡ slotsOf (tierOf old) (closedUp f first (entriesIn rows old))) × (to ≡ length (closedUp f first (entriesIn rows old)))
 unfolding zeroed
 down-end f rows first old ws to i z k l d h e =
     let t = d .0 in
@@ -225,8 +225,8 @@ down-end f rows first old ws to i z k l d h e =
     let n : rows - i ≡ 0 = omega arith in
     let r : movedDown f (rows - (first + 1)) (first + 1) (first + 1) old ≡ (ws, to) = sym (d .4) ∙ ap (λ (x : ℕ). movedDown f x i to ws) n ∙ down-none f i to ws in
     let c = close-held f rows first old k l in
-    let len : length (midOf (168 * to) (168 * rows - 168 * to) ws) ≡ 168 * rows - 168 * to = mid-len (168 * to) (168 * rows) ws (omega arith) in (
-      ap₂ (λ (x y : List ℕ). take (168 * to) ws ++ (x ++ y)) (e ∙ ap (λ (x : ℕ). replicate x 0) len) (post-is (168 * to) (168 * rows) ws (omega arith))
+    let len : length (midOf (slotWords * to) (slotWords * rows - slotWords * to) ws) ≡ slotWords * rows - slotWords * to = mid-len (slotWords * to) (slotWords * rows) ws (omega arith) in (
+      ap₂ (λ (x y : List ℕ). take (slotWords * to) ws ++ (x ++ y)) (e ∙ ap (λ (x : ℕ). replicate x 0) len) (post-is (slotWords * to) (slotWords * rows) ws (omega arith))
           ∙ ap (cleared rows) (sym r) ∙ c .0,
       ap (λ (x : List ℕ × ℕ). x .1) (sym r) ∙ c .1,
     )

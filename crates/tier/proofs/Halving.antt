@@ -6,7 +6,7 @@ use native.Mathlib.Numerals.{add-one}
 use native.Mathlib.Omega.{arith}
 use lib.ListN.{length, getD, set}
 use Rattle.lists.specs.Lists.{adjust}
-use Rattle.model.specs.Records.{Entry, withHits}
+use Rattle.model.specs.Records.{Entry, withHits, slotWords}
 use Rattle.model.specs.Slots.{slotsOf, entriesIn}
 use Rattle.model.specs.Retention.{halved}
 use Rattle.model.proofs.Slots.{AllValid, entries-length}
@@ -60,7 +60,7 @@ module _ (rows : ℕ) (ws : List ℕ) (k : Held rows ws) where
       ∙ sym (f .long)
 
   pub halve-step : (i : ℕ) (now : List ℕ) → i < rows → now ≡ slotsOf (tierOf ws) (halvedTo i (entriesIn rows ws))
-      → set now (168 * i + 4) (getD now (168 * i + 4) 0 / 2) ≡ slotsOf (tierOf ws) (halvedTo (i + 1) (entriesIn rows ws))
+      → set now (slotWords * i + 4) (getD now (slotWords * i + 4) 0 / 2) ≡ slotsOf (tierOf ws) (halvedTo (i + 1) (entriesIn rows ws))
   halve-step i now l e =
       let f = holding rows ws k in
       let es = entriesIn rows ws in
@@ -68,8 +68,8 @@ module _ (rows : ℕ) (ws : List ℕ) (k : Held rows ws) where
       let v = half-valid i es (f .valid) in
       let h : i < length (halvedTo i es) = subst (λ (n : ℕ). i < n) (sym (half-length i es)) at in
       let r : length (halvedTo i es) ≤ tierOf ws = subst (λ (n : ℕ). n ≤ tierOf ws) (sym (half-length i es)) (f .room) in
-      ap (λ (w : List ℕ). set w (168 * i + 4) (getD w (168 * i + 4) 0 / 2)) e
-      ∙ ap (λ (n : ℕ). set (slotsOf (tierOf ws) (halvedTo i es)) (168 * i + 4) (n / 2)) (word-hits (tierOf ws) i (halvedTo i es) v h r ∙ ap (λ (x : Entry). x .hits) (half-get i es))
+      ap (λ (w : List ℕ). set w (slotWords * i + 4) (getD w (slotWords * i + 4) 0 / 2)) e
+      ∙ ap (λ (n : ℕ). set (slotsOf (tierOf ws) (halvedTo i es)) (slotWords * i + 4) (n / 2)) (word-hits (tierOf ws) i (halvedTo i es) v h r ∙ ap (λ (x : Entry). x .hits) (half-get i es))
       ∙ hits-set (tierOf ws) i (halvedTo i es) v h r (getD es i no-entry .hits / 2)
       ∙ ap (slotsOf (tierOf ws)) (half-next i es at ∙ ap (λ (n : ℕ). halvedTo n es) (sym (add-one i)))
 

@@ -6,6 +6,7 @@ use native.Mathlib.Numerals.{add-one}
 use native.Mathlib.Omega.{arith}
 use lib.ListN.{length, getD, take, drop, set, length-drop}
 use lib.Seq.{paste, paste-suc, drop-paste, getD-drop}
+use Rattle.model.specs.Records.{slotWords}
 use Rattle.tier.specs.Tier.{moved}
 
 module _ (d : List ℕ) (a b i : ℕ) (down : a ≤ b) (room : b + i < length d) where
@@ -21,8 +22,8 @@ module _ (d : List ℕ) (a b i : ℕ) (down : a ≤ b) (room : b + i < length d)
       let k : i < length (drop b d) = rw length-drop (omega arith) in
       rw (ahead, add-one) (paste-suc d a (drop b d) i 0 (omega arith) k)
 
-pub move-all : (d : List ℕ) (from to i : ℕ) → i ≡ 168 → paste d (168 * to) (drop (168 * from) d) i ≡ moved from to d
+pub move-all : (d : List ℕ) (from to i : ℕ) → i ≡ slotWords → paste d (slotWords * to) (drop (slotWords * from) d) i ≡ moved from to d
 unfolding moved
 move-all d from to i e =
-    ap (λ (n : ℕ). paste d (168 * to) (drop (168 * from) d) n) e
-    ∙ append-assoc (take (168 * to) d) (take 168 (drop (168 * from) d)) (drop (168 * to + 168) d)
+    ap (λ (n : ℕ). paste d (slotWords * to) (drop (slotWords * from) d) n) e
+    ∙ append-assoc (take (slotWords * to) d) (take slotWords (drop (slotWords * from) d)) (drop (slotWords * to + slotWords) d)

@@ -9,9 +9,8 @@ ghost use Rattle.model.specs.Slots.{slotsOf, entriesIn};
 ghost use Rattle.model.specs.Retention.{victim as victimOf, halved};
 ghost use Rattle.tier.specs.Tier.{tierOf, Held, hitWords, hitsAdded, markedDelivered, sharedOut, lesserOf, moved, keptWords, keptPlace, closedUp};
 use lists::fill_zero;
+use model::SLOT_WORDS;
 use words::contains;
-
-const SLOT_WORDS: usize = 168;
 
 const MOST: u64 = 18446744073709551615;
 

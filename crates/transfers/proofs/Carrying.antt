@@ -13,7 +13,7 @@ use Rattle.meter.specs.declared.Read.{Read}
 use Rattle.meter.specs.Meter.{pay}
 use Rattle.model.specs.declared.LearningLimits.{LearningLimits}
 use Rattle.model.specs.declared.Header.{Header}
-use Rattle.model.specs.Records.{Row, Ledger, isRow, limitsOk, literals}
+use Rattle.model.specs.Records.{Row, Ledger, isRow, limitsOk, literals, slotWords, maxRows, maxOutputs}
 use Rattle.model.specs.Slots.{rowIn}
 use Rattle.model.specs.Retention.{Retained as Kept, retain}
 use Rattle.model.specs.Transfers.{Transfer, starting, ticked, receive}
@@ -68,7 +68,7 @@ module _ (n c : ℕ) (p : Passage) (slots postings : List ℕ) (v : Transfer) (h
   }
 
   -- the row in a slot is received
-  module _ (row : List ℕ) (s : Stored (p .header .limits .atoms) row) (tier : LearningLimits) (o : tier .«founded_outputs» ≤ 64) (hits : ℕ) where
+  module _ (row : List ℕ) (s : Stored (p .header .limits .atoms) row) (tier : LearningLimits) (o : tier .«founded_outputs» ≤ maxOutputs) (hits : ℕ) where
     abbrev t : Row
     t = rowIn row
 
@@ -86,7 +86,7 @@ module _ (n c : ℕ) (p : Passage) (slots postings : List ℕ) (v : Transfer) (h
         let q : retainEnd k ws ps ≡ receivedEnd (lent (p .header) slots postings) t (tier .«founded_outputs») hits run
         = e ∙ ap₂ (λ (a : Account) (m : Meter). receivedEnd (lent (p .header) slots postings) t (tier .«founded_outputs») hits (pay (suc (literals t)) a m)) (h .account) (h .meter) in
         let g = laid-stored (p .header .limits .atoms) row s in
-        let few : most ≤ 64 = let i = g .counted .most in let j = g .outputCount in omega arith in
+        let few : most ≤ maxOutputs = let i = g .counted .most in let j = g .outputCount in omega arith in
         let stood : Stood (k .header) ws ps (retain (v .receiver) most hits t run .ledger)
         = stood-retained (p .header) slots postings (v .receiver) (h .stood) most hits t run (k .header) ws ps few (T-true (isRow (p .header .limits .atoms) t) (s .row)) (ap (λ (x : End). x .ledger) q) in
         record {
@@ -114,11 +114,11 @@ carried-start h slots postings l s a m = record {
 }
 
 -- ---- a position is within the words
-pub place-fits : (h : Header) (slots postings : List ℕ) (l : Ledger) → Stood h slots postings l → (p : ℕ) → p < h .rows → (p < 4096) × (168 * p + 168 ≤ length slots)
+pub place-fits : (h : Header) (slots postings : List ℕ) (l : Ledger) → Stood h slots postings l → (p : ℕ) → p < h .rows → (p < maxRows) × (slotWords * p + slotWords ≤ length slots)
 place-fits h slots postings l s p q =
     let a = stood-accepted h slots postings l s in
     let f = a .few in let m = a .most in let n = a .long in (omega arith, omega arith)
 
-pub outputs-fit : (h : Header) (slots postings : List ℕ) (l : Ledger) → Stood h slots postings l → h .limits .«founded_outputs» ≤ 64
+pub outputs-fit : (h : Header) (slots postings : List ℕ) (l : Ledger) → Stood h slots postings l → h .limits .«founded_outputs» ≤ maxOutputs
 outputs-fit h slots postings l s =
-    subst (λ (x : LearningLimits). x .«founded_outputs» ≤ 64) (sym (stood-limits h slots postings l s)) (most-ok (l .header .limits) (T-of {x = limitsOk (l .header .limits)} (s .good .limits)) .1)
+    subst (λ (x : LearningLimits). x .«founded_outputs» ≤ maxOutputs) (sym (stood-limits h slots postings l s)) (most-ok (l .header .limits) (T-of {x = limitsOk (l .header .limits)} (s .good .limits)) .1)

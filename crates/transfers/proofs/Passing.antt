@@ -4,7 +4,7 @@ use mathlib.Core.List.{List}
 use Prim.Native.Nat.{ℕ, suc, _+_, _*_, _≤_, _<_}
 use native.Mathlib.Omega.{arith}
 use lib.ListN.{length}
-use Rattle.model.specs.Records.{Entry}
+use Rattle.model.specs.Records.{Entry, slotWords, maxRows}
 use Rattle.model.specs.Retention.{Retained as Kept}
 use Rattle.model.specs.Transfers.{Transfer, received, changeAt}
 use Rattle.keeping.specs.Stood.{Stood}
@@ -33,7 +33,7 @@ module _ {n c : ℕ} {p : Passage} {v : Transfer} {k : Retained} {ws ps : List �
     pub subsumed-in : k .answer ≡ Subsumed i → i < k .header .rows
     subsumed-in a = within a
 
-    pub kept-fits : i < k .header .rows → (i < 4096) × (168 * i + 168 ≤ length ws)
+    pub kept-fits : i < k .header .rows → (i < maxRows) × (slotWords * i + slotWords ≤ length ws)
     kept-fits l = place-fits (k .header) ws ps (d .ledger) (r .stood) i l
 
   -- b rows more are Added: the receiver as it was left, and with a row changed

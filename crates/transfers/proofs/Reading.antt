@@ -11,7 +11,7 @@ use Rattle.meter.specs.declared.Account.{Account}
 use Rattle.meter.specs.declared.Read.{Read}
 use Rattle.meter.specs.declared.Read.the-variants as read
 use Rattle.model.specs.declared.Header.{Header}
-use Rattle.model.specs.Records.{Row, isRow}
+use Rattle.model.specs.Records.{Row, isRow, maxOutputs}
 use Rattle.model.specs.Slots.{rowIn}
 use Rattle.model.specs.Retention.{Declines, Stops, retain, retained, untaken}
 use Rattle.model.specs.Refusals.{Lent, ledgerIn}
@@ -57,7 +57,7 @@ module _ (n : ℕ) (row : List ℕ) (s : Stored n row) (p : List ℕ) (q : p ≡
   literals-row = ap (isRow n) proposal-row ∙ T-true (isRow n (rowIn row)) (s .row)
 
   module _ (outputs : ℕ) (most : ℕ) (x : most ≡ max (getD row 1 0) outputs) where
-    pub most-fits : outputs ≤ 64 → most ≤ 64
+    pub most-fits : outputs ≤ maxOutputs → most ≤ maxOutputs
     most-fits o = let k = laid-stored n row s .counted .most in omega (arith, x)
 
     pub literals-kept : (w : Lent) (hits : ℕ) {run r : Read} → run ≡ r → endOf (retain (ledgerIn w) most hits (rowIn p) run) ≡ receivedEnd w (rowIn row) outputs hits r

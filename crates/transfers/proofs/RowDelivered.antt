@@ -17,7 +17,7 @@ use Rattle.meter.specs.declared.Tick.the-variants as tick
 use Rattle.meter.specs.Meter.{tickOf, pay}
 use Rattle.model.specs.declared.LearningLimits.{LearningLimits}
 use Rattle.model.specs.declared.Header.{Header}
-use Rattle.model.specs.Records.{Entry, Ledger, plus, literals, withHits, withDelivered}
+use Rattle.model.specs.Records.{Entry, Ledger, plus, literals, withHits, withDelivered, slotWords, maxRows, maxOutputs}
 use Rattle.model.specs.Slots.{rowIn, entryIn}
 use Rattle.model.specs.Transfers.{Transfer, Delivery, whole, stopped, ticked, receive, changeAt, passesOver, deliverRows}
 use Rattle.slots.specs.Layout.{Stored, Laid, slotAt}
@@ -95,13 +95,13 @@ module _ {n c : ℕ} {y : Passage} {ws ps : List ℕ} (i : ℕ) (ts : List ℕ) 
       (subst (λ (z : List ℕ). Handed n c y ws ps i ts z e (withDelivered 0 e ∷ [], u)) (sym x) (record { carried = h; one = refl; keeps = keeps-shared i ts e }))
 
 -- ---- a row handed over
-word-five : (ws : List ℕ) (i : ℕ) → getD ws (168 * i + 5) 0 ≡ getD (slotAt ws i) 5 0
-word-five ws i = sym (getD-take 168 (drop (168 * i) ws) 5 0 (omega arith) ∙ getD-drop (168 * i) ws 5 0)
+word-five : (ws : List ℕ) (i : ℕ) → getD ws (slotWords * i + 5) 0 ≡ getD (slotAt ws i) 5 0
+word-five ws i = sym (getD-take slotWords (drop (slotWords * i) ws) 5 0 (omega arith) ∙ getD-drop (slotWords * i) ws 5 0)
 
 module _ (n c : ℕ) (p : Passage) (slots postings : List ℕ) (v : Transfer) (h : Carried n c p slots postings v) (ts : List ℕ) (i : ℕ) (limits : LearningLimits)
-    (s : Stored (p .header .limits .atoms) (slotAt ts i)) (o : limits .«founded_outputs» ≤ 64) (k : Retained) (ws ps : List ℕ)
-    (e : retainEnd k ws ps ≡ receivedEnd (lent (p .header) slots postings) (rowIn (take ((168 * i + 168) - 168 * i) (drop (168 * i) ts))) (limits .«founded_outputs») (getD ts (168 * i + 5) 0)
-    (pay (suc (literals (rowIn (take ((168 * i + 168) - 168 * i) (drop (168 * i) ts))))) (p .account) (p .meter))) where
+    (s : Stored (p .header .limits .atoms) (slotAt ts i)) (o : limits .«founded_outputs» ≤ maxOutputs) (k : Retained) (ws ps : List ℕ)
+    (e : retainEnd k ws ps ≡ receivedEnd (lent (p .header) slots postings) (rowIn (take ((slotWords * i + slotWords) - slotWords * i) (drop (slotWords * i) ts))) (limits .«founded_outputs») (getD ts (slotWords * i + 5) 0)
+    (pay (suc (literals (rowIn (take ((slotWords * i + slotWords) - slotWords * i) (drop (slotWords * i) ts))))) (p .account) (p .meter))) where
   abbrev row : List ℕ
   row = slotAt ts i
 
@@ -130,10 +130,10 @@ module _ (n c : ℕ) (p : Passage) (slots postings : List ℕ) (v : Transfer) (h
   hand-added j a q x = shared-out-so i ts (entryIn row) (handed-added limits (entryIn row) v j (told r a)) x (left-as r Whole 1 (omega arith) (p .added + 1) refl q refl)
 
   module _ (j : ℕ) (a : k .answer ≡ retention.Subsumed j) where
-    pub hand-fits : (j < 4096) × (168 * j + 168 ≤ length ws)
+    pub hand-fits : (j < maxRows) × (slotWords * j + slotWords ≤ length ws)
     hand-fits = kept-fits r (subsumed-in r a)
 
-    pub hand-subsumed : {y : Passage} {us xs : List ℕ} → y ≡ passedBy k Whole (p .added) → us ≡ hitsAdded j (getD ts (168 * i + 5) 0) ws → xs ≡ sharedOut i ts → Ends y us xs
+    pub hand-subsumed : {y : Passage} {us xs : List ℕ} → y ≡ passedBy k Whole (p .added) → us ≡ hitsAdded j (getD ts (slotWords * i + 5) 0) ws → xs ≡ sharedOut i ts → Ends y us xs
     unfolding entryIn
     hand-subsumed q m x =
         shared-out-so i ts (entryIn row) (handed-subsumed limits (entryIn row) v j (told r a)) x
@@ -183,13 +183,13 @@ module _ (p : Passage) (q : Passage) (e : q ≡ tickedBy p) where
           stays-so i ts x (deliver-halted limits x v (q .meter) (m .0)) (carried-up n c q slots postings _ (m .1) (suc c) (omega arith))
 
       module _ (w : q .reach ≡ Whole) where
-        pub row-passed : passesOver limits (entryIn (take ((168 * i + 168) - 168 * i) (drop (168 * i) ts))) ≡ true → Handed n (suc c) q slots postings i ts ts x (deliverRows limits (x ∷ []) v)
+        pub row-passed : passesOver limits (entryIn (take ((slotWords * i + slotWords) - slotWords * i) (drop (slotWords * i) ts))) ≡ true → Handed n (suc c) q slots postings i ts ts x (deliverRows limits (x ∷ []) v)
         row-passed b =
             let m = made w in
             stays-so i ts x (deliver-past limits x v (q .meter) (m .0) (ap (λ (r : List ℕ). passesOver limits (entryIn r)) (sym (slot-code ts i)) ∙ b))
             (carried-up n c q slots postings _ (m .1) (suc c) (omega arith))
 
-        pub row-handed : passesOver limits (entryIn (take ((168 * i + 168) - 168 * i) (drop (168 * i) ts))) ≡ false → {y : Passage} {ws ps xs : List ℕ}
+        pub row-handed : passesOver limits (entryIn (take ((slotWords * i + slotWords) - slotWords * i) (drop (slotWords * i) ts))) ≡ false → {y : Passage} {ws ps xs : List ℕ}
             → ((n c : ℕ) (u : Transfer) → Carried n c q slots postings u → Handed n (suc c) y ws ps i ts xs x (handed limits x u)) → Handed n (suc c) y ws ps i ts xs x (deliverRows limits (x ∷ []) v)
         row-handed b {y} {ws} {ps} {xs} f =
             let m = made w in

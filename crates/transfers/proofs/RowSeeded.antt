@@ -9,7 +9,7 @@ use Rattle.meter.specs.declared.Tick.{Tick}
 use Rattle.meter.specs.declared.Tick.the-variants as tick
 use Rattle.meter.specs.Meter.{tickOf, pay}
 use Rattle.model.specs.declared.LearningLimits.{LearningLimits}
-use Rattle.model.specs.Records.{literals, withDelivered}
+use Rattle.model.specs.Records.{literals, withDelivered, slotWords, maxRows, maxOutputs}
 use Rattle.model.specs.Slots.{rowIn, entryIn}
 use Rattle.model.specs.Transfers.{Transfer, receive, changeAt, seedRows}
 use Rattle.slots.specs.Layout.{Stored}
@@ -48,7 +48,7 @@ module _ (n c : ℕ) (p : Passage) (slots postings : List ℕ) (v : Transfer) (h
   row-past b e = subst (λ (r : Passage). Ends r slots postings) (sym e) (by-tick b (tickOf (p .meter)) refl)
 
   -- ---- born after it: the row is received
-  module _ (s : Stored (p .header .limits .atoms) row) (o : limits .«founded_outputs» ≤ 64) (late : mark < getD row 6 0) (k : Retained) (ws ps : List ℕ)
+  module _ (s : Stored (p .header .limits .atoms) row) (o : limits .«founded_outputs» ≤ maxOutputs) (late : mark < getD row 6 0) (k : Retained) (ws ps : List ℕ)
       (e : retainEnd k ws ps ≡ receivedEnd (lent (p .header) slots postings) (rowIn row) (limits .«founded_outputs») (getD row 4 0) (pay (suc (literals (rowIn row))) (p .account) (p .meter))) where
     r : Received n c p v k ws ps (receive limits (getD row 4 0) (rowIn row) v)
     r = carried-received n c p slots postings v h row s limits o (getD row 4 0) k ws ps e
@@ -69,7 +69,7 @@ module _ (n c : ℕ) (p : Passage) (slots postings : List ℕ) (v : Transfer) (h
     row-subsumed i a q = left-as r Whole 0 (omega arith) (p .added) same q (seed-subsumed limits mark (entryIn row) v (lt-leb (getD row 6 0) mark late) i (told r a))
 
     module _ (i : ℕ) (a : k .answer ≡ retention.Added i) where
-      pub row-fits : (i < 4096) × (168 * i + 168 ≤ length ws)
+      pub row-fits : (i < maxRows) × (slotWords * i + slotWords ≤ length ws)
       row-fits = kept-fits r (added-in r a)
 
       pub row-added : {y : Passage} {us : List ℕ} → y ≡ passedBy k Whole (p .added + 1) → us ≡ markedDelivered i ws → Ends y us ps

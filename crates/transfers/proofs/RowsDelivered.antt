@@ -10,7 +10,7 @@ use types.Run.{OneOf}
 use denote.Enum.Declared.{tagOf}
 use Rattle.model.specs.declared.LearningLimits.{LearningLimits}
 use Rattle.model.specs.declared.Header.{Header}
-use Rattle.model.specs.Records.{Entry, Ledger}
+use Rattle.model.specs.Records.{Entry, Ledger, slotWords, maxRows}
 use Rattle.model.specs.Slots.{entryIn, entriesIn}
 use Rattle.model.specs.Transfers.{Transfer, Delivery, deliverRows}
 use Rattle.slots.specs.Layout.{Stored, slotAt}
@@ -38,10 +38,10 @@ module _ (t : Header) (ws ps : List ℕ) (h : Header) (done es : List Entry) (i 
   under : i < t .rows
   under = let r = stood-rows t ws ps ledger s in omega (arith, length-append done (drop i es), length-drop i es)
 
-  pub tier-fits : 168 * i + 168 ≤ length ws
+  pub tier-fits : slotWords * i + slotWords ≤ length ws
   tier-fits = place-fits t ws ps ledger s i under .1
 
-  pub tier-small : i < 4096
+  pub tier-small : i < maxRows
   tier-small = place-fits t ws ps ledger s i under .0
 
   tail : drop (i + 1) (done ++ drop i es) ≡ drop (i + 1) es

@@ -11,7 +11,7 @@ use Rattle.meter.specs.declared.Meter.{Meter}
 use Rattle.meter.specs.declared.Sharing.{Sharing}
 use Rattle.model.specs.declared.LearningLimits.{LearningLimits}
 use Rattle.model.specs.declared.Header.{Header}
-use Rattle.model.specs.Records.{Entry}
+use Rattle.model.specs.Records.{Entry, slotWords, maxOutputs}
 use Rattle.model.specs.Transfers.{Transfer, starting, seedRows}
 use Rattle.model.specs.Refusals.{ledgerIn}
 use Rattle.slots.specs.Layout.{Stored}
@@ -27,15 +27,15 @@ use Rattle.transfers.proofs.Seeds.{onwardBy, seed-end, seed-split}
 use Rattle.transfers.proofs.Carrying.{carried-atoms, carried-up, carried-start}
 
 -- a row of the giver's slots, as the code lends it
-pub row-ready : (n i rows : ℕ) (p : Passage) (slots postings given : List ℕ) (v : Transfer) (o : ℕ) → Carried n i p slots postings v → Giving n rows given → o ≤ 64 → i < rows
-    → Ready p slots postings (take ((168 * i + 168) - 168 * i) (drop (168 * i) given)) o
+pub row-ready : (n i rows : ℕ) (p : Passage) (slots postings given : List ℕ) (v : Transfer) (o : ℕ) → Carried n i p slots postings v → Giving n rows given → o ≤ maxOutputs → i < rows
+    → Ready p slots postings (take ((slotWords * i + slotWords) - slotWords * i) (drop (slotWords * i) given)) o
 row-ready n i rows p slots postings given v o h g m l = record {
   atoms = n;
   count = i;
   state = v;
   carried = h;
   room = let f = g .few in omega arith;
-  stored = subst (λ (k : ℕ). Stored k (take ((168 * i + 168) - 168 * i) (drop (168 * i) given))) (sym (carried-atoms n i p slots postings v h)) (subst (Stored n) (sym (slot-code given i)) (g .stored i l));
+  stored = subst (λ (k : ℕ). Stored k (take ((slotWords * i + slotWords) - slotWords * i) (drop (slotWords * i) given))) (sym (carried-atoms n i p slots postings v h)) (subst (Stored n) (sym (slot-code given i)) (g .stored i l));
   most = m;
 }
 

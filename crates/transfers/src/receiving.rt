@@ -18,6 +18,7 @@ use meter::Sharing;
 use meter::Tick;
 use meter::Verdict;
 use model::Header;
+use model::SLOT_WORDS;
 use model::TransferAnswer;
 use proposals::to_literals;
 use retention::Retained;
@@ -80,7 +81,7 @@ fn receive_literals(
         ≡ receivedEnd (lent header (now (slots .entry)) (now (postings .entry))) (rowIn (now (row .entry))) outputs hits
         (pay (literals (rowIn (now (row .entry)))) account work) ⌝ }
 {
-    let mut p = [0u64; 168];
+    let mut p = [0u64; SLOT_WORDS];
     let judged = to_literals(row, &mut p, account, work);
     let verdict = judged.verdict;
     let account = judged.account;

@@ -11,7 +11,7 @@ use lib.Bits.{bitAnd, bitOr}
 use lib.Dec.{eqb, ltb, leb}
 use borrow.Author.Tests.{eq-eqb, ne-eqb, eqb-true, le-leb, lt-leb}
 use Rattle.words.specs.Literal.{wordOf, bitOf}
-use Rattle.words.specs.Region.{atomsOk, Region, wordsFor, isSet, apart, isRegion}
+use Rattle.words.specs.Region.{atomsOk, Region, wordsFor, isSet, apart, isRegion, maxAtoms}
 use Rattle.words.proofs.Bools.{and-both}
 use Rattle.words.proofs.Masks.{eqb-or}
 use Rattle.words.proofs.Places.{shl-bit}
@@ -67,19 +67,19 @@ module _ (n : ℕ) (r : Region) where
   unfolding isRegion atomsOk
   region-low h = rw (lt-leb 1 n h, isRegion, atomsOk)
 
-  pub region-high : 32768 < n → false ≡ isRegion n r
+  pub region-high : maxAtoms < n → false ≡ isRegion n r
   unfolding isRegion atomsOk
-  region-high h = rw (lt-leb n 32768 h, and-false (leb 1 n), isRegion, atomsOk)
+  region-high h = rw (lt-leb n maxAtoms h, and-false (leb 1 n), isRegion, atomsOk)
 
-  region-in : 1 ≤ n → n ≤ 32768 → isRegion n r ≡ (isSet n (r .held) && (isSet n (r .cut) && apart (r .held) (r .cut)))
+  region-in : 1 ≤ n → n ≤ maxAtoms → isRegion n r ≡ (isSet n (r .held) && (isSet n (r .cut) && apart (r .held) (r .cut)))
   unfolding isRegion atomsOk
-  region-in a b = rw (le-leb 1 n a, le-leb n 32768 b, isRegion, atomsOk)
+  region-in a b = rw (le-leb 1 n a, le-leb n maxAtoms b, isRegion, atomsOk)
 
-  pub region-held : 1 ≤ n → n ≤ 32768 → isSet n (r .held) ≡ false → false ≡ isRegion n r
+  pub region-held : 1 ≤ n → n ≤ maxAtoms → isSet n (r .held) ≡ false → false ≡ isRegion n r
   region-held a b e = sym (region-in a b ∙ rw e)
 
-  pub region-cut : 1 ≤ n → n ≤ 32768 → isSet n (r .held) ≡ true → isSet n (r .cut) ≡ false → false ≡ isRegion n r
+  pub region-cut : 1 ≤ n → n ≤ maxAtoms → isSet n (r .held) ≡ true → isSet n (r .cut) ≡ false → false ≡ isRegion n r
   region-cut a b e f = sym (region-in a b ∙ rw (e, f))
 
-  pub region-both : 1 ≤ n → n ≤ 32768 → isSet n (r .held) ≡ true → isSet n (r .cut) ≡ true → apart (r .held) (r .cut) ≡ isRegion n r
+  pub region-both : 1 ≤ n → n ≤ maxAtoms → isSet n (r .held) ≡ true → isSet n (r .cut) ≡ true → apart (r .held) (r .cut) ≡ isRegion n r
   region-both a b e f = sym (region-in a b ∙ rw (e, f))

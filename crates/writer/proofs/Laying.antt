@@ -10,7 +10,7 @@ use borrow.Rule.Slice.PartMut.{putMid, midOf}
 use Rattle.lists.specs.Lists.{concat, pad, zeroed}
 use Rattle.lists.proofs.Pads.{put-at, rest-part, drop-zeros, take-zeros}
 use Rattle.words.proofs.Bools.{T-of}
-use Rattle.model.specs.Records.{Row}
+use Rattle.model.specs.Records.{Row, slotWords}
 use Rattle.model.specs.Rows.{groups, groupCount, packed}
 use Rattle.model.specs.Slots.{groupWords, body, flag, slotOf, rowIn}
 use Rattle.model.proofs.Packing.{words-length}
@@ -34,17 +34,17 @@ unfolding body
 body-if r b e = ap (bodyIf r) e
 
 -- scalar: what stands in a proposal from word 8 on
-pub scalar-body : (r : Row) → packed r ≡ false → drop 8 (proposal r) ≡ pad 160 (body r)
+pub scalar-body : (r : Row) → packed r ≡ false → drop 8 (proposal r) ≡ pad (slotWords - 8) (body r)
 unfolding proposal pad
 scalar-body r e =
     let k : ℕ = length (r .conditions ++ r .outputs) in
-    let n : 168 - suc (suc (suc (suc (suc (suc (suc (suc k))))))) ≡ 160 - k = omega arith in
-    ap (λ (m : ℕ). (r .conditions ++ r .outputs) ++ replicate m 0) n ∙ ap (pad 160) (sym (body-if r false e))
+    let n : slotWords - suc (suc (suc (suc (suc (suc (suc (suc k))))))) ≡ slotWords - 8 - k = omega arith in
+    ap (λ (m : ℕ). (r .conditions ++ r .outputs) ++ replicate m 0) n ∙ ap (pad (slotWords - 8)) (sym (body-if r false e))
 
-pub scalar-long : (ws : List ℕ) → Proposed ws → length (take (length ws - 8) (drop 8 ws)) ≡ 160
+pub scalar-long : (ws : List ℕ) → Proposed ws → length (take (length ws - 8) (drop 8 ws)) ≡ slotWords - 8
 scalar-long ws p = ap length (rest-part ws 8) ∙ length-drop 8 ws ∙ ap (λ (n : ℕ). n - 8) (proposed-long ws p)
 
-pub scalar-words : (ws : List ℕ) → Proposed ws → packed (rowIn ws) ≡ false → take (length ws - 8) (drop 8 ws) ≡ pad 160 (body (rowIn ws))
+pub scalar-words : (ws : List ℕ) → Proposed ws → packed (rowIn ws) ≡ false → take (length ws - 8) (drop 8 ws) ≡ pad (slotWords - 8) (body (rowIn ws))
 scalar-words ws p e = rest-part ws 8 ∙ ap (drop 8) (sym (p .form)) ∙ scalar-body (rowIn ws) e
 
 -- packed: the groups of one side after those of the other
@@ -53,11 +53,11 @@ packed-body r e = body-if r true e ∙ concat-append (groups (r .conditions)) (g
 
 -- ---- the slot: eight words, then the body
 pub new-slot : (r : Row) (hits born : ℕ)
-    → headOf (length (r .conditions)) (length (r .outputs)) (formOf r) hits born ++ pad 160 (body r) ≡ slotOf (newEntry r hits born)
+    → headOf (length (r .conditions)) (length (r .outputs)) (formOf r) hits born ++ pad (slotWords - 8) (body r) ≡ slotOf (newEntry r hits born)
 unfolding slotOf pad flag
 new-slot r hits born =
     let k : ℕ = length (body r) in
-    let n : 160 - k ≡ 168 - suc (suc (suc (suc (suc (suc (suc (suc k))))))) = omega arith in
+    let n : slotWords - 8 - k ≡ slotWords - suc (suc (suc (suc (suc (suc (suc (suc k))))))) = omega arith in
     ap (λ (m : ℕ). headOf (length (r .conditions)) (length (r .outputs)) (formOf r) hits born ++ (body r ++ replicate m 0)) n
 
 -- ---- a buffer whose two parts, up to a and from a to e, were lent in turn
@@ -85,9 +85,9 @@ zeroed-is xs n e = ap (λ (k : ℕ). replicate k 0) e
 
 -- ---- a packed body: the parts are zeros as many as the groups take, and become the groups
 abbrev Ready : List ℕ → List ℕ → Type 0
-Ready part codes = (length part ≡ 3 * length (groups codes)) × ((length part ≤ 168) × (part ≡ zeroed part))
+Ready part codes = (length part ≡ 3 * length (groups codes)) × ((length part ≤ slotWords) × (part ≡ zeroed part))
 
-ready : (part codes list : List ℕ) (k : ℕ) → part ≡ replicate k 0 → codes ≡ list → k ≡ 3 * length (groups list) → k ≤ 168 → Ready part codes
+ready : (part codes list : List ℕ) (k : ℕ) → part ≡ replicate k 0 → codes ≡ list → k ≡ 3 * length (groups list) → k ≤ slotWords → Ready part codes
 ready part codes list k z e l h =
     let n : length part ≡ k = ap length z ∙ length-replicate {A = ℕ} k 0 in (
       n ∙ l ∙ ap (λ (cs : List ℕ). 3 * length (groups cs)) (sym e),
@@ -99,7 +99,7 @@ pub record Placed (r : Row) (form : Form) : Type 0 where
   pub chosen : packed r ≡ true
   pub first : form .first ≡ length (groups (r .conditions))
   pub total : form .total ≡ form .first + length (groups (r .outputs))
-  pub fits : 3 * form .total ≤ 160
+  pub fits : 3 * form .total ≤ slotWords - 8
 
 pub placed : {ws : List ℕ} {form : Form} → Proposed ws → form ≡ formOf (rowIn ws) → packed (rowIn ws) ≡ true → Placed (rowIn ws) form
 unfolding groupCount
@@ -111,7 +111,7 @@ placed {ws} {form} p e k =
     let many = p .many in
     record { chosen = k; first = f; total = omega arith; fits = omega (arith, packed-lt r (T-of k)) }
 
-module _ {ws z : List ℕ} {form : Form} (p : Proposed ws) (q : Placed (rowIn ws) form) (zeros : z ≡ replicate 160 0) where
+module _ {ws z : List ℕ} {form : Form} (p : Proposed ws) (q : Placed (rowIn ws) form) (zeros : z ≡ replicate (slotWords - 8) 0) where
   abbrev r : Row
   r = rowIn ws
 
@@ -138,7 +138,7 @@ module _ {ws z : List ℕ} {form : Form} (p : Proposed ws) (q : Placed (rowIn ws
       let m : a - 0 ≡ a = omega arith in
       let f = q .fits in
       ready (midOf 0 (a - 0) z) cs (r .conditions) a
-      (ap (λ (l : List ℕ). take (a - 0) l) zeros ∙ zero-part 0 a 160 zero-le (omega (arith, order)) ∙ ap (λ (i : ℕ). replicate i 0) m)
+      (ap (λ (l : List ℕ). take (a - 0) l) zeros ∙ zero-part 0 a (slotWords - 8) zero-le (omega (arith, order)) ∙ ap (λ (i : ℕ). replicate i 0) m)
       (first-part p) (ap (λ (i : ℕ). 3 * i) (q .first)) (omega (arith, order))
 
   module _ {x : List ℕ} (ex : x ≡ packs cs) where
@@ -149,7 +149,7 @@ module _ {ws z : List ℕ} {form : Form} (p : Proposed ws) (q : Placed (rowIn ws
     x-long =
         ap length (ex ∙ ap packs (first-part p)) ∙ words-length (groups (r .conditions)) ∙ ap (λ (i : ℕ). 3 * i) (sym (q .first))
 
-    pub half-long : length half ≡ 160
+    pub half-long : length half ≡ slotWords - 8
     half-long =
         let f = q .fits in
         omega (arith, order, ap length (one-part a z x), length-append x (drop a z), length-drop a z, x-long, ap length zeros)
@@ -161,31 +161,31 @@ module _ {ws z : List ℕ} {form : Form} (p : Proposed ws) (q : Placed (rowIn ws
         ready (midOf a (e - a) half) os (r .outputs) (e - a)
         (ap (λ (l : List ℕ). take (e - a) (drop a l)) (one-part a z x)
         ∙ ap (take (e - a)) (drop-at x (drop a z) a x-long)
-        ∙ ap (λ (l : List ℕ). take (e - a) (drop a l)) zeros ∙ zero-part a e 160 order (q .fits))
+        ∙ ap (λ (l : List ℕ). take (e - a) (drop a l)) zeros ∙ zero-part a e (slotWords - 8) order (q .fits))
         (second-part p) (omega arith) (omega arith)
 
-    pub packed-words : {y : List ℕ} → y ≡ packs os → putMid a (e - a) half y ≡ pad 160 (body r)
+    pub packed-words : {y : List ℕ} → y ≡ packs os → putMid a (e - a) half y ≡ pad (slotWords - 8) (body r)
     unfolding pad
     packed-words {y} ey =
         let X : List ℕ = packs (r .conditions) in
         let Y : List ℕ = packs (r .outputs) in
-        let m : 160 - e ≡ 160 - length (X ++ Y)
+        let m : slotWords - 8 - e ≡ slotWords - 8 - length (X ++ Y)
         = omega (arith, length-append X Y, words-length (groups (r .conditions)), words-length (groups (r .outputs)), q .first, q .total) in
         two-parts a e z x y x-long order
         ∙ ap₂ (λ (u v : List ℕ). u ++ (v ++ drop e z)) (ex ∙ ap packs (first-part p)) (ey ∙ ap packs (second-part p))
-        ∙ ap (λ (l : List ℕ). X ++ (Y ++ l)) (ap (drop e) zeros ∙ drop-zeros 160 e ∙ ap (λ (i : ℕ). replicate i 0) m)
-        ∙ sym (append-assoc X Y (replicate (160 - length (X ++ Y)) 0))
-        ∙ ap (pad 160) (sym (packed-body r (q .chosen)))
+        ∙ ap (λ (l : List ℕ). X ++ (Y ++ l)) (ap (drop e) zeros ∙ drop-zeros (slotWords - 8) e ∙ ap (λ (i : ℕ). replicate i 0) m)
+        ∙ sym (append-assoc X Y (replicate (slotWords - 8 - length (X ++ Y)) 0))
+        ∙ ap (pad (slotWords - 8)) (sym (packed-body r (q .chosen)))
 
 -- ---- the whole slot
-pub slot-words : (slot h b ws : List ℕ) (form : Form) (hits born : ℕ) → length slot ≡ 168 → Proposed ws → form ≡ formOf (rowIn ws)
-    → h ≡ headOf (getD ws 0 0) (getD ws 1 0) form hits born → b ≡ pad 160 (body (rowIn ws))
-    → putMid 8 160 (putMid 0 8 slot h) b ≡ slotOf (newEntry (rowIn ws) hits born)
+pub slot-words : (slot h b ws : List ℕ) (form : Form) (hits born : ℕ) → length slot ≡ slotWords → Proposed ws → form ≡ formOf (rowIn ws)
+    → h ≡ headOf (getD ws 0 0) (getD ws 1 0) form hits born → b ≡ pad (slotWords - 8) (body (rowIn ws))
+    → putMid 8 (slotWords - 8) (putMid 0 8 slot h) b ≡ slotOf (newEntry (rowIn ws) hits born)
 slot-words slot h b ws form hits born l p f eh eb =
     let r : Row = rowIn ws in
-    let le : 8 ≤ 168 = omega arith in
-    let s : length slot ≤ 168 = omega arith in
-    two-parts 8 168 slot h b (ap length eh) le
+    let le : 8 ≤ slotWords = omega arith in
+    let s : length slot ≤ slotWords = omega arith in
+    two-parts 8 slotWords slot h b (ap length eh) le
     ∙ ap (λ (q : List ℕ). h ++ (b ++ q)) (drop-of-length-le slot s)
     ∙ ap₂ (λ (u v : List ℕ). u ++ v)
     (eh

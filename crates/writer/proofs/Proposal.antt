@@ -4,7 +4,7 @@ use mathlib.Core.List.{List}
 use Prim.Native.Nat.{ℕ, _+_, _-_, _≤_}
 use native.Mathlib.Omega.{arith}
 use lib.ListN.{length, getD, take, drop}
-use Rattle.model.specs.Records.{literals}
+use Rattle.model.specs.Records.{literals, slotWords, maxConditions, maxOutputs}
 use Rattle.model.specs.Rows.{groups}
 use Rattle.model.specs.Slots.{rowIn}
 use Rattle.proposals.specs.Proposed.{Proposed}
@@ -13,9 +13,9 @@ use Rattle.slotcheck.proofs.Loops.{runs, groups-runs, runs-le}
 
 -- the words by their counts
 pub record Counts (ws : List ℕ) : Type 0 where
-  pub long : length ws ≡ 168
-  pub few : getD ws 0 0 ≤ 16
-  pub many : getD ws 1 0 ≤ 64
+  pub long : length ws ≡ slotWords
+  pub few : getD ws 0 0 ≤ maxConditions
+  pub many : getD ws 1 0 ≤ maxOutputs
   pub all : getD ws 0 0 + getD ws 1 0 ≡ literals (rowIn ws)
 
 -- the groups of a list are the runs that are counted in it, and no more than its codes
@@ -57,13 +57,13 @@ module _ {ws : List ℕ} (p : Proposed ws) where
   pub both-parts : m - 8 ≡ literals (rowIn ws)
   both-parts = omega (arith, counts .all)
 
-  pub first-groups : {r : ℕ} → r ≡ runs 7 (take (n - 8) (drop 8 ws)) → (r ≡ length (groups (rowIn ws .conditions))) × (r ≤ 16)
+  pub first-groups : {r : ℕ} → r ≡ runs 7 (take (n - 8) (drop 8 ws)) → (r ≡ length (groups (rowIn ws .conditions))) × (r ≤ maxConditions)
   first-groups e =
       let k = counted _ (rowIn ws .conditions) first-part in
       let f = p .few in
       (k .count e, omega (arith, k .count e, k .most))
 
-  pub second-groups : {r : ℕ} → r ≡ runs 7 (take (m - n) (drop n ws)) → (r ≡ length (groups (rowIn ws .outputs))) × (r ≤ 64)
+  pub second-groups : {r : ℕ} → r ≡ runs 7 (take (m - n) (drop n ws)) → (r ≡ length (groups (rowIn ws .outputs))) × (r ≤ maxOutputs)
   second-groups e =
       let k = counted _ (rowIn ws .outputs) second-part in
       let f = p .many in

@@ -1,11 +1,11 @@
 // A row on its way into a slot: the form that it takes there, what that costs, and its words.
 ghost use mathlib.Core.Path.{_≡_};
 ghost use mathlib.Core.Bool.{true, false};
-ghost use Prim.Native.Nat.{_+_, _*_, _≤_};
+ghost use Prim.Native.Nat.{_+_, _-_, _*_, _≤_};
 ghost use lib.ListN.{length};
 ghost use Rattle.lists.specs.Lists.{pad, zeroed};
 ghost use Rattle.meter.specs.Meter.{pay, judged};
-ghost use Rattle.model.specs.Records.{slotWords};
+ghost use Rattle.model.specs.Records.{slotWords, maxConditions, maxOutputs};
 ghost use Rattle.model.specs.Rows.{groups, packed, prepareReads};
 ghost use Rattle.model.specs.Slots.{rowIn, body as bodyOf, slotOf};
 ghost use Rattle.proposals.specs.Proposed.{Proposed};
@@ -18,6 +18,7 @@ use meter::Judged;
 use meter::Meter;
 use meter::Read;
 use meter::Verdict;
+use model::SLOT_WORDS;
 use slotcheck::run_count;
 use words::locate;
 
@@ -54,7 +55,7 @@ pub fn form_of(p: &[u64]) -> Form
 
 // The reads of `prepare` for so many literals: one a literal, and one more where they are packed.
 fn reads_of(literals: u64, form: Form) -> u64
-    requires { ⌜ literals ≤ 80 ⌝ }
+    requires { ⌜ literals ≤ maxConditions + maxOutputs ⌝ }
     ensures { λ r. ⌜ r ≡ readsFor literals form ⌝ }
 {
     if form.total == 0 {
@@ -150,16 +151,16 @@ fn pack(codes: &[u64], out: &mut [u64])
 
 // The body of a scalar row: the codes, which stand in the proposal as they do in a slot, and zeros.
 fn write_scalar(body: &mut [u64], p: &[u64])
-    requires { ⌜ length (now body) ≡ 160 ⌝ ∗ ⌜ Proposed (now p) ⌝ ∗ ⌜ packed (rowIn (now p)) ≡ false ⌝ }
-    ensures { λ _. ⌜ now (body .exit) ≡ pad 160 (bodyOf (rowIn (now (p .entry)))) ⌝ }
+    requires { ⌜ length (now body) ≡ slotWords - 8 ⌝ ∗ ⌜ Proposed (now p) ⌝ ∗ ⌜ packed (rowIn (now p)) ≡ false ⌝ }
+    ensures { λ _. ⌜ now (body .exit) ≡ pad (slotWords - 8) (bodyOf (rowIn (now (p .entry)))) ⌝ }
 {
     copy(&p[8..], body);
 }
 
 // The body of a packed row: the groups of its conditions, those of its outputs, and zeros.
 fn write_packed(body: &mut [u64], p: &[u64], form: Form)
-    requires { ⌜ length (now body) ≡ 160 ⌝ ∗ ⌜ Proposed (now p) ⌝ ∗ ⌜ form ≡ formOf (rowIn (now p)) ⌝ ∗ ⌜ packed (rowIn (now p)) ≡ true ⌝ }
-    ensures { λ _. ⌜ now (body .exit) ≡ pad 160 (bodyOf (rowIn (now (p .entry)))) ⌝ }
+    requires { ⌜ length (now body) ≡ slotWords - 8 ⌝ ∗ ⌜ Proposed (now p) ⌝ ∗ ⌜ form ≡ formOf (rowIn (now p)) ⌝ ∗ ⌜ packed (rowIn (now p)) ≡ true ⌝ }
+    ensures { λ _. ⌜ now (body .exit) ≡ pad (slotWords - 8) (bodyOf (rowIn (now (p .entry)))) ⌝ }
 {
     let n = 8 + p[0] as usize;
     let m = n + p[1] as usize;
@@ -172,8 +173,8 @@ fn write_packed(body: &mut [u64], p: &[u64], form: Form)
 
 // The body of a row in its form.
 fn write_body(body: &mut [u64], p: &[u64], form: Form)
-    requires { ⌜ length (now body) ≡ 160 ⌝ ∗ ⌜ Proposed (now p) ⌝ ∗ ⌜ form ≡ formOf (rowIn (now p)) ⌝ }
-    ensures { λ _. ⌜ now (body .exit) ≡ pad 160 (bodyOf (rowIn (now (p .entry)))) ⌝ }
+    requires { ⌜ length (now body) ≡ slotWords - 8 ⌝ ∗ ⌜ Proposed (now p) ⌝ ∗ ⌜ form ≡ formOf (rowIn (now p)) ⌝ }
+    ensures { λ _. ⌜ now (body .exit) ≡ pad (slotWords - 8) (bodyOf (rowIn (now (p .entry)))) ⌝ }
 {
     if form.total == 0 {
         write_scalar(body, p);
@@ -203,5 +204,5 @@ pub fn write_row(slot: &mut [u64], p: &[u64], form: Form, hits: u64, born: u64)
     ensures { λ _. ⌜ now (slot .exit) ≡ slotOf (newEntry (rowIn (now (p .entry))) hits born) ⌝ }
 {
     write_head(&mut slot[0..8], p[0], p[1], form, hits, born);
-    write_body(&mut slot[8..168], p, form);
+    write_body(&mut slot[8..SLOT_WORDS], p, form);
 }

@@ -6,7 +6,7 @@ use Prim.Native.Nat.{ℕ, _-_, _*_, _≤_, _<_}
 use native.Mathlib.Omega.{arith}
 use denote.Ref.{now}
 use lib.ListN.{length, getD}
-use Rattle.model.specs.Records.{Row, Entry}
+use Rattle.model.specs.Records.{Row, Entry, slotWords}
 use Rattle.model.specs.Slots.{rowIn, entriesIn}
 use Rattle.model.proofs.Slots.{entries-length}
 use Rattle.tier.proofs.Buffer.{no-entry, rows-fit}
@@ -18,7 +18,7 @@ use Rattle.comparing.proofs.first_pass.Tie as tie
 
 abbrev Inv-loop : tie.InvT-loop
 Inv-loop slots rows p₀ most replaced₀ account₀ meter₀ i₀ p replaced account meter i =
-    (i ≤ rows) × (168 * rows ≤ length slots) × (rows ≤ 64 * length replaced) × (length p ≡ length p₀)
+    (i ≤ rows) × (slotWords * rows ≤ length slots) × (rows ≤ 64 * length replaced) × (length p ≡ length p₀)
     × Advance most (rowIn p₀) (entriesIn rows slots) replaced₀ account₀ meter₀ p replaced account meter i
 
 abbrev μ-loop : tie.MeasureT-loop

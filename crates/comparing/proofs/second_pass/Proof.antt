@@ -7,7 +7,7 @@ use native.Mathlib.Omega.{arith}
 use denote.Ref.{now}
 use lib.ListN.{length, getD}
 use Rattle.words.specs.Region.{has}
-use Rattle.model.specs.Records.{Row, Entry}
+use Rattle.model.specs.Records.{Row, Entry, slotWords}
 use Rattle.model.specs.Slots.{rowIn, entriesIn}
 use Rattle.model.proofs.Slots.{entries-length}
 use Rattle.tier.proofs.Buffer.{no-entry, rows-fit}
@@ -19,7 +19,7 @@ use Rattle.comparing.proofs.second_pass.Tie as tie
 
 abbrev Inv-loop : tie.InvT-loop
 Inv-loop slots rows p replaced₀ account₀ meter₀ i₀ replaced account meter i =
-    (i ≤ rows) × (168 * rows ≤ length slots) × (rows ≤ 64 * length replaced)
+    (i ≤ rows) × (slotWords * rows ≤ length slots) × (rows ≤ 64 * length replaced)
     × Sweep (rowIn p) (entriesIn rows slots) replaced₀ account₀ meter₀ replaced account meter i
 
 abbrev μ-loop : tie.MeasureT-loop

@@ -7,6 +7,7 @@ use Prim.Native.Nat.{ℕ, _+_, _-_}
 use lib.ListN.{length, getD, set, length-set}
 use borrow.Rule.Slice.PartMut.{same-len-mid}
 use denote.Ref.{now}
+use Rattle.model.specs.Records.{slotWords}
 use Rattle.proposals.proofs.Proposing.{proposed-long}
 use Rattle.merge.proofs.Growing.{grow-fits, grow-room, grow-is}
 use Rattle.merge.proofs.grow.Statement.{statement}
@@ -25,7 +26,7 @@ module _ (c : tie.After-slice-known2) where
   abbrev at : ℕ
   at = 8 + getD ws 0 0
 
-  long : length ws ≡ 168
+  long : length ws ≡ slotWords
   long = proposed-long ws (t .pre .0)
 
 slice-read-at : tie.Need-slice-read-at

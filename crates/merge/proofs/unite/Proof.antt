@@ -12,6 +12,7 @@ use Rattle.meter.specs.declared.Judged.{Judged}
 use Rattle.meter.specs.declared.Verdict.{Verdict}
 use Rattle.meter.specs.declared.Verdict.the-variants as verdict
 use Rattle.meter.specs.Meter.{pay, judged}
+use Rattle.model.specs.Records.{slotWords, maxConditions, maxOutputs}
 use Rattle.model.specs.Union.{union, grown}
 use Rattle.model.specs.Slots.{rowIn}
 use Rattle.slots.specs.Cursor.{listOf}
@@ -38,7 +39,7 @@ module _ (t : tie.Start) where
   abbrev before : ℕ
   before = length (rowIn P .outputs)
 
-  sizes : (getD P 0 0 ≤ 16) × (getD P 1 0 ≤ 64) × (length P ≡ 168)
+  sizes : (getD P 0 0 ≤ maxConditions) × (getD P 1 0 ≤ maxOutputs) × (length P ≡ slotWords)
   sizes =
       let l = proposed-laid P (t .pre .1 .0) in (l .counted .few, l .counted .most, l .long)
 
@@ -59,8 +60,8 @@ module _ (c : tie.After-merge) where
       (midOf (8 + getD (P t) 0 0) (8 + getD (P t) 0 0 + getD (P t) 1 0 - (8 + getD (P t) 0 0)) (P t)) ≡ os t
   unites = sides-union (R t) (P t) (t .pre .0) (t .pre .1 .0) (c .before .before .before .before .outputs .ensures)
 
-  room-long : length (midOf 0 (t .args .most - 0) (zeros 64)) ≡ t .args .most
-  room-long = front-long (t .args .most) (zeros 64) (t .pre .1 .1)
+  room-long : length (midOf 0 (t .args .most - 0) (zeros maxOutputs)) ≡ t .args .most
+  room-long = front-long (t .args .most) (zeros maxOutputs) (t .pre .1 .1)
 
   counts : i ≡ counting (os t) (t .args .most) (t .args .account) (t .args .work)
   counts =
@@ -87,16 +88,16 @@ module _ (c : tie.Else1) where
   fits = unite-fits (t f .args .most) (os (t f)) (before (t f)) (t f .args .account) (t f .args .work) (i f) (counts f) yes
 
   abbrev kept : List ℕ
-  kept = putMid 0 (t f .args .most - 0) (zeros 64) (made f)
+  kept = putMid 0 (t f .args .most - 0) (zeros maxOutputs) (made f)
 
-  kept-long : length kept ≡ 64
-  kept-long = same-len-mid 0 (t f .args .most - 0) (zeros 64) (made f) (f .merge .kept .1 .1 .1 .0)
+  kept-long : length kept ≡ maxOutputs
+  kept-long = same-len-mid 0 (t f .args .most - 0) (zeros maxOutputs) (made f) (f .merge .kept .1 .1 .1 .0)
 
   few : n f ≤ length (made f)
   few = omega (arith, fits, long f, tells f yes .0)
 
   part : midOf 0 (n f - 0) kept ≡ os (t f)
-  part = front-of (n f) (t f .args .most - 0) (zeros 64) (made f) few ∙ tells f yes .1
+  part = front-of (n f) (t f .args .most - 0) (zeros maxOutputs) (made f) few ∙ tells f yes .1
 
 slice-read-at : tie.Need-slice-read-at
 slice-read-at c = omega (arith, sizes (c .before .before .before) .2)

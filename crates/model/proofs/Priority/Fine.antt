@@ -17,7 +17,7 @@ use Rattle.meter.specs.declared.Read.the-variants.{Paid, Declined, Stopped}
 use Rattle.meter.specs.Meter.{andThen, pay}
 use Rattle.model.specs.declared.LearningLimits.{LearningLimits}
 use Rattle.model.specs.declared.Header.{Header}
-use Rattle.model.specs.Records.{Row, Entry, Ledger, header, plus, withAdded, withHits}
+use Rattle.model.specs.Records.{Row, Entry, Ledger, header, plus, withAdded, withHits, maxOutputs}
 use Rattle.model.specs.Union.{into, union, mayJoin, joins, grown}
 use Rattle.model.specs.Rows.{subsumes}
 use Rattle.model.specs.Retention.{Compared, Pass, found, passed, noted, firstPass, secondPass, anyReplaced, kept, place, judge, judged, verdict, Verdict, subsumed, protected, placing, evicting, victim, halved, settle, newborn, Retained, untaken, carryOut, retained, retainReads, retain}
@@ -60,7 +60,7 @@ union-asc [] b k g h = h
 union-asc (a ∷ as′) b k g h = into-asc a (union as′) (λ cs i. union-asc as′ cs (suc a) (g .1) i) b k (g .0) h
 
 -- ---- a grown proposal is valid
-grown-valid : (m : ℕ) (r p : Row) → m ≤ 64 → T (joins m r p) → Valid r → Valid p → Valid (grown r p)
+grown-valid : (m : ℕ) (r p : Row) → m ≤ maxOutputs → T (joins m r p) → Valid r → Valid p → Valid (grown r p)
 unfolding joins grown
 grown-valid m r p l t v w = record {
   conditions = w .conditions;
@@ -205,7 +205,7 @@ carry-fine l t h a m (evicting v p) f o w = record {
   counted = one-counted (l .header .evicted) _ (settle-evicted (l .header) _ _);
 }
 
-retained-fine : (l : Ledger) (m h : ℕ) (t : Row) (run : Read) → m ≤ 64 → Valid t → Fine (rowsE (l .entries)) → RetainedFine l t (retained l m h t run)
+retained-fine : (l : Ledger) (m h : ℕ) (t : Row) (run : Read) → m ≤ maxOutputs → Valid t → Fine (rowsE (l .entries)) → RetainedFine l t (retained l m h t run)
 unfolding retained untaken
 retained-fine l m h t (Paid a n) k v f =
     carry-fine l t h a n (verdict (l .header .limits) m t (l .entries)) f (verdict-ok (l .header .limits) m t (l .entries))
@@ -213,6 +213,6 @@ retained-fine l m h t (Paid a n) k v f =
 retained-fine l m h t (Declined a n) k v f = record { limits = refl; fine = f; took = λ r i. absurd i; from = covers-refl (rowsE (l .entries)); counted = none-counted _ }
 retained-fine l m h t (Stopped a n) k v f = record { limits = refl; fine = f; took = λ r i. absurd i; from = covers-refl (rowsE (l .entries)); counted = none-counted _ }
 
-pub retain-fine : (l : Ledger) (m h : ℕ) (t : Row) (run : Read) → m ≤ 64 → Valid t → Fine (rowsE (l .entries)) → RetainedFine l t (retain l m h t run)
+pub retain-fine : (l : Ledger) (m h : ℕ) (t : Row) (run : Read) → m ≤ maxOutputs → Valid t → Fine (rowsE (l .entries)) → RetainedFine l t (retain l m h t run)
 unfolding retain
 retain-fine l m h t run k v f = retained-fine l m h t (andThen run (pay (retainReads (l .header .limits) m t (l .entries)))) k v f

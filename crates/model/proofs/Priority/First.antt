@@ -31,7 +31,7 @@ unfolding make
 made-limits l i ss ps h e = go _ refl _ _ e
   where
     tests : List (Bool × ℕ)
-    tests = (limitsOk l, 1) ∷ (eqb (length ss) (168 * l .«tier_rows») && eqb (length ps) (80 * l .«tier_rows»), 2) ∷ []
+    tests = (limitsOk l, 1) ∷ (eqb (length ss) (slotWords * l .«tier_rows») && eqb (length ps) (postingWords * l .«tier_rows»), 2) ∷ []
 
     go : (o : Option ℕ) → refusal tests ≡ o → (xs ys : List ℕ) → (elim o as (λ k. MakeEnd) [ some n ↦ record { answer = make-answer.Refused n; slots = ss; postings = ps; ticks = 0 } | none ↦ record { answer = make-answer.Made (fresh l i); slots = xs; postings = ys; ticks = 0 } ]) .answer ≡ make-answer.Made h → T (limitsOk l)
     go (some n) r xs ys q = absurd (subst IsMade (sym q) tt)

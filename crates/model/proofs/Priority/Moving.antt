@@ -19,7 +19,7 @@ use Rattle.meter.specs.declared.Tick.the-variants.{Ticked, Stopped}
 use Rattle.meter.specs.Meter.{tickOf, ticks, pay, made}
 use Rattle.model.specs.declared.LearningLimits.{LearningLimits}
 use Rattle.model.specs.declared.Header.{Header}
-use Rattle.model.specs.Records.{Row, Entry, Ledger, rowsOf, rowAt, isRow, isRowOver, within, limitsOk, literals, plus, header, withRows, withStale, withFull, attempted, withAccount, withMark, withDeliveries, withSeeded, withHits, hitEntry, withDelivered}
+use Rattle.model.specs.Records.{Row, Entry, Ledger, rowsOf, rowAt, isRow, isRowOver, within, limitsOk, literals, plus, header, withRows, withStale, withFull, attempted, withAccount, withMark, withDeliveries, withSeeded, withHits, hitEntry, withDelivered, maxOutputs}
 use Rattle.model.specs.Slots.{slotsOf, entriesIn}
 use Rattle.model.specs.Retention.{Retained, Outcome, Stops, Declines, Subsumes, Adds, retain, canCapture}
 use Rattle.model.specs.Transfers.{Transfer, Delivery, Reach, starting, ticked, receive, received, changeAt, seedRows, markFor, seeding, marked, seededTier, seededStore, passesOver, front, deliverRows, delivering, deliveredTier, deliveredStore}
@@ -71,10 +71,10 @@ record ReceivedOk (l : Ledger) (v : Transfer) (d : Retained) : Type 0 where
   from : Covers (d .took ++ rowsE (v .receiver .entries)) (rowsE (d .ledger .entries))
   counted : Counted (d .evicts) (v .receiver .header .evicted) (d .ledger .header .evicted)
 
-max-le : (a b : ℕ) → a ≤ 64 → b ≤ 64 → max a b ≤ 64
+max-le : (a b : ℕ) → a ≤ maxOutputs → b ≤ maxOutputs → max a b ≤ maxOutputs
 max-le a b h k = omega arith
 
-receive-ok : (l : Ledger) (tier : LearningLimits) (hits : ℕ) (r : Row) (v : Transfer) → tier .«founded_outputs» ≤ 64 → T (isRow (l .header .limits .atoms) r) → TransferOk l v → ReceivedOk l v (receive tier hits r v)
+receive-ok : (l : Ledger) (tier : LearningLimits) (hits : ℕ) (r : Row) (v : Transfer) → tier .«founded_outputs» ≤ maxOutputs → T (isRow (l .header .limits .atoms) r) → TransferOk l v → ReceivedOk l v (receive tier hits r v)
 unfolding receive
 receive-ok l tier hits r v h t k =
     let w = valid-of (l .header .limits .atoms) r t in
@@ -124,7 +124,7 @@ hits-row e n = refl
 abbrev RowsOk : ℕ → List Entry → Type 0
 RowsOk n es = (r : Row) → In r (rowsE es) → T (isRow n r)
 
-seed-rows-ok : (l : Ledger) (tier : LearningLimits) (mark : ℕ) (es : List Entry) (v : Transfer) → tier .«founded_outputs» ≤ 64 → RowsOk (l .header .limits .atoms) es → TransferOk l v → TransferOk l (seedRows tier mark es v)
+seed-rows-ok : (l : Ledger) (tier : LearningLimits) (mark : ℕ) (es : List Entry) (v : Transfer) → tier .«founded_outputs» ≤ maxOutputs → RowsOk (l .header .limits .atoms) es → TransferOk l v → TransferOk l (seedRows tier mark es v)
 unfolding seedRows
 seed-rows-ok l tier mark [] v h c k = k
 seed-rows-ok l tier mark (e ∷ es) v h c k =
@@ -154,7 +154,7 @@ front-ok : (l : Ledger) (e f : Entry) (es : List Entry) (x : Delivery) → f .ro
 unfolding front
 front-ok l e f es x q k = record { rows = ap₂ (λ (r : Row) (rs : List Row). r ∷ rs) q (k .rows); transfer = k .transfer }
 
-deliver-rows-ok : (l : Ledger) (tier : LearningLimits) (es : List Entry) (v : Transfer) → tier .«founded_outputs» ≤ 64 → RowsOk (l .header .limits .atoms) es → TransferOk l v → DeliveryOk l es (deliverRows tier es v)
+deliver-rows-ok : (l : Ledger) (tier : LearningLimits) (es : List Entry) (v : Transfer) → tier .«founded_outputs» ≤ maxOutputs → RowsOk (l .header .limits .atoms) es → TransferOk l v → DeliveryOk l es (deliverRows tier es v)
 unfolding deliverRows ticked
 deliver-rows-ok l tier [] v h c k = record { rows = refl; transfer = k }
 deliver-rows-ok l tier (e ∷ es) v h c k =

@@ -19,7 +19,7 @@ use Rattle.meter.specs.Meter.{ticks}
 use Rattle.model.specs.declared.Deduction.{Deduction}
 use Rattle.model.specs.declared.Deduction.the-variants.{Nothing, Force, Require}
 use Rattle.model.specs.declared.OutputCursor.{OutputCursor}
-use Rattle.model.specs.Records.{Row, Ledger, rowsOf, rowAt, hitEntry, withFull}
+use Rattle.model.specs.Records.{Row, Ledger, rowsOf, rowAt, hitEntry, withFull, maxRows}
 use Rattle.model.specs.Deduction.{Next, Published, nextOutput, deduction, deductionTicks, startCursor}
 use Rattle.model.specs.Deduction as deducing
 use Rattle.model.specs.Postings.{candidates as search}
@@ -385,11 +385,11 @@ module _ (n : ℕ) (rows : List Row) (fine : Fine rows) where
       go (inl i) = w .1 (z .0) i quiet
       go (inr h) = settled-grow n (getD rows (z .0) empty-row) (s .region) (u .region) (w .0 .sound) (w .0 .grown) quiet h
 
-  pub rounds-closed : (fuel : ℕ) (as′ : List ℕ) (s : State) → length rows ≤ 4096 → Step s s → Ready s as′ → OnGoing Ended (rounds fuel n as′ s)
+  pub rounds-closed : (fuel : ℕ) (as′ : List ℕ) (s : State) → length rows ≤ maxRows → Step s s → Ready s as′ → OnGoing Ended (rounds fuel n as′ s)
   unfolding rounds withMeter withHeader
   rounds-closed zero as′ s few i y = tt
   rounds-closed (suc fuel) as′ s few i y =
-      go (search (s .ledger) as′ (s .meter) .found) (subst (λ (l : List Row). FoundOk (s .ledger .header .full) l as′ (search (s .ledger) as′ (s .meter) .found)) (i .same) (search-reads (s .ledger) as′ (s .meter) (subst (λ (l : List Row). length l ≤ 4096) (sym (i .same)) few)))
+      go (search (s .ledger) as′ (s .meter) .found) (subst (λ (l : List Row). FoundOk (s .ledger .header .full) l as′ (search (s .ledger) as′ (s .meter) .found)) (i .same) (search-reads (s .ledger) as′ (s .meter) (subst (λ (l : List Row). length l ≤ maxRows) (sym (i .same)) few)))
       (λ bs u j k. rounds-closed fuel bs u few j k)
     where
       t : State
@@ -415,7 +415,7 @@ module _ (n : ℕ) (rows : List Row) (fine : Fine rows) where
   unfolding withFull
   full-true l = refl
 
-  pub closing-closed : (l : Ledger) (r : Region) (m : Meter) → length rows ≤ 4096 → l .header .limits .atoms ≡ n → rowsE (l .entries) ≡ rows → Sound n r → OnGoing Ended (closing l r m)
+  pub closing-closed : (l : Ledger) (r : Region) (m : Meter) → length rows ≤ maxRows → l .header .limits .atoms ≡ n → rowsE (l .entries) ≡ rows → Sound n r → OnGoing Ended (closing l r m)
   unfolding closing
   closing-closed l r m few e q s =
       subst (λ (k : ℕ). OnGoing Ended (rounds (suc k) k [] (record { ledger = record { header = withFull (l .header) true; entries = l .entries }; region = r; meter = m }))) (sym e)

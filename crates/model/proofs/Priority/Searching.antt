@@ -17,7 +17,7 @@ use Rattle.meter.specs.declared.Tick.{Tick}
 use Rattle.meter.specs.declared.Tick.the-variants.{Ticked, Stopped}
 use Rattle.meter.specs.Meter.{ticks}
 use Rattle.model.specs.declared.Header.{Header}
-use Rattle.model.specs.Records.{Row, Entry, Ledger, rowsOf, withStale, withFull}
+use Rattle.model.specs.Records.{Row, Entry, Ledger, rowsOf, withStale, withFull, maxRows}
 use Rattle.model.specs.Postings.{posting, rowPostings, postingsFrom, postingsOf, postedAt, positions, searchTicks, Search, searched, rebuilt, candidates as search}
 use Rattle.model.specs.Priority.{In}
 use Rattle.model.proofs.Priority.Covering.{rowsE}
@@ -127,16 +127,16 @@ in-from i j q [] y e h m = absurd (not-suc-le-zero h)
 in-from i zero q (r ∷ rs) y e h m = in-left (rowPostings i r) (postingsFrom (suc i) rs) y (subst (λ (k : ℕ). In y (rowPostings k r)) (let z : q ≡ i = omega arith in z) m)
 in-from i (suc j) q (r ∷ rs) y e h m = in-right (rowPostings i r) (postingsFrom (suc i) rs) y (in-from (suc i) j q rs y (omega arith) (le-of-suc-le-suc h) m)
 
-in-posted : (ps : List ℕ) (p a : ℕ) → p < 4096 → In (posting p a) ps → In p (postedAt ps a)
+in-posted : (ps : List ℕ) (p a : ℕ) → p < maxRows → In (posting p a) ps → In p (postedAt ps a)
 unfolding postedAt posting
 in-posted ps p a h m =
-    let q : (a * 4096 + p) / 4096 ≡ a = omega arith in
-    let r : (a * 4096 + p) % 4096 ≡ p = omega arith in
-    subst (λ (k : ℕ). In k (map (λ x. x % 4096) (select (λ x. eqb (x / 4096) a) ps))) r
-    (in-map (λ x. x % 4096) (select (λ x. eqb (x / 4096) a) ps) (a * 4096 + p)
-    (in-select (λ x. eqb (x / 4096) a) ps (a * 4096 + p) m (subst (λ (k : ℕ). T (eqb k a)) (sym q) (eqb-refl a))))
+    let q : (a * maxRows + p) / maxRows ≡ a = omega arith in
+    let r : (a * maxRows + p) % maxRows ≡ p = omega arith in
+    subst (λ (k : ℕ). In k (map (λ x. x % maxRows) (select (λ x. eqb (x / maxRows) a) ps))) r
+    (in-map (λ x. x % maxRows) (select (λ x. eqb (x / maxRows) a) ps) (a * maxRows + p)
+    (in-select (λ x. eqb (x / maxRows) a) ps (a * maxRows + p) m (subst (λ (k : ℕ). T (eqb k a)) (sym q) (eqb-refl a))))
 
-in-positions : (rs : List Row) (as′ : List ℕ) (p x : ℕ) → length rs ≤ 4096 → p < length rs → Own (getD rs p empty-row) x → In (atom x) as′ → In p (positions (postingsOf rs) as′)
+in-positions : (rs : List Row) (as′ : List ℕ) (p x : ℕ) → length rs ≤ maxRows → p < length rs → Own (getD rs p empty-row) x → In (atom x) as′ → In p (positions (postingsOf rs) as′)
 unfolding positions postingsOf
 in-positions rs as′ p x l h o m =
     in-distinct (sortOf (concat (map (postedAt (postingsFrom 0 rs)) as′))) p
@@ -152,7 +152,7 @@ abbrev pub FoundOk : Bool → List Row → List ℕ → Option (List ℕ) → Ty
 FoundOk full rs as′ none = Unit {0}
 FoundOk full rs as′ (some ps) = Reads full rs as′ ps
 
-searched-reads : (rs : List Row) (h : Header) (as′ : List ℕ) (t : Tick) → length rs ≤ 4096 → FoundOk false rs as′ (searched h (postingsOf rs) as′ t .found)
+searched-reads : (rs : List Row) (h : Header) (as′ : List ℕ) (t : Tick) → length rs ≤ maxRows → FoundOk false rs as′ (searched h (postingsOf rs) as′ t .found)
 unfolding searched
 searched-reads rs h as′ (Stopped m) l = tt
 searched-reads rs h as′ (Ticked m) l = go
@@ -161,7 +161,7 @@ searched-reads rs h as′ (Ticked m) l = go
     go p k (inl t) = absurd t
     go p k (inr z) = in-positions rs as′ p (z .0) l k (z .1) (z .2)
 
-rebuilt-reads : (rs : List Row) (h : Header) (as′ : List ℕ) (t : Tick) → length rs ≤ 4096 → FoundOk false rs as′ (rebuilt h (postingsOf rs) as′ t .found)
+rebuilt-reads : (rs : List Row) (h : Header) (as′ : List ℕ) (t : Tick) → length rs ≤ maxRows → FoundOk false rs as′ (rebuilt h (postingsOf rs) as′ t .found)
 unfolding rebuilt
 rebuilt-reads rs h as′ (Stopped m) l = tt
 rebuilt-reads rs h as′ (Ticked m) l = searched-reads rs (withStale h false) as′ (ticks (searchTicks (postingsOf rs) as′) m) l
@@ -170,7 +170,7 @@ rows-long : (es : List Entry) → length (rowsE es) ≡ length es
 rows-long [] = refl
 rows-long (e ∷ es) = ap suc (rows-long es)
 
-pub search-reads : (l : Ledger) (as′ : List ℕ) (m : Meter) → length (rowsE (l .entries)) ≤ 4096 → FoundOk (l .header .full) (rowsE (l .entries)) as′ (search l as′ m .found)
+pub search-reads : (l : Ledger) (as′ : List ℕ) (m : Meter) → length (rowsE (l .entries)) ≤ maxRows → FoundOk (l .header .full) (rowsE (l .entries)) as′ (search l as′ m .found)
 unfolding search rowsOf
 search-reads l as′ m k = go (leb (length (l .entries)) 64 || l .header .full) refl
   where

@@ -16,7 +16,7 @@ use Rattle.meter.specs.declared.Meter.{Meter}
 use Rattle.model.specs.declared.LearningLimits.{LearningLimits}
 use Rattle.model.specs.declared.CloseAnswer.{CloseAnswer}
 use Rattle.model.specs.declared.CloseAnswer.the-variants.{Refused, Stopped, Conflict, Closed}
-use Rattle.model.specs.Records.{Row, rowsOf, limitsOk}
+use Rattle.model.specs.Records.{Row, rowsOf, limitsOk, slotWords, maxRows}
 use Rattle.model.specs.Slots.{entriesIn}
 use Rattle.model.specs.Refusals.{Lent, ledgerIn, refusal, accepts, contentsOk, countsOk}
 use Rattle.model.specs.Operations.{CloseEnd, closeEnd, close, region, regionOk}
@@ -34,25 +34,25 @@ use Rattle.model.proofs.Priority.Settling.{holds-present, holds-absent}
 use Rattle.model.proofs.Priority.Rounds.{OnGoing, closing-closed}
 use Rattle.model.proofs.Priority.First.{first-half}
 
--- ---- an accepted ledger has at most 4096 rows
+-- ---- an accepted ledger has at most maxRows rows
 entries-long : (n : ℕ) (ws : List ℕ) → length (rowsE (entriesIn n ws)) ≡ n
 unfolding entriesIn
 entries-long zero ws = refl
-entries-long (suc n) ws = ap suc (entries-long n (drop 168 ws))
+entries-long (suc n) ws = ap suc (entries-long n (drop slotWords ws))
 
-tier-ok : (l : LearningLimits) → T (limitsOk l) → l .«tier_rows» ≤ 4096
+tier-ok : (l : LearningLimits) → T (limitsOk l) → l .«tier_rows» ≤ maxRows
 unfolding limitsOk
 tier-ok l t =
-    let a = and-left (leb 1 (l .«tier_rows») && leb (l .«tier_rows») 4096) _ (and-right (atomsOk (l .atoms)) _ t) in
-    leb→le (l .«tier_rows») 4096 (and-right (leb 1 (l .«tier_rows»)) (leb (l .«tier_rows») 4096) a)
+    let a = and-left (leb 1 (l .«tier_rows») && leb (l .«tier_rows») maxRows) _ (and-right (atomsOk (l .atoms)) _ t) in
+    leb→le (l .«tier_rows») maxRows (and-right (leb 1 (l .«tier_rows»)) (leb (l .«tier_rows») maxRows) a)
 
 rows-few : (s : Lent) → Accepted s → s .header .rows ≤ s .header .limits .«tier_rows»
 unfolding contentsOk countsOk
 rows-few s a = leb→le (s .header .rows) (s .header .limits .«tier_rows») (and-left (leb (s .header .rows) (s .header .limits .«tier_rows»)) _ (and-left (countsOk (s .header)) _ (a .contents)))
 
-few-rows : (s : Lent) → Accepted s → length (rowsE (ledgerIn s .entries)) ≤ 4096
+few-rows : (s : Lent) → Accepted s → length (rowsE (ledgerIn s .entries)) ≤ maxRows
 unfolding ledgerIn
-few-rows s a = subst (λ (k : ℕ). k ≤ 4096) (sym (entries-long (s .header .rows) (s .slots))) (le-trans (rows-few s a) (tier-ok (s .header .limits) (a .limits)))
+few-rows s a = subst (λ (k : ℕ). k ≤ maxRows) (sym (entries-long (s .header .rows) (s .slots))) (le-trans (rows-few s a) (tier-ok (s .header .limits) (a .limits)))
 
 -- ---- Closed is closed
 abbrev NotRefused : CloseAnswer → Type 0

@@ -18,7 +18,7 @@ use Rattle.meter.specs.declared.Tick.the-variants.{Ticked, Stopped}
 use Rattle.meter.specs.Meter.{tickOf, ticks, pay, made}
 use Rattle.model.specs.declared.LearningLimits.{LearningLimits}
 use Rattle.model.specs.declared.Header.{Header}
-use Rattle.model.specs.Records.{Row, Entry, Ledger, rowsOf, rowAt, isRow, isRowOver, within, limitsOk, literals, plus, header, withRows, withStale, withFull, attempted, withAccount, withMark, withDeliveries, withSeeded, withHits, hitEntry, withDelivered}
+use Rattle.model.specs.Records.{Row, Entry, Ledger, rowsOf, rowAt, isRow, isRowOver, within, limitsOk, literals, plus, header, withRows, withStale, withFull, attempted, withAccount, withMark, withDeliveries, withSeeded, withHits, hitEntry, withDelivered, maxRows, maxConditions, maxOutputs}
 use Rattle.model.specs.Slots.{slotsOf, entriesIn}
 use Rattle.model.specs.Retention.{Retained, Outcome, Stops, Declines, Subsumes, Adds, retain, canCapture}
 use Rattle.model.specs.Transfers.{Transfer, Delivery, Reach, starting, ticked, receive, received, changeAt, seedRows, markFor, seeding, marked, seededTier, seededStore, passesOver, front, deliverRows, delivering, deliveredTier, deliveredStore}
@@ -146,13 +146,13 @@ fine-in s a r m = valid-of (s .header .limits .atoms) r (rows-ok s a r m)
 
 pub row-over : (n : ℕ) (r : Row) → T (isRow n r) → T (isRowOver n r)
 unfolding isRow
-row-over n r t = and-right (within 16 64 r) (isRowOver n r) t
+row-over n r t = and-right (within maxConditions maxOutputs r) (isRowOver n r) t
 
-pub most-ok : (l : LearningLimits) → T (limitsOk l) → (l .«founded_conditions» ≤ 16) × (l .«founded_outputs» ≤ 64)
+pub most-ok : (l : LearningLimits) → T (limitsOk l) → (l .«founded_conditions» ≤ maxConditions) × (l .«founded_outputs» ≤ maxOutputs)
 unfolding limitsOk
 most-ok l t =
-    let u = and-right (leb 1 (l .«tier_rows») && leb (l .«tier_rows») 4096) (leb (l .«founded_conditions») 16 && leb (l .«founded_outputs») 64) (and-right (atomsOk (l .atoms)) _ t) in
-    (leb→le (l .«founded_conditions») 16 (and-left (leb (l .«founded_conditions») 16) (leb (l .«founded_outputs») 64) u), leb→le (l .«founded_outputs») 64 (and-right (leb (l .«founded_conditions») 16) (leb (l .«founded_outputs») 64) u))
+    let u = and-right (leb 1 (l .«tier_rows») && leb (l .«tier_rows») maxRows) (leb (l .«founded_conditions») maxConditions && leb (l .«founded_outputs») maxOutputs) (and-right (atomsOk (l .atoms)) _ t) in
+    (leb→le (l .«founded_conditions») maxConditions (and-left (leb (l .«founded_conditions») maxConditions) (leb (l .«founded_outputs») maxOutputs) u), leb→le (l .«founded_outputs») maxOutputs (and-right (leb (l .«founded_conditions») maxConditions) (leb (l .«founded_outputs») maxOutputs) u))
 
 -- ---- written and read back
 all-valid : (es : List Entry) → Fine (rowsE es) → AllValid es
@@ -201,7 +201,7 @@ offered-valid l t k h =
     let c = and-left (leb (length (t .conditions)) (l .«founded_conditions»)) (leb (length (t .outputs)) (l .«founded_outputs»)) (and-left (leb (length (t .conditions)) (l .«founded_conditions») && leb (length (t .outputs)) (l .«founded_outputs»)) (isRowOver (l .atoms) t) h) in
     let o = and-right (leb (length (t .conditions)) (l .«founded_conditions»)) (leb (length (t .outputs)) (l .«founded_outputs»)) (and-left (leb (length (t .conditions)) (l .«founded_conditions») && leb (length (t .outputs)) (l .«founded_outputs»)) (isRowOver (l .atoms) t) h) in
     let m = most-ok l k in
-    and-of (leb (length (t .conditions)) 16 && leb (length (t .outputs)) 64) (isRowOver (l .atoms) t) (and-of (leb (length (t .conditions)) 16) (leb (length (t .outputs)) 64) (le-leb (length (t .conditions)) (l .«founded_conditions») 16 c (m .0)) (le-leb (length (t .outputs)) (l .«founded_outputs») 64 o (m .1))) (and-right (leb (length (t .conditions)) (l .«founded_conditions») && leb (length (t .outputs)) (l .«founded_outputs»)) (isRowOver (l .atoms) t) h)
+    and-of (leb (length (t .conditions)) maxConditions && leb (length (t .outputs)) maxOutputs) (isRowOver (l .atoms) t) (and-of (leb (length (t .conditions)) maxConditions) (leb (length (t .outputs)) maxOutputs) (le-leb (length (t .conditions)) (l .«founded_conditions») maxConditions c (m .0)) (le-leb (length (t .outputs)) (l .«founded_outputs») maxOutputs o (m .1))) (and-right (leb (length (t .conditions)) (l .«founded_conditions») && leb (length (t .outputs)) (l .«founded_outputs»)) (isRowOver (l .atoms) t) h)
   where
     and-of : (a b : Bool) → T a → T b → T (a && b)
     and-of true b x y = y

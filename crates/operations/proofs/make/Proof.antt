@@ -3,6 +3,7 @@ use mathlib.Core.Path.{sym, _∙_}
 use Prim.Native.Nat.{_≤_}
 use borrow.Author.Tests.{not-true, not-false}
 use borrow.Author.Needs.{needs}
+use Rattle.model.specs.Records.{maxRows}
 use Rattle.contents.proofs.Limits.{limits-rows}
 use Rattle.operations.proofs.Making.{make-limits, make-slots, make-postings, make-made}
 use Rattle.operations.proofs.make.Statement.{statement}
@@ -21,7 +22,7 @@ mul-if2 : tie.Need-mul-if2
 mul-if2 c =
     let a = c .before .before .before .before .args in
     let l = sym (c .before .limits-ok .ensures) ∙ not-false _ (c .if1 .left) in
-    let r : a .limits .«tier_rows» ≤ 4096 = limits-rows (a .limits) l in
+    let r : a .limits .«tier_rows» ≤ maxRows = limits-rows (a .limits) l in
     search needs
 
 returns-2 : tie.Need-returns-2
@@ -34,7 +35,7 @@ mul-if3 : tie.Need-mul-if3
 mul-if3 c =
     let a = c .before .before .before .before .before .args in
     let l = sym (c .before .before .limits-ok .ensures) ∙ not-false _ (c .before .if1 .left) in
-    let r : a .limits .«tier_rows» ≤ 4096 = limits-rows (a .limits) l in
+    let r : a .limits .«tier_rows» ≤ maxRows = limits-rows (a .limits) l in
     search needs
 
 returns-3 : tie.Need-returns-3

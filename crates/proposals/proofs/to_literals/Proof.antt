@@ -12,7 +12,7 @@ use Rattle.meter.specs.declared.Judged.{Judged}
 use Rattle.meter.specs.declared.Verdict.{Verdict}
 use Rattle.meter.specs.declared.Verdict.the-variants as verdict
 use Rattle.meter.specs.Meter.{pay, judged}
-use Rattle.model.specs.Records.{Row, literals}
+use Rattle.model.specs.Records.{Row, literals, maxConditions, maxOutputs}
 use Rattle.model.specs.Slots.{rowIn}
 use Rattle.slots.specs.Cursor.{Sound, listOf}
 use Rattle.proposals.specs.Parts.{put, blankOf}
@@ -44,10 +44,10 @@ module _ (c : tie.After-conditions) where
   listed : listOf S (c .conditions .result) ≡ R .conditions
   listed = ap (listOf S) (c .conditions .ensures) ∙ top .pre .0 .conditions
 
-  few : length (R .conditions) ≤ 16
+  few : length (R .conditions) ≤ maxConditions
   few = omega (arith, top .pre .0 .conditionCount, top .pre .0 .counted .few)
 
-  many : length (R .outputs) ≤ 64
+  many : length (R .outputs) ≤ maxOutputs
   many = omega (arith, top .pre .0 .outputCount, top .pre .0 .counted .most)
 
 module _ (c : tie.After-copy-side) where

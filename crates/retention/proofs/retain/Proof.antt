@@ -3,11 +3,12 @@ use borrow.Author.Needs.{needs}
 use mathlib.Core.Path.{_≡_, subst}
 use mathlib.Core.Bool.{Bool}
 use mathlib.Core.List.{List}
-use Prim.Native.Nat.{ℕ}
+use Prim.Native.Nat.{ℕ, _/_}
 use native.Mathlib.Omega.{arith}
 use denote.Ref.{now}
+use Rattle.words.specs.Bit.{wordBits}
 use Rattle.words.specs.Region.{has}
-use Rattle.model.specs.Records.{Row, Entry}
+use Rattle.model.specs.Records.{Row, Entry, maxRows}
 use Rattle.model.specs.Slots.{rowIn, entriesIn}
 use Rattle.model.specs.Retention.{firstPass, passed}
 use Rattle.proposals.specs.Proposed.{Proposed}
@@ -53,7 +54,7 @@ compare-requires : tie.Need-compare-requires
 compare-requires c κs =
     let t = c .before .before .before .before .before .before in
     let a = t .pre .0 in
-    (held _ _ _ a, (t .pre .1 .0, (t .pre .1 .1 .1, (omega (arith, a .few, a .most), no-mark 64))))
+    (held _ _ _ a, (t .pre .1 .0, (t .pre .1 .1 .1, (omega (arith, a .few, a .most), no-mark (maxRows / wordBits)))))
 
 enum-told : tie.Need-enum-told
 enum-told c = search needs

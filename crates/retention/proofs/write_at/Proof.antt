@@ -7,6 +7,7 @@ use native.Mathlib.Omega.{arith}
 use lib.ListN.{take, drop}
 use denote.Ref.{now}
 use Rattle.lists.proofs.Pads.{put-at}
+use Rattle.model.specs.Records.{slotWords}
 use Rattle.retention.proofs.write_at.Statement.{statement}
 use Rattle.retention.proofs.write_at.Tie as tie
 
@@ -40,7 +41,7 @@ returns c =
     let t = w .before .before .before .before in
     let q = t .args .position in
     let ws = now (t .args .slots) in
-    put-at (168 * q) (168 * q + 168) ws (w .write-row .last .0) (omega arith) ∙ ap (λ (x : List ℕ). take (168 * q) ws ++ (x ++ drop (168 * q + 168) ws)) (w .write-row .ensures)
+    put-at (slotWords * q) (slotWords * q + slotWords) ws (w .write-row .last .0) (omega arith) ∙ ap (λ (x : List ℕ). take (slotWords * q) ws ++ (x ++ drop (slotWords * q + slotWords) ws)) (w .write-row .ensures)
 
 pub write-at-spec : {M : Type 1} → statement M
 write-at-spec =

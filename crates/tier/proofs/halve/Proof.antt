@@ -3,6 +3,7 @@ use native.Mathlib.Omega.{arith}
 use mathlib.Core.Path.{_≡_, refl, sym, _∙_, ap}
 use Prim.Native.Nat.{ℕ, _*_, _-_, _≤_, _<_}
 use lib.ListN.{length, length-set}
+use Rattle.model.specs.Records.{slotWords}
 use Rattle.model.specs.Slots.{slotsOf, entriesIn}
 use Rattle.tier.specs.Tier.{tierOf}
 use Rattle.tier.proofs.Buffer.{rows-fit}
@@ -14,7 +15,7 @@ use Rattle.tier.proofs.halve.Lts as lts
 
 abbrev Inv-loop : tie.InvT-loop
 Inv-loop slots₀ rows i₀ slots i =
-    (i ≤ rows) × (168 * rows ≤ length slots) × (length slots ≡ length slots₀)
+    (i ≤ rows) × (slotWords * rows ≤ length slots) × (length slots ≡ length slots₀)
     × (slots ≡ slotsOf (tierOf slots₀) (halvedTo i (entriesIn rows slots₀)))
 
 abbrev μ-loop : tie.MeasureT-loop

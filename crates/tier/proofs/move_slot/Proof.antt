@@ -5,6 +5,7 @@ use native.Mathlib.Omega.{arith}
 use lib.ListN.{length, drop}
 use lib.Seq.{paste, paste-zero}
 use denote.Ref.{now}
+use Rattle.model.specs.Records.{slotWords}
 use Rattle.tier.proofs.Moving.{move-more, move-all}
 use Rattle.tier.proofs.move_slot.Statement.{statement}
 use Rattle.tier.proofs.move_slot.Tie as tie
@@ -13,10 +14,10 @@ use Rattle.tier.proofs.move_slot.Lts as lts
 
 abbrev Inv-loop : tie.InvT-loop
 Inv-loop slots₀ from to a b i₀ slots i =
-    (i ≤ 168) × (a ≤ b) × (b + 168 ≤ length slots₀) × (length slots ≡ length slots₀) × (slots ≡ paste slots₀ a (drop b slots₀) i)
+    (i ≤ slotWords) × (a ≤ b) × (b + slotWords ≤ length slots₀) × (length slots ≡ length slots₀) × (slots ≡ paste slots₀ a (drop b slots₀) i)
 
 abbrev μ-loop : tie.MeasureT-loop
-μ-loop slots₀ from to a b i₀ slots i = 168 - i
+μ-loop slots₀ from to a b i₀ slots i = slotWords - i
 
 -- src/lib.rt:119:13
 mul-a : tie.Need-mul-a Inv-loop μ-loop
@@ -28,7 +29,7 @@ mul-b c = search needs
 
 -- src/lib.rt:122:5
 loop-holds : tie.Need-loop-holds Inv-loop μ-loop
-loop-holds c = (search needs, search needs, search needs, search needs, paste-zero (now (c .args .slots)) (168 * c .args .to) (drop (168 * c .args .from) (now (c .args .slots))))
+loop-holds c = (search needs, search needs, search needs, search needs, paste-zero (now (c .args .slots)) (slotWords * c .args .to) (drop (slotWords * c .args .from) (now (c .args .slots))))
 
 -- src/lib.rt:123:30
 add-slots : tie.Need-add-slots Inv-loop μ-loop
@@ -71,7 +72,7 @@ loop-again c =
       search needs,
       search needs,
       search needs,
-      rw (l .loop .inv .4) (move-more (now (p .slots)) (168 * p .to) (168 * p .from) (l .loop .i) (omega arith) (omega arith)),
+      rw (l .loop .inv .4) (move-more (now (p .slots)) (slotWords * p .to) (slotWords * p .from) (l .loop .i) (omega arith) (omega arith)),
     )
 
 -- src/lib.rt:115:1

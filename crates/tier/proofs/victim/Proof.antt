@@ -3,6 +3,7 @@ use native.Mathlib.Omega.{arith}
 use mathlib.Core.Path.{_≡_, refl, sym, _∙_, ap}
 use Prim.Native.Nat.{ℕ, _*_, _-_, _≤_, _<_}
 use lib.ListN.{length, getD, drop}
+use Rattle.model.specs.Records.{slotWords}
 use Rattle.model.specs.Slots.{entriesIn}
 use Rattle.model.specs.Retention.{victimFrom, victim}
 use Rattle.tier.proofs.Buffer.{no-entry, rows-fit}
@@ -15,7 +16,7 @@ use Rattle.tier.proofs.lesser.Reads as lesser-reads
 
 abbrev Inv-loop : tie.InvT-loop
 Inv-loop slots rows at₀ i₀ at i =
-    (at < rows) × (i ≤ rows) × (168 * rows ≤ length slots)
+    (at < rows) × (i ≤ rows) × (slotWords * rows ≤ length slots)
     × (victimFrom at (getD (entriesIn rows slots) at no-entry) i (drop i (entriesIn rows slots)) ≡ victim (entriesIn rows slots))
 
 abbrev μ-loop : tie.MeasureT-loop

@@ -5,7 +5,7 @@ use mathlib.Core.Path.{_≡_}
 use Prim.Native.Nat.{_≤_}
 use lib.ListN.{length}
 use denote.Ref.{now}
-use Rattle.model.specs.Records.{Row}
+use Rattle.model.specs.Records.{Row, maxConditions, maxOutputs}
 use Rattle.model.specs.Rows.{groups}
 use Rattle.model.specs.Slots.{rowIn}
 use Rattle.writer.proofs.Forms.{chosen-packed, chosen-scalar}
@@ -20,10 +20,10 @@ module _ (c : tie.After-run-count2) where
   abbrev R : Row
   R = rowIn (now (top .args .p))
 
-  first-is : (c .before .before .run-count .result ≡ length (groups (R .conditions))) × (c .before .before .run-count .result ≤ 16)
+  first-is : (c .before .before .run-count .result ≡ length (groups (R .conditions))) × (c .before .before .run-count .result ≤ maxConditions)
   first-is = first-groups (top .pre) (c .before .before .run-count .ensures)
 
-  second-is : (c .run-count2 .result ≡ length (groups (R .outputs))) × (c .run-count2 .result ≤ 64)
+  second-is : (c .run-count2 .result ≡ length (groups (R .outputs))) × (c .run-count2 .result ≤ maxOutputs)
   second-is = second-groups (top .pre) (c .run-count2 .ensures)
 
 shared-slice-read-n : tie.Need-shared-slice-read-n

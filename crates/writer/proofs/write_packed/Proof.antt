@@ -6,6 +6,7 @@ use Prim.Native.Nat.{_-_, _*_}
 use lib.ListN.{length, replicate}
 use denote.Ref.{now}
 use borrow.Rule.Slice.PartMut.{putMid}
+use Rattle.model.specs.Records.{slotWords}
 use Rattle.model.specs.Slots.{rowIn}
 use Rattle.writer.proofs.Laying.{Placed, placed, zeroed-is, ready-first, half-long, ready-second, packed-words}
 use Rattle.writer.proofs.Proposal.{counts}
@@ -20,8 +21,8 @@ module _ (c : tie.After-fill-zero) where
   abbrev top : tie.Start
   top = c .before .before .before .before .before .before
 
-  zeros : c .fill-zero .last .0 ≡ replicate 160 0
-  zeros = c .fill-zero .ensures ∙ zeroed-is (now (top .args .body)) 160 (top .pre .0)
+  zeros : c .fill-zero .last .0 ≡ replicate (slotWords - 8) 0
+  zeros = c .fill-zero .ensures ∙ zeroed-is (now (top .args .body)) (slotWords - 8) (top .pre .0)
 
 -- the conditions are written
 module _ (c : tie.After-pack) where
@@ -31,8 +32,8 @@ module _ (c : tie.After-pack) where
   abbrev t : tie.Start
   t = top k
 
-  half-160 : length (putMid 0 (3 * t .args .form .first - 0) (k .fill-zero .last .0) (c .pack .last .1 .0)) ≡ 160
-  half-160 = half-long (t .pre .1 .0) (at t) (zeros k) (c .pack .ensures)
+  half-body : length (putMid 0 (3 * t .args .form .first - 0) (k .fill-zero .last .0) (c .pack .last .1 .0)) ≡ slotWords - 8
+  half-body = half-long (t .pre .1 .0) (at t) (zeros k) (c .pack .ensures)
 
 shared-slice-read-n : tie.Need-shared-slice-read-n
 shared-slice-read-n c = let k = counts (c .before .before .before .pre .1 .0) in omega arith
@@ -105,7 +106,7 @@ part-pack-end-4 : tie.Need-part-pack-end-4
 part-pack-end-4 c =
     let g = c .before .before .before in
     let p = at (t g) in
-    omega (arith, half-160 g)
+    omega (arith, half-body g)
 
 pack-requires-2 : tie.Need-pack-requires-2
 pack-requires-2 c κs =

@@ -6,6 +6,7 @@ use mathlib.Core.List.{List}
 use Prim.Native.Nat.{ℕ}
 use lib.ListN.{length}
 use denote.Ref.{now}
+use Rattle.model.specs.Records.{slotWords}
 use Rattle.slots.proofs.Storing.{laid-stored}
 use Rattle.retention.specs.declared.Retained.{Retained}
 use Rattle.transfers.proofs.Carrying.{carried-accepted}
@@ -23,7 +24,7 @@ module _ (t : tie.Start) where
   abbrev Q : List ℕ
   Q = now (t .args .postings)
 
-  long : length R ≡ 168
+  long : length R ≡ slotWords
   long = laid-stored (t .args .passage .header .limits .atoms) R (t .pre .stored) .long
 
 -- a row born after the mark

@@ -7,7 +7,7 @@ use Prim.Native.Nat.{ℕ, suc, _+_, _-_, _*_, _≤_, _<_}
 use lib.ListN.{length, take, drop}
 use denote.Ref.{now}
 use Rattle.model.specs.declared.Header.{Header}
-use Rattle.model.specs.Records.{Entry}
+use Rattle.model.specs.Records.{Entry, slotWords}
 use Rattle.model.specs.Slots.{entryIn, entriesIn}
 use Rattle.model.specs.Transfers.{Transfer, seedRows}
 use Rattle.model.proofs.Slots.{entries-length}
@@ -44,7 +44,7 @@ module _ (l : tie.At-loop Inv-loop μ-loop) where
   v₀ = startOf (l .before .start .result) (now (t .args .slots)) (now (t .args .postings))
 
   abbrev part : List ℕ
-  part = take ((168 * l .loop .i + 168) - 168 * l .loop .i) (drop (168 * l .loop .i) G)
+  part = take ((slotWords * l .loop .i + slotWords) - slotWords * l .loop .i) (drop (slotWords * l .loop .i) G)
 
   -- what the loop leaves, of the transfer from its start
   closing : (c : ℕ) (p : Passage) (ws ps : List ℕ) → Carried (h .limits .atoms) c p ws ps (seedRows (h .limits) (t .args .mark) es v₀) →
