@@ -64,21 +64,20 @@ fn sweep(file: &mut File, call: impl Fn(&mut File, Title<'_>, u64, Work) -> Paid
     let charge = call(file, title, AMPLE, Work::ENDLESS).charge;
     let mut charges = Vec::new();
     for account in 0..=charge + 1 {
-        let title = (format!("account{account:02}"), format!("account {account}"));
-        charges.push(call(file, (&title.0, &title.1), account, Work::ENDLESS).charge);
+        let about = format!("account {account}");
+        charges.push(call(file, ("account", &about), account, Work::ENDLESS).charge);
     }
     for left in 0..=charge + 1 {
-        let title = (format!("limit{left:02}"), format!("{left} ticks left"));
-        call(file, (&title.0, &title.1), AMPLE, Work::new(3, 3 + left));
+        let about = format!("{left} ticks left");
+        call(file, ("limit", &about), AMPLE, Work::new(3, 3 + left));
     }
     for (account, &last) in (0..).zip(&charges) {
         for limit in 0..=last {
             let work = Work::new(0, limit);
             let tried = call(&mut File::new(""), ("", ""), account, work);
             if tried.account == 0 && tried.charge == limit {
-                let name = format!("both{account:02}at{limit:02}");
                 let about = format!("account {account} and {limit} ticks, both used up");
-                call(file, (&name, &about), account, work);
+                call(file, ("both", &about), account, work);
             }
         }
     }
@@ -255,15 +254,25 @@ fn closings(file: &mut File, room: Limits) {
         cut: mask(68, cut),
     };
     let open = region(&[3], &[64]);
-    let title = (
-        "closed",
-        "rebuilt in the second round, read in the third and fourth",
+    let title = |about| ("closings", about);
+    let about = "rebuilt in the second round, read in the third and fourth";
+    let closed = close_card(file, title(about), &book, &open, Work::ENDLESS);
+    let about = "67 held, which the last row cuts";
+    close_card(
+        file,
+        title(about),
+        &book,
+        &region(&[3, 67], &[]),
+        Work::ENDLESS,
     );
-    let closed = close_card(file, title, &book, &open, Work::ENDLESS);
-    let title = ("conflict", "67 held, which the last row cuts");
-    close_card(file, title, &book, &region(&[3, 67], &[]), Work::ENDLESS);
-    let title = ("again", "after a closing, with its postings");
-    close_card(file, title, &closed, &region(&[2], &[]), Work::ENDLESS);
+    let about = "after a closing, with its postings";
+    close_card(
+        file,
+        title(about),
+        &closed,
+        &region(&[2], &[]),
+        Work::ENDLESS,
+    );
     let built = |limit: &u64| {
         let mut ledger = book.ledger.clone();
         ledger.close(open.clone(), *limit);
@@ -273,10 +282,10 @@ fn closings(file: &mut File, room: Limits) {
         .find(built)
         .expect("a limit that is enough to rebuild");
     let work = |left: u64| Work::new(3, 3 + left);
-    let title = ("unbuilt", "stopped at the last posting of the rebuild");
-    close_card(file, title, &book, &open, work(built - 1));
-    let title = ("built", "stopped at the first atom after the rebuild");
-    close_card(file, title, &book, &open, work(built));
+    let about = "stopped at the last posting of the rebuild";
+    close_card(file, title(about), &book, &open, work(built - 1));
+    let about = "stopped at the first atom after the rebuild";
+    close_card(file, title(about), &book, &open, work(built));
 }
 
 // ---- counts at the greatest word

@@ -1,17 +1,21 @@
 -- The instances of demand 3 hold. Assumes nothing.
-use mathlib.Core.Path.{_≡_, refl}
+use mathlib.Core.Path.{_≡_, refl, ap}
+use mathlib.Core.Bool.{Bool, false}
 use mathlib.Core.Logic.{_⊎_, inl, inr}
 use mathlib.Core.List.{List, [], _∷_}
 use Prim.Native.Nat.{ℕ}
 use native.Mathlib.Omega.{arith}
 use lib.Dec.{T}
 use Rattle.words.specs.Region.{Region, isRegion, holds}
-use Rattle.model.specs.Records.{Row, tierLimits}
+use Rattle.model.specs.declared.MakeAnswer.the-variants.{Made}
+use Rattle.model.specs.declared.CloseAnswer.{CloseAnswer}
+use Rattle.model.specs.declared.CloseAnswer.the-variants.{Closed, Conflict}
+use Rattle.model.specs.Records.{Row, fresh, tierLimits}
 use Rattle.model.specs.Opened.{opened}
 use Rattle.model.specs.Priority.{In, Forces, ForceAlike, Covers}
-use Rattle.model.specs.Cards.{endless, _⇒_, a140, a142}
-use Rattle.model.specs.Instances.{begun, after, heldBy, closedBy, one, other, Instances}
-use Rattle.model.proofs.Cards.{force-alike}
+use Rattle.model.specs.Cards.{endless, _⇒_, a140, ab140, a142, ab144}
+use Rattle.model.specs.Instances.{begun, after, heldBy, closedBy, plan, clashing, one, other, Instances}
+use Rattle.model.proofs.Cards as cards
 use Rattle.model.proofs.Cover.{covers-of, member, subset, givesB, givesAll, coversB}
 
 -- held {0}
@@ -44,27 +48,50 @@ no-140 s (inr i) m = i
 two-unlike : ForceAlike 128 (a140 ∷ []) (a142 ∷ []) → ⊥
 two-unlike f = let g = f region plan-fits 140 .0 forced in no-140 (g .by) (g .isRow) (g .gives)
 
-one-other : Covers (after one .taken) (after other .taken)
-unfolding opened begun after endless member subset givesB givesAll coversB
-one-other = covers-of _ _ tt
+-- What a list of offers leaves: whether it evicts, the rows held; then the rows taken, the answers of both closings.
+-- Each equation below is one computation, which runs the offers once.
+abbrev left : List Row → Bool × List Row
+left ts = (after ts .evicted, heldBy ts)
 
-other-one : Covers (after other .taken) (after one .taken)
-unfolding opened begun after endless member subset givesB givesAll coversB
-other-one = covers-of _ _ tt
+abbrev told : List Row → (Bool × List Row) × List Row × CloseAnswer × CloseAnswer
+told ts = (left ts, after ts .taken, closedBy ts plan .answer, closedBy ts clashing .answer)
+
+one-told : told one ≡ ((false, cards.one), ab144 ∷ a142 ∷ ab140 ∷ a140 ∷ [], Closed, Conflict)
+unfolding opened begun after heldBy closedBy endless
+one-told = refl
+
+other-told : told other ≡ ((false, cards.other), a142 ∷ a140 ∷ ab144 ∷ ab140 ∷ [], Closed, Conflict)
+unfolding opened begun after heldBy closedBy endless
+other-told = refl
+
+a140-left : left (a140 ∷ []) ≡ (false, a140 ∷ [])
+unfolding opened begun after heldBy endless
+a140-left = refl
+
+a142-left : left (a142 ∷ []) ≡ (false, a142 ∷ [])
+unfolding opened begun after heldBy endless
+a142-left = refl
+
+covered : Covers (after one .taken) (after other .taken) × Covers (after other .taken) (after one .taken)
+unfolding member subset givesB givesAll coversB
+covered = rw (ap (λ t. t .1) one-told, ap (λ t. t .1) other-told) (covers-of _ _ tt, covers-of _ _ tt)
+
+made : begun .answer ≡ Made (fresh (tierLimits 128) 1)
+unfolding opened begun
+made = refl
 
 pub instances : Instances
-unfolding opened begun after heldBy closedBy endless
 instances = record {
-  made = refl;
-  kept = refl;
-  keptToo = refl;
-  covers = (one-other, other-one);
-  alike = force-alike;
-  closed = refl;
-  closedToo = refl;
-  conflict = refl;
-  conflictToo = refl;
-  keptAlone = refl;
-  keptAloneToo = refl;
-  unlike = two-unlike;
+  made = made;
+  kept = ap (λ t. t .0 .0) one-told;
+  keptToo = ap (λ t. t .0 .0) other-told;
+  covers = covered;
+  alike = rw (ap (λ t. t .0 .1) one-told, ap (λ t. t .0 .1) other-told) cards.force-alike;
+  closed = ap (λ t. t .2) one-told;
+  closedToo = ap (λ t. t .2) other-told;
+  conflict = ap (λ t. t .3) one-told;
+  conflictToo = ap (λ t. t .3) other-told;
+  keptAlone = ap (λ t. t .0) a140-left;
+  keptAloneToo = ap (λ t. t .0) a142-left;
+  unlike = λ f. two-unlike (rw (ap (λ t. t .1) a140-left, ap (λ t. t .1) a142-left) at f);
 }

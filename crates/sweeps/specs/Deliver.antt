@@ -5,9 +5,9 @@ use mathlib.Core.List.{List, [], _∷_}
 use Prim.Native.Nat.{ℕ}
 use Rattle.model.specs.declared.LearningLimits.{LearningLimits}
 use Rattle.model.specs.declared.TransferAnswer.the-variants as transfer-answer
-use Rattle.model.specs.Operations.{deliver}
+use Rattle.model.specs.Operations.{TransferEnd, deliver}
 use Rattle.model.specs.Opened.{opened}
-use Rattle.checks.specs.Helpers.{lim, mt, hd, mk, lent, row, zs}
+use Rattle.checks.specs.Helpers.{lim, mt, hd, mk, lent, row, zs, Agree}
 
 abbrev tierLimits0 : LearningLimits
 tierLimits0 = lim 130 4 16 3 0 100 20000 20000 1 2
@@ -75,1079 +75,915 @@ whole : deliver (lent (hd tierLimits0 4 4 7 3 4 1000 1000 11 12 13 false false (
 unfolding opened
 whole = refl
 
--- account 0: Done, 0 taken
-account00 : deliver (lent (hd tierLimits0 4 4 7 3 4 1000 0 11 12 13 false false (mk 8 1)) tierSlots0 tierPostings0) (lent (hd storeLimits0 8 2 5 0 4 1000 1000 11 12 13 false false (mk 4 2)) storeSlots0 storePostings0) (mt 0 1000)
-    ≡ record { answer = transfer-answer.Done; tier = lent (hd tierLimits0 4 4 7 3 4 1000 0 11 12 13 false false (mk 8 1)) tierSlots0 tierPostings0; store = lent (hd storeLimits0 8 2 5 0 4 1000 1000 11 12 13 false false (mk 4 2)) storeSlots0 storePostings0; meter = mt 1 1000; ticks = 1; took = []; evicts = false }
-unfolding opened
-account00 = refl
-
--- account 1: Done, 0 taken
-account01 : deliver (lent (hd tierLimits0 4 4 7 3 4 1000 1 11 12 13 false false (mk 8 1)) tierSlots0 tierPostings0) (lent (hd storeLimits0 8 2 5 0 4 1000 1000 11 12 13 false false (mk 4 2)) storeSlots0 storePostings0) (mt 0 1000)
-    ≡ record { answer = transfer-answer.Done; tier = lent (hd tierLimits0 4 4 7 3 4 1000 0 11 12 13 false false (mk 8 1)) tierSlots0 tierPostings0; store = lent (hd storeLimits0 8 2 5 0 4 1000 1000 11 12 13 false false (mk 4 2)) storeSlots0 storePostings0; meter = mt 2 1000; ticks = 2; took = []; evicts = false }
-unfolding opened
-account01 = refl
-
--- account 2: Done, 0 taken
-account02 : deliver (lent (hd tierLimits0 4 4 7 3 4 1000 2 11 12 13 false false (mk 8 1)) tierSlots0 tierPostings0) (lent (hd storeLimits0 8 2 5 0 4 1000 1000 11 12 13 false false (mk 4 2)) storeSlots0 storePostings0) (mt 0 1000)
-    ≡ record { answer = transfer-answer.Done; tier = lent (hd tierLimits0 4 4 7 3 4 1000 0 11 12 13 false false (mk 8 1)) tierSlots0 tierPostings0; store = lent (hd storeLimits0 8 2 5 0 4 1000 1000 11 12 13 false false (mk 4 2)) storeSlots0 storePostings0; meter = mt 3 1000; ticks = 3; took = []; evicts = false }
-unfolding opened
-account02 = refl
-
--- account 3: Done, 0 taken
-account03 : deliver (lent (hd tierLimits0 4 4 7 3 4 1000 3 11 12 13 false false (mk 8 1)) tierSlots0 tierPostings0) (lent (hd storeLimits0 8 2 5 0 4 1000 1000 11 12 13 false false (mk 4 2)) storeSlots0 storePostings0) (mt 0 1000)
-    ≡ record { answer = transfer-answer.Done; tier = lent (hd tierLimits0 4 4 7 3 4 1000 0 11 12 13 false false (mk 8 1)) tierSlots0 tierPostings0; store = lent (hd storeLimits0 8 2 5 0 4 1000 1000 11 12 13 false false (mk 4 2)) storeSlots0 storePostings0; meter = mt 4 1000; ticks = 4; took = []; evicts = false }
-unfolding opened
-account03 = refl
-
--- account 4: Done, 0 taken
-account04 : deliver (lent (hd tierLimits0 4 4 7 3 4 1000 4 11 12 13 false false (mk 8 1)) tierSlots0 tierPostings0) (lent (hd storeLimits0 8 2 5 0 4 1000 1000 11 12 13 false false (mk 4 2)) storeSlots0 storePostings0) (mt 0 1000)
-    ≡ record { answer = transfer-answer.Done; tier = lent (hd tierLimits0 4 4 7 3 4 1000 0 11 12 13 false false (mk 8 1)) tierSlots0 tierPostings0; store = lent (hd storeLimits0 8 2 5 0 4 1000 1000 11 12 13 false false (mk 4 2)) storeSlots0 storePostings0; meter = mt 5 1000; ticks = 5; took = []; evicts = false }
-unfolding opened
-account04 = refl
-
--- account 5: Done, 0 taken
-account05 : deliver (lent (hd tierLimits0 4 4 7 3 4 1000 5 11 12 13 false false (mk 8 1)) tierSlots0 tierPostings0) (lent (hd storeLimits0 8 2 5 0 4 1000 1000 11 12 13 false false (mk 4 2)) storeSlots0 storePostings0) (mt 0 1000)
-    ≡ record { answer = transfer-answer.Done; tier = lent (hd tierLimits0 4 4 7 3 4 1000 0 11 12 13 false false (mk 8 1)) tierSlots0 tierPostings0; store = lent (hd storeLimits0 8 2 5 0 4 1000 1000 11 12 13 false false (mk 4 2)) storeSlots0 storePostings0; meter = mt 6 1000; ticks = 6; took = []; evicts = false }
-unfolding opened
-account05 = refl
-
--- account 6: Done, 0 taken
-account06 : deliver (lent (hd tierLimits0 4 4 7 3 4 1000 6 11 12 13 false false (mk 8 1)) tierSlots0 tierPostings0) (lent (hd storeLimits0 8 2 5 0 4 1000 1000 11 12 13 false false (mk 4 2)) storeSlots0 storePostings0) (mt 0 1000)
-    ≡ record { answer = transfer-answer.Done; tier = lent (hd tierLimits0 4 4 7 3 4 1000 0 11 12 13 false false (mk 8 1)) tierSlots0 tierPostings0; store = lent (hd storeLimits0 8 2 5 0 4 1000 1000 11 12 13 false false (mk 4 2)) storeSlots0 storePostings0; meter = mt 7 1000; ticks = 7; took = []; evicts = false }
-unfolding opened
-account06 = refl
-
--- account 7: Done, 1 taken
-account07 : deliver (lent (hd tierLimits0 4 4 7 3 4 1000 7 11 12 13 false false (mk 8 1)) tierSlots0 tierPostings0) (lent (hd storeLimits0 8 2 5 0 4 1000 1000 11 12 13 false false (mk 4 2)) storeSlots0 storePostings0) (mt 0 1000)
-    ≡ record { answer = transfer-answer.Done; tier = lent (hd tierLimits0 4 4 7 3 4 1000 0 11 12 13 false false (mk 8 1)) tierSlots2 tierPostings0; store = lent (hd storeLimits0 8 2 5 0 4 1000 1000 11 12 13 false false (mk 4 2)) storeSlots2 storePostings0; meter = mt 10 1000; ticks = 10; took = row (7 ∷ []) (150 ∷ []) ∷ []; evicts = false }
-unfolding opened
-account07 = refl
-
--- account 8: Done, 1 taken
-account08 : deliver (lent (hd tierLimits0 4 4 7 3 4 1000 8 11 12 13 false false (mk 8 1)) tierSlots0 tierPostings0) (lent (hd storeLimits0 8 2 5 0 4 1000 1000 11 12 13 false false (mk 4 2)) storeSlots0 storePostings0) (mt 0 1000)
-    ≡ record { answer = transfer-answer.Done; tier = lent (hd tierLimits0 4 4 7 3 4 1000 0 11 12 13 false false (mk 8 1)) tierSlots2 tierPostings0; store = lent (hd storeLimits0 8 2 5 0 4 1000 1000 11 12 13 false false (mk 4 2)) storeSlots2 storePostings0; meter = mt 11 1000; ticks = 11; took = row (7 ∷ []) (150 ∷ []) ∷ []; evicts = false }
-unfolding opened
-account08 = refl
-
--- account 9: Done, 1 taken
-account09 : deliver (lent (hd tierLimits0 4 4 7 3 4 1000 9 11 12 13 false false (mk 8 1)) tierSlots0 tierPostings0) (lent (hd storeLimits0 8 2 5 0 4 1000 1000 11 12 13 false false (mk 4 2)) storeSlots0 storePostings0) (mt 0 1000)
-    ≡ record { answer = transfer-answer.Done; tier = lent (hd tierLimits0 4 4 7 3 4 1000 0 11 12 13 false false (mk 8 1)) tierSlots2 tierPostings0; store = lent (hd storeLimits0 8 2 5 0 4 1000 1000 11 12 13 false false (mk 4 2)) storeSlots2 storePostings0; meter = mt 12 1000; ticks = 12; took = row (7 ∷ []) (150 ∷ []) ∷ []; evicts = false }
-unfolding opened
-account09 = refl
-
--- account 10: Done, 1 taken
-account10 : deliver (lent (hd tierLimits0 4 4 7 3 4 1000 10 11 12 13 false false (mk 8 1)) tierSlots0 tierPostings0) (lent (hd storeLimits0 8 2 5 0 4 1000 1000 11 12 13 false false (mk 4 2)) storeSlots0 storePostings0) (mt 0 1000)
-    ≡ record { answer = transfer-answer.Done; tier = lent (hd tierLimits0 4 4 7 3 4 1000 0 11 12 13 false false (mk 8 1)) tierSlots2 tierPostings0; store = lent (hd storeLimits0 8 2 5 0 4 1000 1000 11 12 13 false false (mk 4 2)) storeSlots2 storePostings0; meter = mt 13 1000; ticks = 13; took = row (7 ∷ []) (150 ∷ []) ∷ []; evicts = false }
-unfolding opened
-account10 = refl
-
--- account 11: Done, 1 taken
-account11 : deliver (lent (hd tierLimits0 4 4 7 3 4 1000 11 11 12 13 false false (mk 8 1)) tierSlots0 tierPostings0) (lent (hd storeLimits0 8 2 5 0 4 1000 1000 11 12 13 false false (mk 4 2)) storeSlots0 storePostings0) (mt 0 1000)
-    ≡ record { answer = transfer-answer.Done; tier = lent (hd tierLimits0 4 4 7 3 4 1000 0 11 12 13 false false (mk 8 1)) tierSlots2 tierPostings0; store = lent (hd storeLimits0 8 2 5 0 4 1000 1000 11 12 13 false false (mk 4 2)) storeSlots2 storePostings0; meter = mt 14 1000; ticks = 14; took = row (7 ∷ []) (150 ∷ []) ∷ []; evicts = false }
-unfolding opened
-account11 = refl
-
--- account 12: Done, 1 taken
-account12 : deliver (lent (hd tierLimits0 4 4 7 3 4 1000 12 11 12 13 false false (mk 8 1)) tierSlots0 tierPostings0) (lent (hd storeLimits0 8 2 5 0 4 1000 1000 11 12 13 false false (mk 4 2)) storeSlots0 storePostings0) (mt 0 1000)
-    ≡ record { answer = transfer-answer.Done; tier = lent (hd tierLimits0 4 4 7 3 4 1000 0 11 12 13 false false (mk 8 1)) tierSlots2 tierPostings0; store = lent (hd storeLimits0 8 2 5 0 4 1000 1000 11 12 13 false false (mk 4 2)) storeSlots2 storePostings0; meter = mt 15 1000; ticks = 15; took = row (7 ∷ []) (150 ∷ []) ∷ []; evicts = false }
-unfolding opened
-account12 = refl
-
--- account 13: Done, 1 taken
-account13 : deliver (lent (hd tierLimits0 4 4 7 3 4 1000 13 11 12 13 false false (mk 8 1)) tierSlots0 tierPostings0) (lent (hd storeLimits0 8 2 5 0 4 1000 1000 11 12 13 false false (mk 4 2)) storeSlots0 storePostings0) (mt 0 1000)
-    ≡ record { answer = transfer-answer.Done; tier = lent (hd tierLimits0 4 4 7 3 4 1000 0 11 12 13 false false (mk 8 1)) tierSlots2 tierPostings0; store = lent (hd storeLimits0 8 2 5 0 4 1000 1000 11 12 13 false false (mk 4 2)) storeSlots2 storePostings0; meter = mt 16 1000; ticks = 16; took = row (7 ∷ []) (150 ∷ []) ∷ []; evicts = false }
-unfolding opened
-account13 = refl
-
--- account 14: Done, 1 taken
-account14 : deliver (lent (hd tierLimits0 4 4 7 3 4 1000 14 11 12 13 false false (mk 8 1)) tierSlots0 tierPostings0) (lent (hd storeLimits0 8 2 5 0 4 1000 1000 11 12 13 false false (mk 4 2)) storeSlots0 storePostings0) (mt 0 1000)
-    ≡ record { answer = transfer-answer.Done; tier = lent (hd tierLimits0 4 4 7 3 4 1000 0 11 12 13 false false (mk 8 1)) tierSlots2 tierPostings0; store = lent (hd storeLimits0 8 2 5 0 4 1000 1000 11 12 13 false false (mk 4 2)) storeSlots2 storePostings0; meter = mt 17 1000; ticks = 17; took = row (7 ∷ []) (150 ∷ []) ∷ []; evicts = false }
-unfolding opened
-account14 = refl
-
--- account 15: Done, 1 taken
-account15 : deliver (lent (hd tierLimits0 4 4 7 3 4 1000 15 11 12 13 false false (mk 8 1)) tierSlots0 tierPostings0) (lent (hd storeLimits0 8 2 5 0 4 1000 1000 11 12 13 false false (mk 4 2)) storeSlots0 storePostings0) (mt 0 1000)
-    ≡ record { answer = transfer-answer.Done; tier = lent (hd tierLimits0 4 4 7 3 4 1000 0 11 12 13 false false (mk 8 1)) tierSlots2 tierPostings0; store = lent (hd storeLimits0 8 2 5 0 4 1000 1000 11 12 13 false false (mk 4 2)) storeSlots2 storePostings0; meter = mt 18 1000; ticks = 18; took = row (7 ∷ []) (150 ∷ []) ∷ []; evicts = false }
-unfolding opened
-account15 = refl
-
--- account 16: Done, 1 taken
-account16 : deliver (lent (hd tierLimits0 4 4 7 3 4 1000 16 11 12 13 false false (mk 8 1)) tierSlots0 tierPostings0) (lent (hd storeLimits0 8 2 5 0 4 1000 1000 11 12 13 false false (mk 4 2)) storeSlots0 storePostings0) (mt 0 1000)
-    ≡ record { answer = transfer-answer.Done; tier = lent (hd tierLimits0 4 4 7 3 4 1000 0 11 12 13 false false (mk 8 1)) tierSlots2 tierPostings0; store = lent (hd storeLimits0 8 2 5 0 4 1000 1000 11 12 13 false false (mk 4 2)) storeSlots2 storePostings0; meter = mt 19 1000; ticks = 19; took = row (7 ∷ []) (150 ∷ []) ∷ []; evicts = false }
-unfolding opened
-account16 = refl
-
--- account 17: Done, 1 taken
-account17 : deliver (lent (hd tierLimits0 4 4 7 3 4 1000 17 11 12 13 false false (mk 8 1)) tierSlots0 tierPostings0) (lent (hd storeLimits0 8 2 5 0 4 1000 1000 11 12 13 false false (mk 4 2)) storeSlots0 storePostings0) (mt 0 1000)
-    ≡ record { answer = transfer-answer.Done; tier = lent (hd tierLimits0 4 4 7 3 4 1000 0 11 12 13 false false (mk 8 1)) tierSlots2 tierPostings0; store = lent (hd storeLimits0 8 2 5 0 4 1000 1000 11 12 13 false false (mk 4 2)) storeSlots2 storePostings0; meter = mt 20 1000; ticks = 20; took = row (7 ∷ []) (150 ∷ []) ∷ []; evicts = false }
-unfolding opened
-account17 = refl
-
--- account 18: Done, 1 taken
-account18 : deliver (lent (hd tierLimits0 4 4 7 3 4 1000 18 11 12 13 false false (mk 8 1)) tierSlots0 tierPostings0) (lent (hd storeLimits0 8 2 5 0 4 1000 1000 11 12 13 false false (mk 4 2)) storeSlots0 storePostings0) (mt 0 1000)
-    ≡ record { answer = transfer-answer.Done; tier = lent (hd tierLimits0 4 4 7 3 4 1000 0 11 12 13 false false (mk 8 1)) tierSlots2 tierPostings0; store = lent (hd storeLimits0 8 2 5 0 4 1000 1000 11 12 13 false false (mk 4 2)) storeSlots2 storePostings0; meter = mt 21 1000; ticks = 21; took = row (7 ∷ []) (150 ∷ []) ∷ []; evicts = false }
-unfolding opened
-account18 = refl
-
--- account 19: Done, 1 taken
-account19 : deliver (lent (hd tierLimits0 4 4 7 3 4 1000 19 11 12 13 false false (mk 8 1)) tierSlots0 tierPostings0) (lent (hd storeLimits0 8 2 5 0 4 1000 1000 11 12 13 false false (mk 4 2)) storeSlots0 storePostings0) (mt 0 1000)
-    ≡ record { answer = transfer-answer.Done; tier = lent (hd tierLimits0 4 4 7 3 4 1000 0 11 12 13 false false (mk 8 1)) tierSlots2 tierPostings0; store = lent (hd storeLimits0 8 2 5 0 4 1000 1000 11 12 13 false false (mk 4 2)) storeSlots2 storePostings0; meter = mt 22 1000; ticks = 22; took = row (7 ∷ []) (150 ∷ []) ∷ []; evicts = false }
-unfolding opened
-account19 = refl
-
--- account 20: Done, 1 taken
-account20 : deliver (lent (hd tierLimits0 4 4 7 3 4 1000 20 11 12 13 false false (mk 8 1)) tierSlots0 tierPostings0) (lent (hd storeLimits0 8 2 5 0 4 1000 1000 11 12 13 false false (mk 4 2)) storeSlots0 storePostings0) (mt 0 1000)
-    ≡ record { answer = transfer-answer.Done; tier = lent (hd tierLimits0 4 4 7 3 4 1000 0 11 12 13 false false (mk 8 1)) tierSlots2 tierPostings0; store = lent (hd storeLimits0 8 2 5 0 4 1000 1000 11 12 13 false false (mk 4 2)) storeSlots2 storePostings0; meter = mt 23 1000; ticks = 23; took = row (7 ∷ []) (150 ∷ []) ∷ []; evicts = false }
-unfolding opened
-account20 = refl
-
--- account 21: Done, 1 taken
-account21 : deliver (lent (hd tierLimits0 4 4 7 3 4 1000 21 11 12 13 false false (mk 8 1)) tierSlots0 tierPostings0) (lent (hd storeLimits0 8 2 5 0 4 1000 1000 11 12 13 false false (mk 4 2)) storeSlots0 storePostings0) (mt 0 1000)
-    ≡ record { answer = transfer-answer.Done; tier = lent (hd tierLimits0 4 4 7 3 4 1000 0 11 12 13 false false (mk 8 1)) tierSlots2 tierPostings0; store = lent (hd storeLimits0 8 2 5 0 4 1000 1000 11 12 13 false false (mk 4 2)) storeSlots2 storePostings0; meter = mt 24 1000; ticks = 24; took = row (7 ∷ []) (150 ∷ []) ∷ []; evicts = false }
-unfolding opened
-account21 = refl
-
--- account 22: Done, 1 taken
-account22 : deliver (lent (hd tierLimits0 4 4 7 3 4 1000 22 11 12 13 false false (mk 8 1)) tierSlots0 tierPostings0) (lent (hd storeLimits0 8 2 5 0 4 1000 1000 11 12 13 false false (mk 4 2)) storeSlots0 storePostings0) (mt 0 1000)
-    ≡ record { answer = transfer-answer.Done; tier = lent (hd tierLimits0 4 4 7 3 4 1000 0 11 12 13 false false (mk 8 1)) tierSlots2 tierPostings0; store = lent (hd storeLimits0 8 2 5 0 4 1000 1000 11 12 13 false false (mk 4 2)) storeSlots2 storePostings0; meter = mt 25 1000; ticks = 25; took = row (7 ∷ []) (150 ∷ []) ∷ []; evicts = false }
-unfolding opened
-account22 = refl
-
--- account 23: Done, 1 taken
-account23 : deliver (lent (hd tierLimits0 4 4 7 3 4 1000 23 11 12 13 false false (mk 8 1)) tierSlots0 tierPostings0) (lent (hd storeLimits0 8 2 5 0 4 1000 1000 11 12 13 false false (mk 4 2)) storeSlots0 storePostings0) (mt 0 1000)
-    ≡ record { answer = transfer-answer.Done; tier = lent (hd tierLimits0 4 4 7 3 4 1000 0 11 12 13 false false (mk 8 1)) tierSlots2 tierPostings0; store = lent (hd storeLimits0 8 2 5 0 4 1000 1000 11 12 13 false false (mk 4 2)) storeSlots2 storePostings0; meter = mt 26 1000; ticks = 26; took = row (7 ∷ []) (150 ∷ []) ∷ []; evicts = false }
-unfolding opened
-account23 = refl
-
--- account 24: Done, 1 taken
-account24 : deliver (lent (hd tierLimits0 4 4 7 3 4 1000 24 11 12 13 false false (mk 8 1)) tierSlots0 tierPostings0) (lent (hd storeLimits0 8 2 5 0 4 1000 1000 11 12 13 false false (mk 4 2)) storeSlots0 storePostings0) (mt 0 1000)
-    ≡ record { answer = transfer-answer.Done; tier = lent (hd tierLimits0 4 4 7 3 4 1000 0 11 12 13 false false (mk 8 1)) tierSlots2 tierPostings0; store = lent (hd storeLimits0 8 2 5 0 4 1000 1000 11 12 13 false false (mk 4 2)) storeSlots2 storePostings0; meter = mt 27 1000; ticks = 27; took = row (7 ∷ []) (150 ∷ []) ∷ []; evicts = false }
-unfolding opened
-account24 = refl
-
--- account 25: Done, 1 taken
-account25 : deliver (lent (hd tierLimits0 4 4 7 3 4 1000 25 11 12 13 false false (mk 8 1)) tierSlots0 tierPostings0) (lent (hd storeLimits0 8 2 5 0 4 1000 1000 11 12 13 false false (mk 4 2)) storeSlots0 storePostings0) (mt 0 1000)
-    ≡ record { answer = transfer-answer.Done; tier = lent (hd tierLimits0 4 4 7 3 4 1000 0 11 12 13 false false (mk 8 1)) tierSlots2 tierPostings0; store = lent (hd storeLimits0 8 2 5 0 4 1000 1000 11 12 13 false false (mk 4 2)) storeSlots2 storePostings0; meter = mt 28 1000; ticks = 28; took = row (7 ∷ []) (150 ∷ []) ∷ []; evicts = false }
-unfolding opened
-account25 = refl
-
--- account 26: Done, 1 taken
-account26 : deliver (lent (hd tierLimits0 4 4 7 3 4 1000 26 11 12 13 false false (mk 8 1)) tierSlots0 tierPostings0) (lent (hd storeLimits0 8 2 5 0 4 1000 1000 11 12 13 false false (mk 4 2)) storeSlots0 storePostings0) (mt 0 1000)
-    ≡ record { answer = transfer-answer.Done; tier = lent (hd tierLimits0 4 4 7 3 4 1000 0 11 12 13 false false (mk 8 1)) tierSlots2 tierPostings0; store = lent (hd storeLimits0 8 2 5 0 4 1000 1000 11 12 13 false false (mk 4 2)) storeSlots2 storePostings0; meter = mt 29 1000; ticks = 29; took = row (7 ∷ []) (150 ∷ []) ∷ []; evicts = false }
-unfolding opened
-account26 = refl
-
--- account 27: Done, 1 taken
-account27 : deliver (lent (hd tierLimits0 4 4 7 3 4 1000 27 11 12 13 false false (mk 8 1)) tierSlots0 tierPostings0) (lent (hd storeLimits0 8 2 5 0 4 1000 1000 11 12 13 false false (mk 4 2)) storeSlots0 storePostings0) (mt 0 1000)
-    ≡ record { answer = transfer-answer.Done; tier = lent (hd tierLimits0 4 4 7 3 4 1000 0 11 12 13 false false (mk 8 1)) tierSlots2 tierPostings0; store = lent (hd storeLimits0 8 2 5 0 4 1000 1000 11 12 13 false false (mk 4 2)) storeSlots2 storePostings0; meter = mt 30 1000; ticks = 30; took = row (7 ∷ []) (150 ∷ []) ∷ []; evicts = false }
-unfolding opened
-account27 = refl
-
--- account 28: Done, 1 taken
-account28 : deliver (lent (hd tierLimits0 4 4 7 3 4 1000 28 11 12 13 false false (mk 8 1)) tierSlots0 tierPostings0) (lent (hd storeLimits0 8 2 5 0 4 1000 1000 11 12 13 false false (mk 4 2)) storeSlots0 storePostings0) (mt 0 1000)
-    ≡ record { answer = transfer-answer.Done; tier = lent (hd tierLimits0 4 4 7 3 4 1000 0 11 12 13 false false (mk 8 1)) tierSlots2 tierPostings0; store = lent (hd storeLimits0 8 2 5 0 4 1000 1000 11 12 13 false false (mk 4 2)) storeSlots2 storePostings0; meter = mt 31 1000; ticks = 31; took = row (7 ∷ []) (150 ∷ []) ∷ []; evicts = false }
-unfolding opened
-account28 = refl
-
--- account 29: Done, 1 taken
-account29 : deliver (lent (hd tierLimits0 4 4 7 3 4 1000 29 11 12 13 false false (mk 8 1)) tierSlots0 tierPostings0) (lent (hd storeLimits0 8 2 5 0 4 1000 1000 11 12 13 false false (mk 4 2)) storeSlots0 storePostings0) (mt 0 1000)
-    ≡ record { answer = transfer-answer.Done; tier = lent (hd tierLimits0 4 4 7 3 4 1000 0 11 12 13 false false (mk 8 1)) tierSlots2 tierPostings0; store = lent (hd storeLimits0 8 2 5 0 4 1000 1000 11 12 13 false false (mk 4 2)) storeSlots2 storePostings0; meter = mt 32 1000; ticks = 32; took = row (7 ∷ []) (150 ∷ []) ∷ []; evicts = false }
-unfolding opened
-account29 = refl
-
--- account 30: Done, 1 taken
-account30 : deliver (lent (hd tierLimits0 4 4 7 3 4 1000 30 11 12 13 false false (mk 8 1)) tierSlots0 tierPostings0) (lent (hd storeLimits0 8 2 5 0 4 1000 1000 11 12 13 false false (mk 4 2)) storeSlots0 storePostings0) (mt 0 1000)
-    ≡ record { answer = transfer-answer.Done; tier = lent (hd tierLimits0 4 4 7 3 4 1000 0 11 12 13 false false (mk 8 1)) tierSlots2 tierPostings0; store = lent (hd storeLimits0 8 2 5 0 4 1000 1000 11 12 13 false false (mk 4 2)) storeSlots2 storePostings0; meter = mt 33 1000; ticks = 33; took = row (7 ∷ []) (150 ∷ []) ∷ []; evicts = false }
-unfolding opened
-account30 = refl
-
--- account 31: Done, 1 taken
-account31 : deliver (lent (hd tierLimits0 4 4 7 3 4 1000 31 11 12 13 false false (mk 8 1)) tierSlots0 tierPostings0) (lent (hd storeLimits0 8 2 5 0 4 1000 1000 11 12 13 false false (mk 4 2)) storeSlots0 storePostings0) (mt 0 1000)
-    ≡ record { answer = transfer-answer.Done; tier = lent (hd tierLimits0 4 4 7 3 4 1000 0 11 12 13 false false (mk 8 1)) tierSlots2 tierPostings0; store = lent (hd storeLimits0 8 2 5 0 4 1000 1000 11 12 13 false false (mk 4 2)) storeSlots2 storePostings0; meter = mt 34 1000; ticks = 34; took = row (7 ∷ []) (150 ∷ []) ∷ []; evicts = false }
-unfolding opened
-account31 = refl
-
--- account 32: Done, 1 taken
-account32 : deliver (lent (hd tierLimits0 4 4 7 3 4 1000 32 11 12 13 false false (mk 8 1)) tierSlots0 tierPostings0) (lent (hd storeLimits0 8 2 5 0 4 1000 1000 11 12 13 false false (mk 4 2)) storeSlots0 storePostings0) (mt 0 1000)
-    ≡ record { answer = transfer-answer.Done; tier = lent (hd tierLimits0 4 4 7 3 4 1000 0 11 12 13 false false (mk 8 1)) tierSlots2 tierPostings0; store = lent (hd storeLimits0 8 2 5 0 4 1000 1000 11 12 13 false false (mk 4 2)) storeSlots2 storePostings0; meter = mt 35 1000; ticks = 35; took = row (7 ∷ []) (150 ∷ []) ∷ []; evicts = false }
-unfolding opened
-account32 = refl
-
--- account 33: Done, 1 taken
-account33 : deliver (lent (hd tierLimits0 4 4 7 3 4 1000 33 11 12 13 false false (mk 8 1)) tierSlots0 tierPostings0) (lent (hd storeLimits0 8 2 5 0 4 1000 1000 11 12 13 false false (mk 4 2)) storeSlots0 storePostings0) (mt 0 1000)
-    ≡ record { answer = transfer-answer.Done; tier = lent (hd tierLimits0 4 4 7 3 4 1000 0 11 12 13 false false (mk 8 1)) tierSlots2 tierPostings0; store = lent (hd storeLimits0 8 2 5 0 4 1000 1000 11 12 13 false false (mk 4 2)) storeSlots2 storePostings0; meter = mt 36 1000; ticks = 36; took = row (7 ∷ []) (150 ∷ []) ∷ []; evicts = false }
-unfolding opened
-account33 = refl
-
--- account 34: Done, 1 taken
-account34 : deliver (lent (hd tierLimits0 4 4 7 3 4 1000 34 11 12 13 false false (mk 8 1)) tierSlots0 tierPostings0) (lent (hd storeLimits0 8 2 5 0 4 1000 1000 11 12 13 false false (mk 4 2)) storeSlots0 storePostings0) (mt 0 1000)
-    ≡ record { answer = transfer-answer.Done; tier = lent (hd tierLimits0 4 4 7 3 4 1000 0 11 12 13 false false (mk 8 1)) tierSlots2 tierPostings0; store = lent (hd storeLimits0 8 2 5 0 4 1000 1000 11 12 13 false false (mk 4 2)) storeSlots2 storePostings0; meter = mt 37 1000; ticks = 37; took = row (7 ∷ []) (150 ∷ []) ∷ []; evicts = false }
-unfolding opened
-account34 = refl
-
--- account 35: Done, 1 taken
-account35 : deliver (lent (hd tierLimits0 4 4 7 3 4 1000 35 11 12 13 false false (mk 8 1)) tierSlots0 tierPostings0) (lent (hd storeLimits0 8 2 5 0 4 1000 1000 11 12 13 false false (mk 4 2)) storeSlots0 storePostings0) (mt 0 1000)
-    ≡ record { answer = transfer-answer.Done; tier = lent (hd tierLimits0 4 4 7 3 4 1000 0 11 12 13 false false (mk 8 1)) tierSlots2 tierPostings0; store = lent (hd storeLimits0 8 2 5 0 4 1000 1000 11 12 13 false false (mk 4 2)) storeSlots2 storePostings0; meter = mt 38 1000; ticks = 38; took = row (7 ∷ []) (150 ∷ []) ∷ []; evicts = false }
-unfolding opened
-account35 = refl
-
--- account 36: Done, 1 taken
-account36 : deliver (lent (hd tierLimits0 4 4 7 3 4 1000 36 11 12 13 false false (mk 8 1)) tierSlots0 tierPostings0) (lent (hd storeLimits0 8 2 5 0 4 1000 1000 11 12 13 false false (mk 4 2)) storeSlots0 storePostings0) (mt 0 1000)
-    ≡ record { answer = transfer-answer.Done; tier = lent (hd tierLimits0 4 4 7 3 4 1000 0 11 12 13 false false (mk 8 1)) tierSlots2 tierPostings0; store = lent (hd storeLimits0 8 2 5 0 4 1000 1000 11 12 13 false false (mk 4 2)) storeSlots2 storePostings0; meter = mt 39 1000; ticks = 39; took = row (7 ∷ []) (150 ∷ []) ∷ []; evicts = false }
-unfolding opened
-account36 = refl
-
--- account 37: Done, 1 taken
-account37 : deliver (lent (hd tierLimits0 4 4 7 3 4 1000 37 11 12 13 false false (mk 8 1)) tierSlots0 tierPostings0) (lent (hd storeLimits0 8 2 5 0 4 1000 1000 11 12 13 false false (mk 4 2)) storeSlots0 storePostings0) (mt 0 1000)
-    ≡ record { answer = transfer-answer.Done; tier = lent (hd tierLimits0 4 4 7 3 4 1000 0 11 12 13 false false (mk 8 1)) tierSlots2 tierPostings0; store = lent (hd storeLimits0 8 2 5 0 4 1000 1000 11 12 13 false false (mk 4 2)) storeSlots2 storePostings0; meter = mt 40 1000; ticks = 40; took = row (7 ∷ []) (150 ∷ []) ∷ []; evicts = false }
-unfolding opened
-account37 = refl
-
--- account 38: Done, 1 taken
-account38 : deliver (lent (hd tierLimits0 4 4 7 3 4 1000 38 11 12 13 false false (mk 8 1)) tierSlots0 tierPostings0) (lent (hd storeLimits0 8 2 5 0 4 1000 1000 11 12 13 false false (mk 4 2)) storeSlots0 storePostings0) (mt 0 1000)
-    ≡ record { answer = transfer-answer.Done; tier = lent (hd tierLimits0 4 4 7 3 4 1000 0 11 12 13 false false (mk 8 1)) tierSlots2 tierPostings0; store = lent (hd storeLimits0 8 2 5 0 4 1000 1000 11 12 13 false false (mk 4 2)) storeSlots2 storePostings0; meter = mt 41 1000; ticks = 41; took = row (7 ∷ []) (150 ∷ []) ∷ []; evicts = false }
-unfolding opened
-account38 = refl
-
--- account 39: Done, 2 taken
-account39 : deliver (lent (hd tierLimits0 4 4 7 3 4 1000 39 11 12 13 false false (mk 8 1)) tierSlots0 tierPostings0) (lent (hd storeLimits0 8 2 5 0 4 1000 1000 11 12 13 false false (mk 4 2)) storeSlots0 storePostings0) (mt 0 1000)
-    ≡ record { answer = transfer-answer.Done; tier = lent (hd tierLimits0 4 4 7 3 4 1000 0 11 12 13 false false (mk 8 1)) tierSlots3 tierPostings0; store = lent (hd storeLimits0 8 2 6 1 4 1000 1000 11 13 13 true true (mk 4 2)) storeSlots3 (zs 160 []); meter = mt 43 1000; ticks = 43; took = row (11 ∷ []) (158 ∷ []) ∷ row (7 ∷ []) (150 ∷ []) ∷ []; evicts = false }
-unfolding opened
-account39 = refl
-
--- account 40: Done, 2 taken
-account40 : deliver (lent (hd tierLimits0 4 4 7 3 4 1000 40 11 12 13 false false (mk 8 1)) tierSlots0 tierPostings0) (lent (hd storeLimits0 8 2 5 0 4 1000 1000 11 12 13 false false (mk 4 2)) storeSlots0 storePostings0) (mt 0 1000)
-    ≡ record { answer = transfer-answer.Done; tier = lent (hd tierLimits0 4 4 7 3 4 1000 0 11 12 13 false false (mk 8 1)) tierSlots3 tierPostings0; store = lent (hd storeLimits0 8 2 6 1 4 1000 1000 11 13 13 true true (mk 4 2)) storeSlots3 (zs 160 []); meter = mt 44 1000; ticks = 44; took = row (11 ∷ []) (158 ∷ []) ∷ row (7 ∷ []) (150 ∷ []) ∷ []; evicts = false }
-unfolding opened
-account40 = refl
-
--- account 41: Done, 2 taken
-account41 : deliver (lent (hd tierLimits0 4 4 7 3 4 1000 41 11 12 13 false false (mk 8 1)) tierSlots0 tierPostings0) (lent (hd storeLimits0 8 2 5 0 4 1000 1000 11 12 13 false false (mk 4 2)) storeSlots0 storePostings0) (mt 0 1000)
-    ≡ record { answer = transfer-answer.Done; tier = lent (hd tierLimits0 4 4 7 3 4 1000 0 11 12 13 false false (mk 8 1)) tierSlots3 tierPostings0; store = lent (hd storeLimits0 8 2 6 1 4 1000 1000 11 13 13 true true (mk 4 2)) storeSlots3 (zs 160 []); meter = mt 45 1000; ticks = 45; took = row (11 ∷ []) (158 ∷ []) ∷ row (7 ∷ []) (150 ∷ []) ∷ []; evicts = false }
-unfolding opened
-account41 = refl
-
--- account 42: Done, 2 taken
-account42 : deliver (lent (hd tierLimits0 4 4 7 3 4 1000 42 11 12 13 false false (mk 8 1)) tierSlots0 tierPostings0) (lent (hd storeLimits0 8 2 5 0 4 1000 1000 11 12 13 false false (mk 4 2)) storeSlots0 storePostings0) (mt 0 1000)
-    ≡ record { answer = transfer-answer.Done; tier = lent (hd tierLimits0 4 4 7 3 4 1000 0 11 12 13 false false (mk 8 1)) tierSlots3 tierPostings0; store = lent (hd storeLimits0 8 2 6 1 4 1000 1000 11 13 13 true true (mk 4 2)) storeSlots3 (zs 160 []); meter = mt 46 1000; ticks = 46; took = row (11 ∷ []) (158 ∷ []) ∷ row (7 ∷ []) (150 ∷ []) ∷ []; evicts = false }
-unfolding opened
-account42 = refl
-
--- account 43: Done, 2 taken
-account43 : deliver (lent (hd tierLimits0 4 4 7 3 4 1000 43 11 12 13 false false (mk 8 1)) tierSlots0 tierPostings0) (lent (hd storeLimits0 8 2 5 0 4 1000 1000 11 12 13 false false (mk 4 2)) storeSlots0 storePostings0) (mt 0 1000)
-    ≡ record { answer = transfer-answer.Done; tier = lent (hd tierLimits0 4 4 7 3 4 1000 0 11 12 13 false false (mk 8 1)) tierSlots3 tierPostings0; store = lent (hd storeLimits0 8 2 6 1 4 1000 1000 11 13 13 true true (mk 4 2)) storeSlots3 (zs 160 []); meter = mt 47 1000; ticks = 47; took = row (11 ∷ []) (158 ∷ []) ∷ row (7 ∷ []) (150 ∷ []) ∷ []; evicts = false }
-unfolding opened
-account43 = refl
-
--- account 44: Done, 2 taken
-account44 : deliver (lent (hd tierLimits0 4 4 7 3 4 1000 44 11 12 13 false false (mk 8 1)) tierSlots0 tierPostings0) (lent (hd storeLimits0 8 2 5 0 4 1000 1000 11 12 13 false false (mk 4 2)) storeSlots0 storePostings0) (mt 0 1000)
-    ≡ record { answer = transfer-answer.Done; tier = lent (hd tierLimits0 4 4 7 3 4 1000 0 11 12 13 false false (mk 8 1)) tierSlots3 tierPostings0; store = lent (hd storeLimits0 8 2 6 1 4 1000 1000 11 13 13 true true (mk 4 2)) storeSlots3 (zs 160 []); meter = mt 48 1000; ticks = 48; took = row (11 ∷ []) (158 ∷ []) ∷ row (7 ∷ []) (150 ∷ []) ∷ []; evicts = false }
-unfolding opened
-account44 = refl
-
--- account 45: Done, 2 taken
-account45 : deliver (lent (hd tierLimits0 4 4 7 3 4 1000 45 11 12 13 false false (mk 8 1)) tierSlots0 tierPostings0) (lent (hd storeLimits0 8 2 5 0 4 1000 1000 11 12 13 false false (mk 4 2)) storeSlots0 storePostings0) (mt 0 1000)
-    ≡ record { answer = transfer-answer.Done; tier = lent (hd tierLimits0 4 4 7 3 4 1000 0 11 12 13 false false (mk 8 1)) tierSlots3 tierPostings0; store = lent (hd storeLimits0 8 2 6 1 4 1000 1000 11 13 13 true true (mk 4 2)) storeSlots3 (zs 160 []); meter = mt 49 1000; ticks = 49; took = row (11 ∷ []) (158 ∷ []) ∷ row (7 ∷ []) (150 ∷ []) ∷ []; evicts = false }
-unfolding opened
-account45 = refl
-
--- account 46: Done, 2 taken
-account46 : deliver (lent (hd tierLimits0 4 4 7 3 4 1000 46 11 12 13 false false (mk 8 1)) tierSlots0 tierPostings0) (lent (hd storeLimits0 8 2 5 0 4 1000 1000 11 12 13 false false (mk 4 2)) storeSlots0 storePostings0) (mt 0 1000)
-    ≡ record { answer = transfer-answer.Done; tier = lent (hd tierLimits0 4 4 7 3 4 1000 0 11 12 13 false false (mk 8 1)) tierSlots3 tierPostings0; store = lent (hd storeLimits0 8 2 6 1 4 1000 1000 11 13 13 true true (mk 4 2)) storeSlots3 (zs 160 []); meter = mt 50 1000; ticks = 50; took = row (11 ∷ []) (158 ∷ []) ∷ row (7 ∷ []) (150 ∷ []) ∷ []; evicts = false }
-unfolding opened
-account46 = refl
-
--- account 47: Done, 2 taken
-account47 : deliver (lent (hd tierLimits0 4 4 7 3 4 1000 47 11 12 13 false false (mk 8 1)) tierSlots0 tierPostings0) (lent (hd storeLimits0 8 2 5 0 4 1000 1000 11 12 13 false false (mk 4 2)) storeSlots0 storePostings0) (mt 0 1000)
-    ≡ record { answer = transfer-answer.Done; tier = lent (hd tierLimits0 4 4 7 3 4 1000 0 11 12 13 false false (mk 8 1)) tierSlots3 tierPostings0; store = lent (hd storeLimits0 8 2 6 1 4 1000 1000 11 13 13 true true (mk 4 2)) storeSlots3 (zs 160 []); meter = mt 51 1000; ticks = 51; took = row (11 ∷ []) (158 ∷ []) ∷ row (7 ∷ []) (150 ∷ []) ∷ []; evicts = false }
-unfolding opened
-account47 = refl
-
--- account 48: Done, 2 taken
-account48 : deliver (lent (hd tierLimits0 4 4 7 3 4 1000 48 11 12 13 false false (mk 8 1)) tierSlots0 tierPostings0) (lent (hd storeLimits0 8 2 5 0 4 1000 1000 11 12 13 false false (mk 4 2)) storeSlots0 storePostings0) (mt 0 1000)
-    ≡ record { answer = transfer-answer.Done; tier = lent (hd tierLimits0 4 4 7 3 4 1000 0 11 12 13 false false (mk 8 1)) tierSlots3 tierPostings0; store = lent (hd storeLimits0 8 2 6 1 4 1000 1000 11 13 13 true true (mk 4 2)) storeSlots3 (zs 160 []); meter = mt 52 1000; ticks = 52; took = row (11 ∷ []) (158 ∷ []) ∷ row (7 ∷ []) (150 ∷ []) ∷ []; evicts = false }
-unfolding opened
-account48 = refl
-
--- account 49: Done, 2 taken
-account49 : deliver (lent (hd tierLimits0 4 4 7 3 4 1000 49 11 12 13 false false (mk 8 1)) tierSlots0 tierPostings0) (lent (hd storeLimits0 8 2 5 0 4 1000 1000 11 12 13 false false (mk 4 2)) storeSlots0 storePostings0) (mt 0 1000)
-    ≡ record { answer = transfer-answer.Done; tier = lent (hd tierLimits0 4 4 7 3 4 1000 0 11 12 13 false false (mk 8 1)) tierSlots3 tierPostings0; store = lent (hd storeLimits0 8 2 6 1 4 1000 1000 11 13 13 true true (mk 4 2)) storeSlots3 (zs 160 []); meter = mt 53 1000; ticks = 53; took = row (11 ∷ []) (158 ∷ []) ∷ row (7 ∷ []) (150 ∷ []) ∷ []; evicts = false }
-unfolding opened
-account49 = refl
-
--- account 50: Done, 2 taken
-account50 : deliver (lent (hd tierLimits0 4 4 7 3 4 1000 50 11 12 13 false false (mk 8 1)) tierSlots0 tierPostings0) (lent (hd storeLimits0 8 2 5 0 4 1000 1000 11 12 13 false false (mk 4 2)) storeSlots0 storePostings0) (mt 0 1000)
-    ≡ record { answer = transfer-answer.Done; tier = lent (hd tierLimits0 4 4 7 3 4 1000 0 11 12 13 false false (mk 8 1)) tierSlots3 tierPostings0; store = lent (hd storeLimits0 8 2 6 1 4 1000 1000 11 13 13 true true (mk 4 2)) storeSlots3 (zs 160 []); meter = mt 54 1000; ticks = 54; took = row (11 ∷ []) (158 ∷ []) ∷ row (7 ∷ []) (150 ∷ []) ∷ []; evicts = false }
-unfolding opened
-account50 = refl
-
--- account 51: Done, 2 taken
-account51 : deliver (lent (hd tierLimits0 4 4 7 3 4 1000 51 11 12 13 false false (mk 8 1)) tierSlots0 tierPostings0) (lent (hd storeLimits0 8 2 5 0 4 1000 1000 11 12 13 false false (mk 4 2)) storeSlots0 storePostings0) (mt 0 1000)
-    ≡ record { answer = transfer-answer.Done; tier = lent (hd tierLimits0 4 4 7 3 4 1000 0 11 12 13 false false (mk 8 1)) tierSlots3 tierPostings0; store = lent (hd storeLimits0 8 2 6 1 4 1000 1000 11 13 13 true true (mk 4 2)) storeSlots3 (zs 160 []); meter = mt 55 1000; ticks = 55; took = row (11 ∷ []) (158 ∷ []) ∷ row (7 ∷ []) (150 ∷ []) ∷ []; evicts = false }
-unfolding opened
-account51 = refl
-
--- account 52: Done, 2 taken
-account52 : deliver (lent (hd tierLimits0 4 4 7 3 4 1000 52 11 12 13 false false (mk 8 1)) tierSlots0 tierPostings0) (lent (hd storeLimits0 8 2 5 0 4 1000 1000 11 12 13 false false (mk 4 2)) storeSlots0 storePostings0) (mt 0 1000)
-    ≡ record { answer = transfer-answer.Done; tier = lent (hd tierLimits0 4 4 7 3 4 1000 0 11 12 13 false false (mk 8 1)) tierSlots3 tierPostings0; store = lent (hd storeLimits0 8 2 6 1 4 1000 1000 11 13 13 true true (mk 4 2)) storeSlots3 (zs 160 []); meter = mt 56 1000; ticks = 56; took = row (11 ∷ []) (158 ∷ []) ∷ row (7 ∷ []) (150 ∷ []) ∷ []; evicts = false }
-unfolding opened
-account52 = refl
-
--- account 53: Done, 2 taken
-account53 : deliver (lent (hd tierLimits0 4 4 7 3 4 1000 53 11 12 13 false false (mk 8 1)) tierSlots0 tierPostings0) (lent (hd storeLimits0 8 2 5 0 4 1000 1000 11 12 13 false false (mk 4 2)) storeSlots0 storePostings0) (mt 0 1000)
-    ≡ record { answer = transfer-answer.Done; tier = lent (hd tierLimits0 4 4 7 3 4 1000 0 11 12 13 false false (mk 8 1)) tierSlots3 tierPostings0; store = lent (hd storeLimits0 8 2 6 1 4 1000 1000 11 13 13 true true (mk 4 2)) storeSlots3 (zs 160 []); meter = mt 57 1000; ticks = 57; took = row (11 ∷ []) (158 ∷ []) ∷ row (7 ∷ []) (150 ∷ []) ∷ []; evicts = false }
-unfolding opened
-account53 = refl
-
--- account 54: Done, 3 taken
-account54 : deliver (lent (hd tierLimits0 4 4 7 3 4 1000 54 11 12 13 false false (mk 8 1)) tierSlots0 tierPostings0) (lent (hd storeLimits0 8 2 5 0 4 1000 1000 11 12 13 false false (mk 4 2)) storeSlots0 storePostings0) (mt 0 1000)
-    ≡ record { answer = transfer-answer.Done; tier = lent (hd tierLimits0 4 4 7 3 4 1000 0 11 12 13 false false (mk 8 1)) tierSlots1 tierPostings0; store = lent (hd storeLimits0 8 2 7 0 4 1000 1000 12 14 13 true true (mk 4 2)) storeSlots1 (zs 160 []); meter = mt 58 1000; ticks = 58; took = row (13 ∷ []) (20 ∷ []) ∷ row (11 ∷ []) (158 ∷ []) ∷ row (7 ∷ []) (150 ∷ []) ∷ []; evicts = true }
-unfolding opened
-account54 = refl
-
--- account 55: Done, 3 taken
-account55 : deliver (lent (hd tierLimits0 4 4 7 3 4 1000 55 11 12 13 false false (mk 8 1)) tierSlots0 tierPostings0) (lent (hd storeLimits0 8 2 5 0 4 1000 1000 11 12 13 false false (mk 4 2)) storeSlots0 storePostings0) (mt 0 1000)
-    ≡ record { answer = transfer-answer.Done; tier = lent (hd tierLimits0 4 4 7 3 4 1000 1 11 12 13 false false (mk 8 1)) tierSlots1 tierPostings0; store = lent (hd storeLimits0 8 2 7 0 4 1000 1000 12 14 13 true true (mk 4 2)) storeSlots1 (zs 160 []); meter = mt 58 1000; ticks = 58; took = row (13 ∷ []) (20 ∷ []) ∷ row (11 ∷ []) (158 ∷ []) ∷ row (7 ∷ []) (150 ∷ []) ∷ []; evicts = true }
-unfolding opened
-account55 = refl
-
--- account 56: Done, 3 taken
-account56 : deliver (lent (hd tierLimits0 4 4 7 3 4 1000 56 11 12 13 false false (mk 8 1)) tierSlots0 tierPostings0) (lent (hd storeLimits0 8 2 5 0 4 1000 1000 11 12 13 false false (mk 4 2)) storeSlots0 storePostings0) (mt 0 1000)
-    ≡ record { answer = transfer-answer.Done; tier = lent (hd tierLimits0 4 4 7 3 4 1000 2 11 12 13 false false (mk 8 1)) tierSlots1 tierPostings0; store = lent (hd storeLimits0 8 2 7 0 4 1000 1000 12 14 13 true true (mk 4 2)) storeSlots1 (zs 160 []); meter = mt 58 1000; ticks = 58; took = row (13 ∷ []) (20 ∷ []) ∷ row (11 ∷ []) (158 ∷ []) ∷ row (7 ∷ []) (150 ∷ []) ∷ []; evicts = true }
-unfolding opened
-account56 = refl
-
--- account 57: Done, 3 taken
-account57 : deliver (lent (hd tierLimits0 4 4 7 3 4 1000 57 11 12 13 false false (mk 8 1)) tierSlots0 tierPostings0) (lent (hd storeLimits0 8 2 5 0 4 1000 1000 11 12 13 false false (mk 4 2)) storeSlots0 storePostings0) (mt 0 1000)
-    ≡ record { answer = transfer-answer.Done; tier = lent (hd tierLimits0 4 4 7 3 4 1000 3 11 12 13 false false (mk 8 1)) tierSlots1 tierPostings0; store = lent (hd storeLimits0 8 2 7 0 4 1000 1000 12 14 13 true true (mk 4 2)) storeSlots1 (zs 160 []); meter = mt 58 1000; ticks = 58; took = row (13 ∷ []) (20 ∷ []) ∷ row (11 ∷ []) (158 ∷ []) ∷ row (7 ∷ []) (150 ∷ []) ∷ []; evicts = true }
-unfolding opened
-account57 = refl
-
--- account 58: Done, 3 taken
-account58 : deliver (lent (hd tierLimits0 4 4 7 3 4 1000 58 11 12 13 false false (mk 8 1)) tierSlots0 tierPostings0) (lent (hd storeLimits0 8 2 5 0 4 1000 1000 11 12 13 false false (mk 4 2)) storeSlots0 storePostings0) (mt 0 1000)
-    ≡ record { answer = transfer-answer.Done; tier = lent (hd tierLimits0 4 4 7 3 4 1000 4 11 12 13 false false (mk 8 1)) tierSlots1 tierPostings0; store = lent (hd storeLimits0 8 2 7 0 4 1000 1000 12 14 13 true true (mk 4 2)) storeSlots1 (zs 160 []); meter = mt 58 1000; ticks = 58; took = row (13 ∷ []) (20 ∷ []) ∷ row (11 ∷ []) (158 ∷ []) ∷ row (7 ∷ []) (150 ∷ []) ∷ []; evicts = true }
-unfolding opened
-account58 = refl
-
--- account 59: Done, 3 taken
-account59 : deliver (lent (hd tierLimits0 4 4 7 3 4 1000 59 11 12 13 false false (mk 8 1)) tierSlots0 tierPostings0) (lent (hd storeLimits0 8 2 5 0 4 1000 1000 11 12 13 false false (mk 4 2)) storeSlots0 storePostings0) (mt 0 1000)
-    ≡ record { answer = transfer-answer.Done; tier = lent (hd tierLimits0 4 4 7 3 4 1000 5 11 12 13 false false (mk 8 1)) tierSlots1 tierPostings0; store = lent (hd storeLimits0 8 2 7 0 4 1000 1000 12 14 13 true true (mk 4 2)) storeSlots1 (zs 160 []); meter = mt 58 1000; ticks = 58; took = row (13 ∷ []) (20 ∷ []) ∷ row (11 ∷ []) (158 ∷ []) ∷ row (7 ∷ []) (150 ∷ []) ∷ []; evicts = true }
-unfolding opened
-account59 = refl
-
--- 0 ticks left: Stopped, 0 taken
-limit00 : deliver (lent (hd tierLimits0 4 4 7 3 4 1000 1000 11 12 13 false false (mk 8 1)) tierSlots0 tierPostings0) (lent (hd storeLimits0 8 2 5 0 4 1000 1000 11 12 13 false false (mk 4 2)) storeSlots0 storePostings0) (mt 3 3)
-    ≡ record { answer = transfer-answer.Stopped; tier = lent (hd tierLimits0 4 4 7 3 4 1000 1000 11 12 13 false false (mk 8 1)) tierSlots0 tierPostings0; store = lent (hd storeLimits0 8 2 5 0 4 1000 1000 11 12 13 false false (mk 4 2)) storeSlots0 storePostings0; meter = mt 3 3; ticks = 0; took = []; evicts = false }
-unfolding opened
-limit00 = refl
-
--- 1 ticks left: Stopped, 0 taken
-limit01 : deliver (lent (hd tierLimits0 4 4 7 3 4 1000 1000 11 12 13 false false (mk 8 1)) tierSlots0 tierPostings0) (lent (hd storeLimits0 8 2 5 0 4 1000 1000 11 12 13 false false (mk 4 2)) storeSlots0 storePostings0) (mt 3 4)
-    ≡ record { answer = transfer-answer.Stopped; tier = lent (hd tierLimits0 4 4 7 3 4 1000 1000 11 12 13 false false (mk 8 1)) tierSlots0 tierPostings0; store = lent (hd storeLimits0 8 2 5 0 4 1000 1000 11 12 13 false false (mk 4 2)) storeSlots0 storePostings0; meter = mt 4 4; ticks = 1; took = []; evicts = false }
-unfolding opened
-limit01 = refl
-
--- 2 ticks left: Stopped, 0 taken
-limit02 : deliver (lent (hd tierLimits0 4 4 7 3 4 1000 1000 11 12 13 false false (mk 8 1)) tierSlots0 tierPostings0) (lent (hd storeLimits0 8 2 5 0 4 1000 1000 11 12 13 false false (mk 4 2)) storeSlots0 storePostings0) (mt 3 5)
-    ≡ record { answer = transfer-answer.Stopped; tier = lent (hd tierLimits0 4 4 7 3 4 1000 999 11 12 13 false false (mk 8 1)) tierSlots0 tierPostings0; store = lent (hd storeLimits0 8 2 5 0 4 1000 1000 11 12 13 false false (mk 4 2)) storeSlots0 storePostings0; meter = mt 5 5; ticks = 2; took = []; evicts = false }
-unfolding opened
-limit02 = refl
-
--- 3 ticks left: Stopped, 0 taken
-limit03 : deliver (lent (hd tierLimits0 4 4 7 3 4 1000 1000 11 12 13 false false (mk 8 1)) tierSlots0 tierPostings0) (lent (hd storeLimits0 8 2 5 0 4 1000 1000 11 12 13 false false (mk 4 2)) storeSlots0 storePostings0) (mt 3 6)
-    ≡ record { answer = transfer-answer.Stopped; tier = lent (hd tierLimits0 4 4 7 3 4 1000 998 11 12 13 false false (mk 8 1)) tierSlots0 tierPostings0; store = lent (hd storeLimits0 8 2 5 0 4 1000 1000 11 12 13 false false (mk 4 2)) storeSlots0 storePostings0; meter = mt 6 6; ticks = 3; took = []; evicts = false }
-unfolding opened
-limit03 = refl
-
--- 4 ticks left: Stopped, 0 taken
-limit04 : deliver (lent (hd tierLimits0 4 4 7 3 4 1000 1000 11 12 13 false false (mk 8 1)) tierSlots0 tierPostings0) (lent (hd storeLimits0 8 2 5 0 4 1000 1000 11 12 13 false false (mk 4 2)) storeSlots0 storePostings0) (mt 3 7)
-    ≡ record { answer = transfer-answer.Stopped; tier = lent (hd tierLimits0 4 4 7 3 4 1000 997 11 12 13 false false (mk 8 1)) tierSlots0 tierPostings0; store = lent (hd storeLimits0 8 2 5 0 4 1000 1000 11 12 13 false false (mk 4 2)) storeSlots0 storePostings0; meter = mt 7 7; ticks = 4; took = []; evicts = false }
-unfolding opened
-limit04 = refl
-
--- 5 ticks left: Stopped, 0 taken
-limit05 : deliver (lent (hd tierLimits0 4 4 7 3 4 1000 1000 11 12 13 false false (mk 8 1)) tierSlots0 tierPostings0) (lent (hd storeLimits0 8 2 5 0 4 1000 1000 11 12 13 false false (mk 4 2)) storeSlots0 storePostings0) (mt 3 8)
-    ≡ record { answer = transfer-answer.Stopped; tier = lent (hd tierLimits0 4 4 7 3 4 1000 996 11 12 13 false false (mk 8 1)) tierSlots0 tierPostings0; store = lent (hd storeLimits0 8 2 5 0 4 1000 1000 11 12 13 false false (mk 4 2)) storeSlots0 storePostings0; meter = mt 8 8; ticks = 5; took = []; evicts = false }
-unfolding opened
-limit05 = refl
-
--- 6 ticks left: Stopped, 0 taken
-limit06 : deliver (lent (hd tierLimits0 4 4 7 3 4 1000 1000 11 12 13 false false (mk 8 1)) tierSlots0 tierPostings0) (lent (hd storeLimits0 8 2 5 0 4 1000 1000 11 12 13 false false (mk 4 2)) storeSlots0 storePostings0) (mt 3 9)
-    ≡ record { answer = transfer-answer.Stopped; tier = lent (hd tierLimits0 4 4 7 3 4 1000 995 11 12 13 false false (mk 8 1)) tierSlots0 tierPostings0; store = lent (hd storeLimits0 8 2 5 0 4 1000 1000 11 12 13 false false (mk 4 2)) storeSlots0 storePostings0; meter = mt 9 9; ticks = 6; took = []; evicts = false }
-unfolding opened
-limit06 = refl
-
--- 7 ticks left: Stopped, 0 taken
-limit07 : deliver (lent (hd tierLimits0 4 4 7 3 4 1000 1000 11 12 13 false false (mk 8 1)) tierSlots0 tierPostings0) (lent (hd storeLimits0 8 2 5 0 4 1000 1000 11 12 13 false false (mk 4 2)) storeSlots0 storePostings0) (mt 3 10)
-    ≡ record { answer = transfer-answer.Stopped; tier = lent (hd tierLimits0 4 4 7 3 4 1000 994 11 12 13 false false (mk 8 1)) tierSlots0 tierPostings0; store = lent (hd storeLimits0 8 2 5 0 4 1000 1000 11 12 13 false false (mk 4 2)) storeSlots0 storePostings0; meter = mt 10 10; ticks = 7; took = []; evicts = false }
-unfolding opened
-limit07 = refl
-
--- 8 ticks left: Stopped, 1 taken
-limit08 : deliver (lent (hd tierLimits0 4 4 7 3 4 1000 1000 11 12 13 false false (mk 8 1)) tierSlots0 tierPostings0) (lent (hd storeLimits0 8 2 5 0 4 1000 1000 11 12 13 false false (mk 4 2)) storeSlots0 storePostings0) (mt 3 11)
-    ≡ record { answer = transfer-answer.Stopped; tier = lent (hd tierLimits0 4 4 7 3 4 1000 993 11 12 13 false false (mk 8 1)) tierSlots2 tierPostings0; store = lent (hd storeLimits0 8 2 5 0 4 1000 1000 11 12 13 false false (mk 4 2)) storeSlots2 storePostings0; meter = mt 11 11; ticks = 8; took = row (7 ∷ []) (150 ∷ []) ∷ []; evicts = false }
-unfolding opened
-limit08 = refl
-
--- 9 ticks left: Stopped, 1 taken
-limit09 : deliver (lent (hd tierLimits0 4 4 7 3 4 1000 1000 11 12 13 false false (mk 8 1)) tierSlots0 tierPostings0) (lent (hd storeLimits0 8 2 5 0 4 1000 1000 11 12 13 false false (mk 4 2)) storeSlots0 storePostings0) (mt 3 12)
-    ≡ record { answer = transfer-answer.Stopped; tier = lent (hd tierLimits0 4 4 7 3 4 1000 993 11 12 13 false false (mk 8 1)) tierSlots2 tierPostings0; store = lent (hd storeLimits0 8 2 5 0 4 1000 1000 11 12 13 false false (mk 4 2)) storeSlots2 storePostings0; meter = mt 12 12; ticks = 9; took = row (7 ∷ []) (150 ∷ []) ∷ []; evicts = false }
-unfolding opened
-limit09 = refl
-
--- 10 ticks left: Stopped, 1 taken
-limit10 : deliver (lent (hd tierLimits0 4 4 7 3 4 1000 1000 11 12 13 false false (mk 8 1)) tierSlots0 tierPostings0) (lent (hd storeLimits0 8 2 5 0 4 1000 1000 11 12 13 false false (mk 4 2)) storeSlots0 storePostings0) (mt 3 13)
-    ≡ record { answer = transfer-answer.Stopped; tier = lent (hd tierLimits0 4 4 7 3 4 1000 993 11 12 13 false false (mk 8 1)) tierSlots2 tierPostings0; store = lent (hd storeLimits0 8 2 5 0 4 1000 1000 11 12 13 false false (mk 4 2)) storeSlots2 storePostings0; meter = mt 13 13; ticks = 10; took = row (7 ∷ []) (150 ∷ []) ∷ []; evicts = false }
-unfolding opened
-limit10 = refl
-
--- 11 ticks left: Stopped, 1 taken
-limit11 : deliver (lent (hd tierLimits0 4 4 7 3 4 1000 1000 11 12 13 false false (mk 8 1)) tierSlots0 tierPostings0) (lent (hd storeLimits0 8 2 5 0 4 1000 1000 11 12 13 false false (mk 4 2)) storeSlots0 storePostings0) (mt 3 14)
-    ≡ record { answer = transfer-answer.Stopped; tier = lent (hd tierLimits0 4 4 7 3 4 1000 992 11 12 13 false false (mk 8 1)) tierSlots2 tierPostings0; store = lent (hd storeLimits0 8 2 5 0 4 1000 1000 11 12 13 false false (mk 4 2)) storeSlots2 storePostings0; meter = mt 14 14; ticks = 11; took = row (7 ∷ []) (150 ∷ []) ∷ []; evicts = false }
-unfolding opened
-limit11 = refl
-
--- 12 ticks left: Stopped, 1 taken
-limit12 : deliver (lent (hd tierLimits0 4 4 7 3 4 1000 1000 11 12 13 false false (mk 8 1)) tierSlots0 tierPostings0) (lent (hd storeLimits0 8 2 5 0 4 1000 1000 11 12 13 false false (mk 4 2)) storeSlots0 storePostings0) (mt 3 15)
-    ≡ record { answer = transfer-answer.Stopped; tier = lent (hd tierLimits0 4 4 7 3 4 1000 991 11 12 13 false false (mk 8 1)) tierSlots2 tierPostings0; store = lent (hd storeLimits0 8 2 5 0 4 1000 1000 11 12 13 false false (mk 4 2)) storeSlots2 storePostings0; meter = mt 15 15; ticks = 12; took = row (7 ∷ []) (150 ∷ []) ∷ []; evicts = false }
-unfolding opened
-limit12 = refl
-
--- 13 ticks left: Stopped, 1 taken
-limit13 : deliver (lent (hd tierLimits0 4 4 7 3 4 1000 1000 11 12 13 false false (mk 8 1)) tierSlots0 tierPostings0) (lent (hd storeLimits0 8 2 5 0 4 1000 1000 11 12 13 false false (mk 4 2)) storeSlots0 storePostings0) (mt 3 16)
-    ≡ record { answer = transfer-answer.Stopped; tier = lent (hd tierLimits0 4 4 7 3 4 1000 990 11 12 13 false false (mk 8 1)) tierSlots2 tierPostings0; store = lent (hd storeLimits0 8 2 5 0 4 1000 1000 11 12 13 false false (mk 4 2)) storeSlots2 storePostings0; meter = mt 16 16; ticks = 13; took = row (7 ∷ []) (150 ∷ []) ∷ []; evicts = false }
-unfolding opened
-limit13 = refl
-
--- 14 ticks left: Stopped, 1 taken
-limit14 : deliver (lent (hd tierLimits0 4 4 7 3 4 1000 1000 11 12 13 false false (mk 8 1)) tierSlots0 tierPostings0) (lent (hd storeLimits0 8 2 5 0 4 1000 1000 11 12 13 false false (mk 4 2)) storeSlots0 storePostings0) (mt 3 17)
-    ≡ record { answer = transfer-answer.Stopped; tier = lent (hd tierLimits0 4 4 7 3 4 1000 989 11 12 13 false false (mk 8 1)) tierSlots2 tierPostings0; store = lent (hd storeLimits0 8 2 5 0 4 1000 1000 11 12 13 false false (mk 4 2)) storeSlots2 storePostings0; meter = mt 17 17; ticks = 14; took = row (7 ∷ []) (150 ∷ []) ∷ []; evicts = false }
-unfolding opened
-limit14 = refl
-
--- 15 ticks left: Stopped, 1 taken
-limit15 : deliver (lent (hd tierLimits0 4 4 7 3 4 1000 1000 11 12 13 false false (mk 8 1)) tierSlots0 tierPostings0) (lent (hd storeLimits0 8 2 5 0 4 1000 1000 11 12 13 false false (mk 4 2)) storeSlots0 storePostings0) (mt 3 18)
-    ≡ record { answer = transfer-answer.Stopped; tier = lent (hd tierLimits0 4 4 7 3 4 1000 988 11 12 13 false false (mk 8 1)) tierSlots2 tierPostings0; store = lent (hd storeLimits0 8 2 5 0 4 1000 1000 11 12 13 false false (mk 4 2)) storeSlots2 storePostings0; meter = mt 18 18; ticks = 15; took = row (7 ∷ []) (150 ∷ []) ∷ []; evicts = false }
-unfolding opened
-limit15 = refl
-
--- 16 ticks left: Stopped, 1 taken
-limit16 : deliver (lent (hd tierLimits0 4 4 7 3 4 1000 1000 11 12 13 false false (mk 8 1)) tierSlots0 tierPostings0) (lent (hd storeLimits0 8 2 5 0 4 1000 1000 11 12 13 false false (mk 4 2)) storeSlots0 storePostings0) (mt 3 19)
-    ≡ record { answer = transfer-answer.Stopped; tier = lent (hd tierLimits0 4 4 7 3 4 1000 987 11 12 13 false false (mk 8 1)) tierSlots2 tierPostings0; store = lent (hd storeLimits0 8 2 5 0 4 1000 1000 11 12 13 false false (mk 4 2)) storeSlots2 storePostings0; meter = mt 19 19; ticks = 16; took = row (7 ∷ []) (150 ∷ []) ∷ []; evicts = false }
-unfolding opened
-limit16 = refl
-
--- 17 ticks left: Stopped, 1 taken
-limit17 : deliver (lent (hd tierLimits0 4 4 7 3 4 1000 1000 11 12 13 false false (mk 8 1)) tierSlots0 tierPostings0) (lent (hd storeLimits0 8 2 5 0 4 1000 1000 11 12 13 false false (mk 4 2)) storeSlots0 storePostings0) (mt 3 20)
-    ≡ record { answer = transfer-answer.Stopped; tier = lent (hd tierLimits0 4 4 7 3 4 1000 986 11 12 13 false false (mk 8 1)) tierSlots2 tierPostings0; store = lent (hd storeLimits0 8 2 5 0 4 1000 1000 11 12 13 false false (mk 4 2)) storeSlots2 storePostings0; meter = mt 20 20; ticks = 17; took = row (7 ∷ []) (150 ∷ []) ∷ []; evicts = false }
-unfolding opened
-limit17 = refl
-
--- 18 ticks left: Stopped, 1 taken
-limit18 : deliver (lent (hd tierLimits0 4 4 7 3 4 1000 1000 11 12 13 false false (mk 8 1)) tierSlots0 tierPostings0) (lent (hd storeLimits0 8 2 5 0 4 1000 1000 11 12 13 false false (mk 4 2)) storeSlots0 storePostings0) (mt 3 21)
-    ≡ record { answer = transfer-answer.Stopped; tier = lent (hd tierLimits0 4 4 7 3 4 1000 985 11 12 13 false false (mk 8 1)) tierSlots2 tierPostings0; store = lent (hd storeLimits0 8 2 5 0 4 1000 1000 11 12 13 false false (mk 4 2)) storeSlots2 storePostings0; meter = mt 21 21; ticks = 18; took = row (7 ∷ []) (150 ∷ []) ∷ []; evicts = false }
-unfolding opened
-limit18 = refl
-
--- 19 ticks left: Stopped, 1 taken
-limit19 : deliver (lent (hd tierLimits0 4 4 7 3 4 1000 1000 11 12 13 false false (mk 8 1)) tierSlots0 tierPostings0) (lent (hd storeLimits0 8 2 5 0 4 1000 1000 11 12 13 false false (mk 4 2)) storeSlots0 storePostings0) (mt 3 22)
-    ≡ record { answer = transfer-answer.Stopped; tier = lent (hd tierLimits0 4 4 7 3 4 1000 984 11 12 13 false false (mk 8 1)) tierSlots2 tierPostings0; store = lent (hd storeLimits0 8 2 5 0 4 1000 1000 11 12 13 false false (mk 4 2)) storeSlots2 storePostings0; meter = mt 22 22; ticks = 19; took = row (7 ∷ []) (150 ∷ []) ∷ []; evicts = false }
-unfolding opened
-limit19 = refl
-
--- 20 ticks left: Stopped, 1 taken
-limit20 : deliver (lent (hd tierLimits0 4 4 7 3 4 1000 1000 11 12 13 false false (mk 8 1)) tierSlots0 tierPostings0) (lent (hd storeLimits0 8 2 5 0 4 1000 1000 11 12 13 false false (mk 4 2)) storeSlots0 storePostings0) (mt 3 23)
-    ≡ record { answer = transfer-answer.Stopped; tier = lent (hd tierLimits0 4 4 7 3 4 1000 983 11 12 13 false false (mk 8 1)) tierSlots2 tierPostings0; store = lent (hd storeLimits0 8 2 5 0 4 1000 1000 11 12 13 false false (mk 4 2)) storeSlots2 storePostings0; meter = mt 23 23; ticks = 20; took = row (7 ∷ []) (150 ∷ []) ∷ []; evicts = false }
-unfolding opened
-limit20 = refl
-
--- 21 ticks left: Stopped, 1 taken
-limit21 : deliver (lent (hd tierLimits0 4 4 7 3 4 1000 1000 11 12 13 false false (mk 8 1)) tierSlots0 tierPostings0) (lent (hd storeLimits0 8 2 5 0 4 1000 1000 11 12 13 false false (mk 4 2)) storeSlots0 storePostings0) (mt 3 24)
-    ≡ record { answer = transfer-answer.Stopped; tier = lent (hd tierLimits0 4 4 7 3 4 1000 982 11 12 13 false false (mk 8 1)) tierSlots2 tierPostings0; store = lent (hd storeLimits0 8 2 5 0 4 1000 1000 11 12 13 false false (mk 4 2)) storeSlots2 storePostings0; meter = mt 24 24; ticks = 21; took = row (7 ∷ []) (150 ∷ []) ∷ []; evicts = false }
-unfolding opened
-limit21 = refl
-
--- 22 ticks left: Stopped, 1 taken
-limit22 : deliver (lent (hd tierLimits0 4 4 7 3 4 1000 1000 11 12 13 false false (mk 8 1)) tierSlots0 tierPostings0) (lent (hd storeLimits0 8 2 5 0 4 1000 1000 11 12 13 false false (mk 4 2)) storeSlots0 storePostings0) (mt 3 25)
-    ≡ record { answer = transfer-answer.Stopped; tier = lent (hd tierLimits0 4 4 7 3 4 1000 981 11 12 13 false false (mk 8 1)) tierSlots2 tierPostings0; store = lent (hd storeLimits0 8 2 5 0 4 1000 1000 11 12 13 false false (mk 4 2)) storeSlots2 storePostings0; meter = mt 25 25; ticks = 22; took = row (7 ∷ []) (150 ∷ []) ∷ []; evicts = false }
-unfolding opened
-limit22 = refl
-
--- 23 ticks left: Stopped, 1 taken
-limit23 : deliver (lent (hd tierLimits0 4 4 7 3 4 1000 1000 11 12 13 false false (mk 8 1)) tierSlots0 tierPostings0) (lent (hd storeLimits0 8 2 5 0 4 1000 1000 11 12 13 false false (mk 4 2)) storeSlots0 storePostings0) (mt 3 26)
-    ≡ record { answer = transfer-answer.Stopped; tier = lent (hd tierLimits0 4 4 7 3 4 1000 980 11 12 13 false false (mk 8 1)) tierSlots2 tierPostings0; store = lent (hd storeLimits0 8 2 5 0 4 1000 1000 11 12 13 false false (mk 4 2)) storeSlots2 storePostings0; meter = mt 26 26; ticks = 23; took = row (7 ∷ []) (150 ∷ []) ∷ []; evicts = false }
-unfolding opened
-limit23 = refl
-
--- 24 ticks left: Stopped, 1 taken
-limit24 : deliver (lent (hd tierLimits0 4 4 7 3 4 1000 1000 11 12 13 false false (mk 8 1)) tierSlots0 tierPostings0) (lent (hd storeLimits0 8 2 5 0 4 1000 1000 11 12 13 false false (mk 4 2)) storeSlots0 storePostings0) (mt 3 27)
-    ≡ record { answer = transfer-answer.Stopped; tier = lent (hd tierLimits0 4 4 7 3 4 1000 979 11 12 13 false false (mk 8 1)) tierSlots2 tierPostings0; store = lent (hd storeLimits0 8 2 5 0 4 1000 1000 11 12 13 false false (mk 4 2)) storeSlots2 storePostings0; meter = mt 27 27; ticks = 24; took = row (7 ∷ []) (150 ∷ []) ∷ []; evicts = false }
-unfolding opened
-limit24 = refl
-
--- 25 ticks left: Stopped, 1 taken
-limit25 : deliver (lent (hd tierLimits0 4 4 7 3 4 1000 1000 11 12 13 false false (mk 8 1)) tierSlots0 tierPostings0) (lent (hd storeLimits0 8 2 5 0 4 1000 1000 11 12 13 false false (mk 4 2)) storeSlots0 storePostings0) (mt 3 28)
-    ≡ record { answer = transfer-answer.Stopped; tier = lent (hd tierLimits0 4 4 7 3 4 1000 978 11 12 13 false false (mk 8 1)) tierSlots2 tierPostings0; store = lent (hd storeLimits0 8 2 5 0 4 1000 1000 11 12 13 false false (mk 4 2)) storeSlots2 storePostings0; meter = mt 28 28; ticks = 25; took = row (7 ∷ []) (150 ∷ []) ∷ []; evicts = false }
-unfolding opened
-limit25 = refl
-
--- 26 ticks left: Stopped, 1 taken
-limit26 : deliver (lent (hd tierLimits0 4 4 7 3 4 1000 1000 11 12 13 false false (mk 8 1)) tierSlots0 tierPostings0) (lent (hd storeLimits0 8 2 5 0 4 1000 1000 11 12 13 false false (mk 4 2)) storeSlots0 storePostings0) (mt 3 29)
-    ≡ record { answer = transfer-answer.Stopped; tier = lent (hd tierLimits0 4 4 7 3 4 1000 977 11 12 13 false false (mk 8 1)) tierSlots2 tierPostings0; store = lent (hd storeLimits0 8 2 5 0 4 1000 1000 11 12 13 false false (mk 4 2)) storeSlots2 storePostings0; meter = mt 29 29; ticks = 26; took = row (7 ∷ []) (150 ∷ []) ∷ []; evicts = false }
-unfolding opened
-limit26 = refl
-
--- 27 ticks left: Stopped, 1 taken
-limit27 : deliver (lent (hd tierLimits0 4 4 7 3 4 1000 1000 11 12 13 false false (mk 8 1)) tierSlots0 tierPostings0) (lent (hd storeLimits0 8 2 5 0 4 1000 1000 11 12 13 false false (mk 4 2)) storeSlots0 storePostings0) (mt 3 30)
-    ≡ record { answer = transfer-answer.Stopped; tier = lent (hd tierLimits0 4 4 7 3 4 1000 976 11 12 13 false false (mk 8 1)) tierSlots2 tierPostings0; store = lent (hd storeLimits0 8 2 5 0 4 1000 1000 11 12 13 false false (mk 4 2)) storeSlots2 storePostings0; meter = mt 30 30; ticks = 27; took = row (7 ∷ []) (150 ∷ []) ∷ []; evicts = false }
-unfolding opened
-limit27 = refl
-
--- 28 ticks left: Stopped, 1 taken
-limit28 : deliver (lent (hd tierLimits0 4 4 7 3 4 1000 1000 11 12 13 false false (mk 8 1)) tierSlots0 tierPostings0) (lent (hd storeLimits0 8 2 5 0 4 1000 1000 11 12 13 false false (mk 4 2)) storeSlots0 storePostings0) (mt 3 31)
-    ≡ record { answer = transfer-answer.Stopped; tier = lent (hd tierLimits0 4 4 7 3 4 1000 975 11 12 13 false false (mk 8 1)) tierSlots2 tierPostings0; store = lent (hd storeLimits0 8 2 5 0 4 1000 1000 11 12 13 false false (mk 4 2)) storeSlots2 storePostings0; meter = mt 31 31; ticks = 28; took = row (7 ∷ []) (150 ∷ []) ∷ []; evicts = false }
-unfolding opened
-limit28 = refl
-
--- 29 ticks left: Stopped, 1 taken
-limit29 : deliver (lent (hd tierLimits0 4 4 7 3 4 1000 1000 11 12 13 false false (mk 8 1)) tierSlots0 tierPostings0) (lent (hd storeLimits0 8 2 5 0 4 1000 1000 11 12 13 false false (mk 4 2)) storeSlots0 storePostings0) (mt 3 32)
-    ≡ record { answer = transfer-answer.Stopped; tier = lent (hd tierLimits0 4 4 7 3 4 1000 974 11 12 13 false false (mk 8 1)) tierSlots2 tierPostings0; store = lent (hd storeLimits0 8 2 5 0 4 1000 1000 11 12 13 false false (mk 4 2)) storeSlots2 storePostings0; meter = mt 32 32; ticks = 29; took = row (7 ∷ []) (150 ∷ []) ∷ []; evicts = false }
-unfolding opened
-limit29 = refl
-
--- 30 ticks left: Stopped, 1 taken
-limit30 : deliver (lent (hd tierLimits0 4 4 7 3 4 1000 1000 11 12 13 false false (mk 8 1)) tierSlots0 tierPostings0) (lent (hd storeLimits0 8 2 5 0 4 1000 1000 11 12 13 false false (mk 4 2)) storeSlots0 storePostings0) (mt 3 33)
-    ≡ record { answer = transfer-answer.Stopped; tier = lent (hd tierLimits0 4 4 7 3 4 1000 973 11 12 13 false false (mk 8 1)) tierSlots2 tierPostings0; store = lent (hd storeLimits0 8 2 5 0 4 1000 1000 11 12 13 false false (mk 4 2)) storeSlots2 storePostings0; meter = mt 33 33; ticks = 30; took = row (7 ∷ []) (150 ∷ []) ∷ []; evicts = false }
-unfolding opened
-limit30 = refl
-
--- 31 ticks left: Stopped, 1 taken
-limit31 : deliver (lent (hd tierLimits0 4 4 7 3 4 1000 1000 11 12 13 false false (mk 8 1)) tierSlots0 tierPostings0) (lent (hd storeLimits0 8 2 5 0 4 1000 1000 11 12 13 false false (mk 4 2)) storeSlots0 storePostings0) (mt 3 34)
-    ≡ record { answer = transfer-answer.Stopped; tier = lent (hd tierLimits0 4 4 7 3 4 1000 972 11 12 13 false false (mk 8 1)) tierSlots2 tierPostings0; store = lent (hd storeLimits0 8 2 5 0 4 1000 1000 11 12 13 false false (mk 4 2)) storeSlots2 storePostings0; meter = mt 34 34; ticks = 31; took = row (7 ∷ []) (150 ∷ []) ∷ []; evicts = false }
-unfolding opened
-limit31 = refl
-
--- 32 ticks left: Stopped, 1 taken
-limit32 : deliver (lent (hd tierLimits0 4 4 7 3 4 1000 1000 11 12 13 false false (mk 8 1)) tierSlots0 tierPostings0) (lent (hd storeLimits0 8 2 5 0 4 1000 1000 11 12 13 false false (mk 4 2)) storeSlots0 storePostings0) (mt 3 35)
-    ≡ record { answer = transfer-answer.Stopped; tier = lent (hd tierLimits0 4 4 7 3 4 1000 971 11 12 13 false false (mk 8 1)) tierSlots2 tierPostings0; store = lent (hd storeLimits0 8 2 5 0 4 1000 1000 11 12 13 false false (mk 4 2)) storeSlots2 storePostings0; meter = mt 35 35; ticks = 32; took = row (7 ∷ []) (150 ∷ []) ∷ []; evicts = false }
-unfolding opened
-limit32 = refl
-
--- 33 ticks left: Stopped, 1 taken
-limit33 : deliver (lent (hd tierLimits0 4 4 7 3 4 1000 1000 11 12 13 false false (mk 8 1)) tierSlots0 tierPostings0) (lent (hd storeLimits0 8 2 5 0 4 1000 1000 11 12 13 false false (mk 4 2)) storeSlots0 storePostings0) (mt 3 36)
-    ≡ record { answer = transfer-answer.Stopped; tier = lent (hd tierLimits0 4 4 7 3 4 1000 970 11 12 13 false false (mk 8 1)) tierSlots2 tierPostings0; store = lent (hd storeLimits0 8 2 5 0 4 1000 1000 11 12 13 false false (mk 4 2)) storeSlots2 storePostings0; meter = mt 36 36; ticks = 33; took = row (7 ∷ []) (150 ∷ []) ∷ []; evicts = false }
-unfolding opened
-limit33 = refl
-
--- 34 ticks left: Stopped, 1 taken
-limit34 : deliver (lent (hd tierLimits0 4 4 7 3 4 1000 1000 11 12 13 false false (mk 8 1)) tierSlots0 tierPostings0) (lent (hd storeLimits0 8 2 5 0 4 1000 1000 11 12 13 false false (mk 4 2)) storeSlots0 storePostings0) (mt 3 37)
-    ≡ record { answer = transfer-answer.Stopped; tier = lent (hd tierLimits0 4 4 7 3 4 1000 969 11 12 13 false false (mk 8 1)) tierSlots2 tierPostings0; store = lent (hd storeLimits0 8 2 5 0 4 1000 1000 11 12 13 false false (mk 4 2)) storeSlots2 storePostings0; meter = mt 37 37; ticks = 34; took = row (7 ∷ []) (150 ∷ []) ∷ []; evicts = false }
-unfolding opened
-limit34 = refl
-
--- 35 ticks left: Stopped, 1 taken
-limit35 : deliver (lent (hd tierLimits0 4 4 7 3 4 1000 1000 11 12 13 false false (mk 8 1)) tierSlots0 tierPostings0) (lent (hd storeLimits0 8 2 5 0 4 1000 1000 11 12 13 false false (mk 4 2)) storeSlots0 storePostings0) (mt 3 38)
-    ≡ record { answer = transfer-answer.Stopped; tier = lent (hd tierLimits0 4 4 7 3 4 1000 968 11 12 13 false false (mk 8 1)) tierSlots2 tierPostings0; store = lent (hd storeLimits0 8 2 5 0 4 1000 1000 11 12 13 false false (mk 4 2)) storeSlots2 storePostings0; meter = mt 38 38; ticks = 35; took = row (7 ∷ []) (150 ∷ []) ∷ []; evicts = false }
-unfolding opened
-limit35 = refl
-
--- 36 ticks left: Stopped, 1 taken
-limit36 : deliver (lent (hd tierLimits0 4 4 7 3 4 1000 1000 11 12 13 false false (mk 8 1)) tierSlots0 tierPostings0) (lent (hd storeLimits0 8 2 5 0 4 1000 1000 11 12 13 false false (mk 4 2)) storeSlots0 storePostings0) (mt 3 39)
-    ≡ record { answer = transfer-answer.Stopped; tier = lent (hd tierLimits0 4 4 7 3 4 1000 967 11 12 13 false false (mk 8 1)) tierSlots2 tierPostings0; store = lent (hd storeLimits0 8 2 5 0 4 1000 1000 11 12 13 false false (mk 4 2)) storeSlots2 storePostings0; meter = mt 39 39; ticks = 36; took = row (7 ∷ []) (150 ∷ []) ∷ []; evicts = false }
-unfolding opened
-limit36 = refl
-
--- 37 ticks left: Stopped, 1 taken
-limit37 : deliver (lent (hd tierLimits0 4 4 7 3 4 1000 1000 11 12 13 false false (mk 8 1)) tierSlots0 tierPostings0) (lent (hd storeLimits0 8 2 5 0 4 1000 1000 11 12 13 false false (mk 4 2)) storeSlots0 storePostings0) (mt 3 40)
-    ≡ record { answer = transfer-answer.Stopped; tier = lent (hd tierLimits0 4 4 7 3 4 1000 966 11 12 13 false false (mk 8 1)) tierSlots2 tierPostings0; store = lent (hd storeLimits0 8 2 5 0 4 1000 1000 11 12 13 false false (mk 4 2)) storeSlots2 storePostings0; meter = mt 40 40; ticks = 37; took = row (7 ∷ []) (150 ∷ []) ∷ []; evicts = false }
-unfolding opened
-limit37 = refl
-
--- 38 ticks left: Stopped, 1 taken
-limit38 : deliver (lent (hd tierLimits0 4 4 7 3 4 1000 1000 11 12 13 false false (mk 8 1)) tierSlots0 tierPostings0) (lent (hd storeLimits0 8 2 5 0 4 1000 1000 11 12 13 false false (mk 4 2)) storeSlots0 storePostings0) (mt 3 41)
-    ≡ record { answer = transfer-answer.Stopped; tier = lent (hd tierLimits0 4 4 7 3 4 1000 965 11 12 13 false false (mk 8 1)) tierSlots2 tierPostings0; store = lent (hd storeLimits0 8 2 5 0 4 1000 1000 11 12 13 false false (mk 4 2)) storeSlots2 storePostings0; meter = mt 41 41; ticks = 38; took = row (7 ∷ []) (150 ∷ []) ∷ []; evicts = false }
-unfolding opened
-limit38 = refl
-
--- 39 ticks left: Stopped, 1 taken
-limit39 : deliver (lent (hd tierLimits0 4 4 7 3 4 1000 1000 11 12 13 false false (mk 8 1)) tierSlots0 tierPostings0) (lent (hd storeLimits0 8 2 5 0 4 1000 1000 11 12 13 false false (mk 4 2)) storeSlots0 storePostings0) (mt 3 42)
-    ≡ record { answer = transfer-answer.Stopped; tier = lent (hd tierLimits0 4 4 7 3 4 1000 964 11 12 13 false false (mk 8 1)) tierSlots2 tierPostings0; store = lent (hd storeLimits0 8 2 5 0 4 1000 1000 11 12 13 false false (mk 4 2)) storeSlots2 storePostings0; meter = mt 42 42; ticks = 39; took = row (7 ∷ []) (150 ∷ []) ∷ []; evicts = false }
-unfolding opened
-limit39 = refl
-
--- 40 ticks left: Stopped, 1 taken
-limit40 : deliver (lent (hd tierLimits0 4 4 7 3 4 1000 1000 11 12 13 false false (mk 8 1)) tierSlots0 tierPostings0) (lent (hd storeLimits0 8 2 5 0 4 1000 1000 11 12 13 false false (mk 4 2)) storeSlots0 storePostings0) (mt 3 43)
-    ≡ record { answer = transfer-answer.Stopped; tier = lent (hd tierLimits0 4 4 7 3 4 1000 963 11 12 13 false false (mk 8 1)) tierSlots2 tierPostings0; store = lent (hd storeLimits0 8 2 5 0 4 1000 1000 11 12 13 false false (mk 4 2)) storeSlots2 storePostings0; meter = mt 43 43; ticks = 40; took = row (7 ∷ []) (150 ∷ []) ∷ []; evicts = false }
-unfolding opened
-limit40 = refl
-
--- 41 ticks left: Stopped, 1 taken
-limit41 : deliver (lent (hd tierLimits0 4 4 7 3 4 1000 1000 11 12 13 false false (mk 8 1)) tierSlots0 tierPostings0) (lent (hd storeLimits0 8 2 5 0 4 1000 1000 11 12 13 false false (mk 4 2)) storeSlots0 storePostings0) (mt 3 44)
-    ≡ record { answer = transfer-answer.Stopped; tier = lent (hd tierLimits0 4 4 7 3 4 1000 962 11 12 13 false false (mk 8 1)) tierSlots2 tierPostings0; store = lent (hd storeLimits0 8 2 5 0 4 1000 1000 11 12 13 false false (mk 4 2)) storeSlots2 storePostings0; meter = mt 44 44; ticks = 41; took = row (7 ∷ []) (150 ∷ []) ∷ []; evicts = false }
-unfolding opened
-limit41 = refl
-
--- 42 ticks left: Stopped, 2 taken
-limit42 : deliver (lent (hd tierLimits0 4 4 7 3 4 1000 1000 11 12 13 false false (mk 8 1)) tierSlots0 tierPostings0) (lent (hd storeLimits0 8 2 5 0 4 1000 1000 11 12 13 false false (mk 4 2)) storeSlots0 storePostings0) (mt 3 45)
-    ≡ record { answer = transfer-answer.Stopped; tier = lent (hd tierLimits0 4 4 7 3 4 1000 961 11 12 13 false false (mk 8 1)) tierSlots3 tierPostings0; store = lent (hd storeLimits0 8 2 6 1 4 1000 1000 11 13 13 true true (mk 4 2)) storeSlots3 (zs 160 []); meter = mt 45 45; ticks = 42; took = row (11 ∷ []) (158 ∷ []) ∷ row (7 ∷ []) (150 ∷ []) ∷ []; evicts = false }
-unfolding opened
-limit42 = refl
-
--- 43 ticks left: Stopped, 2 taken
-limit43 : deliver (lent (hd tierLimits0 4 4 7 3 4 1000 1000 11 12 13 false false (mk 8 1)) tierSlots0 tierPostings0) (lent (hd storeLimits0 8 2 5 0 4 1000 1000 11 12 13 false false (mk 4 2)) storeSlots0 storePostings0) (mt 3 46)
-    ≡ record { answer = transfer-answer.Stopped; tier = lent (hd tierLimits0 4 4 7 3 4 1000 961 11 12 13 false false (mk 8 1)) tierSlots3 tierPostings0; store = lent (hd storeLimits0 8 2 6 1 4 1000 1000 11 13 13 true true (mk 4 2)) storeSlots3 (zs 160 []); meter = mt 46 46; ticks = 43; took = row (11 ∷ []) (158 ∷ []) ∷ row (7 ∷ []) (150 ∷ []) ∷ []; evicts = false }
-unfolding opened
-limit43 = refl
-
--- 44 ticks left: Stopped, 2 taken
-limit44 : deliver (lent (hd tierLimits0 4 4 7 3 4 1000 1000 11 12 13 false false (mk 8 1)) tierSlots0 tierPostings0) (lent (hd storeLimits0 8 2 5 0 4 1000 1000 11 12 13 false false (mk 4 2)) storeSlots0 storePostings0) (mt 3 47)
-    ≡ record { answer = transfer-answer.Stopped; tier = lent (hd tierLimits0 4 4 7 3 4 1000 960 11 12 13 false false (mk 8 1)) tierSlots3 tierPostings0; store = lent (hd storeLimits0 8 2 6 1 4 1000 1000 11 13 13 true true (mk 4 2)) storeSlots3 (zs 160 []); meter = mt 47 47; ticks = 44; took = row (11 ∷ []) (158 ∷ []) ∷ row (7 ∷ []) (150 ∷ []) ∷ []; evicts = false }
-unfolding opened
-limit44 = refl
-
--- 45 ticks left: Stopped, 2 taken
-limit45 : deliver (lent (hd tierLimits0 4 4 7 3 4 1000 1000 11 12 13 false false (mk 8 1)) tierSlots0 tierPostings0) (lent (hd storeLimits0 8 2 5 0 4 1000 1000 11 12 13 false false (mk 4 2)) storeSlots0 storePostings0) (mt 3 48)
-    ≡ record { answer = transfer-answer.Stopped; tier = lent (hd tierLimits0 4 4 7 3 4 1000 959 11 12 13 false false (mk 8 1)) tierSlots3 tierPostings0; store = lent (hd storeLimits0 8 2 6 1 4 1000 1000 11 13 13 true true (mk 4 2)) storeSlots3 (zs 160 []); meter = mt 48 48; ticks = 45; took = row (11 ∷ []) (158 ∷ []) ∷ row (7 ∷ []) (150 ∷ []) ∷ []; evicts = false }
-unfolding opened
-limit45 = refl
-
--- 46 ticks left: Stopped, 2 taken
-limit46 : deliver (lent (hd tierLimits0 4 4 7 3 4 1000 1000 11 12 13 false false (mk 8 1)) tierSlots0 tierPostings0) (lent (hd storeLimits0 8 2 5 0 4 1000 1000 11 12 13 false false (mk 4 2)) storeSlots0 storePostings0) (mt 3 49)
-    ≡ record { answer = transfer-answer.Stopped; tier = lent (hd tierLimits0 4 4 7 3 4 1000 958 11 12 13 false false (mk 8 1)) tierSlots3 tierPostings0; store = lent (hd storeLimits0 8 2 6 1 4 1000 1000 11 13 13 true true (mk 4 2)) storeSlots3 (zs 160 []); meter = mt 49 49; ticks = 46; took = row (11 ∷ []) (158 ∷ []) ∷ row (7 ∷ []) (150 ∷ []) ∷ []; evicts = false }
-unfolding opened
-limit46 = refl
-
--- 47 ticks left: Stopped, 2 taken
-limit47 : deliver (lent (hd tierLimits0 4 4 7 3 4 1000 1000 11 12 13 false false (mk 8 1)) tierSlots0 tierPostings0) (lent (hd storeLimits0 8 2 5 0 4 1000 1000 11 12 13 false false (mk 4 2)) storeSlots0 storePostings0) (mt 3 50)
-    ≡ record { answer = transfer-answer.Stopped; tier = lent (hd tierLimits0 4 4 7 3 4 1000 957 11 12 13 false false (mk 8 1)) tierSlots3 tierPostings0; store = lent (hd storeLimits0 8 2 6 1 4 1000 1000 11 13 13 true true (mk 4 2)) storeSlots3 (zs 160 []); meter = mt 50 50; ticks = 47; took = row (11 ∷ []) (158 ∷ []) ∷ row (7 ∷ []) (150 ∷ []) ∷ []; evicts = false }
-unfolding opened
-limit47 = refl
-
--- 48 ticks left: Stopped, 2 taken
-limit48 : deliver (lent (hd tierLimits0 4 4 7 3 4 1000 1000 11 12 13 false false (mk 8 1)) tierSlots0 tierPostings0) (lent (hd storeLimits0 8 2 5 0 4 1000 1000 11 12 13 false false (mk 4 2)) storeSlots0 storePostings0) (mt 3 51)
-    ≡ record { answer = transfer-answer.Stopped; tier = lent (hd tierLimits0 4 4 7 3 4 1000 956 11 12 13 false false (mk 8 1)) tierSlots3 tierPostings0; store = lent (hd storeLimits0 8 2 6 1 4 1000 1000 11 13 13 true true (mk 4 2)) storeSlots3 (zs 160 []); meter = mt 51 51; ticks = 48; took = row (11 ∷ []) (158 ∷ []) ∷ row (7 ∷ []) (150 ∷ []) ∷ []; evicts = false }
-unfolding opened
-limit48 = refl
-
--- 49 ticks left: Stopped, 2 taken
-limit49 : deliver (lent (hd tierLimits0 4 4 7 3 4 1000 1000 11 12 13 false false (mk 8 1)) tierSlots0 tierPostings0) (lent (hd storeLimits0 8 2 5 0 4 1000 1000 11 12 13 false false (mk 4 2)) storeSlots0 storePostings0) (mt 3 52)
-    ≡ record { answer = transfer-answer.Stopped; tier = lent (hd tierLimits0 4 4 7 3 4 1000 955 11 12 13 false false (mk 8 1)) tierSlots3 tierPostings0; store = lent (hd storeLimits0 8 2 6 1 4 1000 1000 11 13 13 true true (mk 4 2)) storeSlots3 (zs 160 []); meter = mt 52 52; ticks = 49; took = row (11 ∷ []) (158 ∷ []) ∷ row (7 ∷ []) (150 ∷ []) ∷ []; evicts = false }
-unfolding opened
-limit49 = refl
-
--- 50 ticks left: Stopped, 2 taken
-limit50 : deliver (lent (hd tierLimits0 4 4 7 3 4 1000 1000 11 12 13 false false (mk 8 1)) tierSlots0 tierPostings0) (lent (hd storeLimits0 8 2 5 0 4 1000 1000 11 12 13 false false (mk 4 2)) storeSlots0 storePostings0) (mt 3 53)
-    ≡ record { answer = transfer-answer.Stopped; tier = lent (hd tierLimits0 4 4 7 3 4 1000 954 11 12 13 false false (mk 8 1)) tierSlots3 tierPostings0; store = lent (hd storeLimits0 8 2 6 1 4 1000 1000 11 13 13 true true (mk 4 2)) storeSlots3 (zs 160 []); meter = mt 53 53; ticks = 50; took = row (11 ∷ []) (158 ∷ []) ∷ row (7 ∷ []) (150 ∷ []) ∷ []; evicts = false }
-unfolding opened
-limit50 = refl
-
--- 51 ticks left: Stopped, 2 taken
-limit51 : deliver (lent (hd tierLimits0 4 4 7 3 4 1000 1000 11 12 13 false false (mk 8 1)) tierSlots0 tierPostings0) (lent (hd storeLimits0 8 2 5 0 4 1000 1000 11 12 13 false false (mk 4 2)) storeSlots0 storePostings0) (mt 3 54)
-    ≡ record { answer = transfer-answer.Stopped; tier = lent (hd tierLimits0 4 4 7 3 4 1000 953 11 12 13 false false (mk 8 1)) tierSlots3 tierPostings0; store = lent (hd storeLimits0 8 2 6 1 4 1000 1000 11 13 13 true true (mk 4 2)) storeSlots3 (zs 160 []); meter = mt 54 54; ticks = 51; took = row (11 ∷ []) (158 ∷ []) ∷ row (7 ∷ []) (150 ∷ []) ∷ []; evicts = false }
-unfolding opened
-limit51 = refl
-
--- 52 ticks left: Stopped, 2 taken
-limit52 : deliver (lent (hd tierLimits0 4 4 7 3 4 1000 1000 11 12 13 false false (mk 8 1)) tierSlots0 tierPostings0) (lent (hd storeLimits0 8 2 5 0 4 1000 1000 11 12 13 false false (mk 4 2)) storeSlots0 storePostings0) (mt 3 55)
-    ≡ record { answer = transfer-answer.Stopped; tier = lent (hd tierLimits0 4 4 7 3 4 1000 952 11 12 13 false false (mk 8 1)) tierSlots3 tierPostings0; store = lent (hd storeLimits0 8 2 6 1 4 1000 1000 11 13 13 true true (mk 4 2)) storeSlots3 (zs 160 []); meter = mt 55 55; ticks = 52; took = row (11 ∷ []) (158 ∷ []) ∷ row (7 ∷ []) (150 ∷ []) ∷ []; evicts = false }
-unfolding opened
-limit52 = refl
-
--- 53 ticks left: Stopped, 2 taken
-limit53 : deliver (lent (hd tierLimits0 4 4 7 3 4 1000 1000 11 12 13 false false (mk 8 1)) tierSlots0 tierPostings0) (lent (hd storeLimits0 8 2 5 0 4 1000 1000 11 12 13 false false (mk 4 2)) storeSlots0 storePostings0) (mt 3 56)
-    ≡ record { answer = transfer-answer.Stopped; tier = lent (hd tierLimits0 4 4 7 3 4 1000 951 11 12 13 false false (mk 8 1)) tierSlots3 tierPostings0; store = lent (hd storeLimits0 8 2 6 1 4 1000 1000 11 13 13 true true (mk 4 2)) storeSlots3 (zs 160 []); meter = mt 56 56; ticks = 53; took = row (11 ∷ []) (158 ∷ []) ∷ row (7 ∷ []) (150 ∷ []) ∷ []; evicts = false }
-unfolding opened
-limit53 = refl
-
--- 54 ticks left: Stopped, 2 taken
-limit54 : deliver (lent (hd tierLimits0 4 4 7 3 4 1000 1000 11 12 13 false false (mk 8 1)) tierSlots0 tierPostings0) (lent (hd storeLimits0 8 2 5 0 4 1000 1000 11 12 13 false false (mk 4 2)) storeSlots0 storePostings0) (mt 3 57)
-    ≡ record { answer = transfer-answer.Stopped; tier = lent (hd tierLimits0 4 4 7 3 4 1000 950 11 12 13 false false (mk 8 1)) tierSlots3 tierPostings0; store = lent (hd storeLimits0 8 2 6 1 4 1000 1000 11 13 13 true true (mk 4 2)) storeSlots3 (zs 160 []); meter = mt 57 57; ticks = 54; took = row (11 ∷ []) (158 ∷ []) ∷ row (7 ∷ []) (150 ∷ []) ∷ []; evicts = false }
-unfolding opened
-limit54 = refl
-
--- 55 ticks left: Stopped, 2 taken
-limit55 : deliver (lent (hd tierLimits0 4 4 7 3 4 1000 1000 11 12 13 false false (mk 8 1)) tierSlots0 tierPostings0) (lent (hd storeLimits0 8 2 5 0 4 1000 1000 11 12 13 false false (mk 4 2)) storeSlots0 storePostings0) (mt 3 58)
-    ≡ record { answer = transfer-answer.Stopped; tier = lent (hd tierLimits0 4 4 7 3 4 1000 949 11 12 13 false false (mk 8 1)) tierSlots3 tierPostings0; store = lent (hd storeLimits0 8 2 6 1 4 1000 1000 11 13 13 true true (mk 4 2)) storeSlots3 (zs 160 []); meter = mt 58 58; ticks = 55; took = row (11 ∷ []) (158 ∷ []) ∷ row (7 ∷ []) (150 ∷ []) ∷ []; evicts = false }
-unfolding opened
-limit55 = refl
-
--- 56 ticks left: Stopped, 2 taken
-limit56 : deliver (lent (hd tierLimits0 4 4 7 3 4 1000 1000 11 12 13 false false (mk 8 1)) tierSlots0 tierPostings0) (lent (hd storeLimits0 8 2 5 0 4 1000 1000 11 12 13 false false (mk 4 2)) storeSlots0 storePostings0) (mt 3 59)
-    ≡ record { answer = transfer-answer.Stopped; tier = lent (hd tierLimits0 4 4 7 3 4 1000 948 11 12 13 false false (mk 8 1)) tierSlots3 tierPostings0; store = lent (hd storeLimits0 8 2 6 1 4 1000 1000 11 13 13 true true (mk 4 2)) storeSlots3 (zs 160 []); meter = mt 59 59; ticks = 56; took = row (11 ∷ []) (158 ∷ []) ∷ row (7 ∷ []) (150 ∷ []) ∷ []; evicts = false }
-unfolding opened
-limit56 = refl
-
--- 57 ticks left: Stopped, 2 taken
-limit57 : deliver (lent (hd tierLimits0 4 4 7 3 4 1000 1000 11 12 13 false false (mk 8 1)) tierSlots0 tierPostings0) (lent (hd storeLimits0 8 2 5 0 4 1000 1000 11 12 13 false false (mk 4 2)) storeSlots0 storePostings0) (mt 3 60)
-    ≡ record { answer = transfer-answer.Stopped; tier = lent (hd tierLimits0 4 4 7 3 4 1000 947 11 12 13 false false (mk 8 1)) tierSlots3 tierPostings0; store = lent (hd storeLimits0 8 2 6 1 4 1000 1000 11 13 13 true true (mk 4 2)) storeSlots3 (zs 160 []); meter = mt 60 60; ticks = 57; took = row (11 ∷ []) (158 ∷ []) ∷ row (7 ∷ []) (150 ∷ []) ∷ []; evicts = false }
-unfolding opened
-limit57 = refl
-
--- 58 ticks left: Done, 3 taken
-limit58 : deliver (lent (hd tierLimits0 4 4 7 3 4 1000 1000 11 12 13 false false (mk 8 1)) tierSlots0 tierPostings0) (lent (hd storeLimits0 8 2 5 0 4 1000 1000 11 12 13 false false (mk 4 2)) storeSlots0 storePostings0) (mt 3 61)
-    ≡ record { answer = transfer-answer.Done; tier = lent (hd tierLimits0 4 4 7 3 4 1000 946 11 12 13 false false (mk 8 1)) tierSlots1 tierPostings0; store = lent (hd storeLimits0 8 2 7 0 4 1000 1000 12 14 13 true true (mk 4 2)) storeSlots1 (zs 160 []); meter = mt 61 61; ticks = 58; took = row (13 ∷ []) (20 ∷ []) ∷ row (11 ∷ []) (158 ∷ []) ∷ row (7 ∷ []) (150 ∷ []) ∷ []; evicts = true }
-unfolding opened
-limit58 = refl
-
--- 59 ticks left: Done, 3 taken
-limit59 : deliver (lent (hd tierLimits0 4 4 7 3 4 1000 1000 11 12 13 false false (mk 8 1)) tierSlots0 tierPostings0) (lent (hd storeLimits0 8 2 5 0 4 1000 1000 11 12 13 false false (mk 4 2)) storeSlots0 storePostings0) (mt 3 62)
-    ≡ record { answer = transfer-answer.Done; tier = lent (hd tierLimits0 4 4 7 3 4 1000 946 11 12 13 false false (mk 8 1)) tierSlots1 tierPostings0; store = lent (hd storeLimits0 8 2 7 0 4 1000 1000 12 14 13 true true (mk 4 2)) storeSlots1 (zs 160 []); meter = mt 61 62; ticks = 58; took = row (13 ∷ []) (20 ∷ []) ∷ row (11 ∷ []) (158 ∷ []) ∷ row (7 ∷ []) (150 ∷ []) ∷ []; evicts = true }
-unfolding opened
-limit59 = refl
-
--- account 0 and 0 ticks, both used up: Stopped, 0 taken
-both00at00 : deliver (lent (hd tierLimits0 4 4 7 3 4 1000 0 11 12 13 false false (mk 8 1)) tierSlots0 tierPostings0) (lent (hd storeLimits0 8 2 5 0 4 1000 1000 11 12 13 false false (mk 4 2)) storeSlots0 storePostings0) (mt 0 0)
-    ≡ record { answer = transfer-answer.Stopped; tier = lent (hd tierLimits0 4 4 7 3 4 1000 0 11 12 13 false false (mk 8 1)) tierSlots0 tierPostings0; store = lent (hd storeLimits0 8 2 5 0 4 1000 1000 11 12 13 false false (mk 4 2)) storeSlots0 storePostings0; meter = mt 0 0; ticks = 0; took = []; evicts = false }
-unfolding opened
-both00at00 = refl
-
--- account 0 and 1 ticks, both used up: Done, 0 taken
-both00at01 : deliver (lent (hd tierLimits0 4 4 7 3 4 1000 0 11 12 13 false false (mk 8 1)) tierSlots0 tierPostings0) (lent (hd storeLimits0 8 2 5 0 4 1000 1000 11 12 13 false false (mk 4 2)) storeSlots0 storePostings0) (mt 0 1)
-    ≡ record { answer = transfer-answer.Done; tier = lent (hd tierLimits0 4 4 7 3 4 1000 0 11 12 13 false false (mk 8 1)) tierSlots0 tierPostings0; store = lent (hd storeLimits0 8 2 5 0 4 1000 1000 11 12 13 false false (mk 4 2)) storeSlots0 storePostings0; meter = mt 1 1; ticks = 1; took = []; evicts = false }
-unfolding opened
-both00at01 = refl
-
--- account 1 and 2 ticks, both used up: Done, 0 taken
-both01at02 : deliver (lent (hd tierLimits0 4 4 7 3 4 1000 1 11 12 13 false false (mk 8 1)) tierSlots0 tierPostings0) (lent (hd storeLimits0 8 2 5 0 4 1000 1000 11 12 13 false false (mk 4 2)) storeSlots0 storePostings0) (mt 0 2)
-    ≡ record { answer = transfer-answer.Done; tier = lent (hd tierLimits0 4 4 7 3 4 1000 0 11 12 13 false false (mk 8 1)) tierSlots0 tierPostings0; store = lent (hd storeLimits0 8 2 5 0 4 1000 1000 11 12 13 false false (mk 4 2)) storeSlots0 storePostings0; meter = mt 2 2; ticks = 2; took = []; evicts = false }
-unfolding opened
-both01at02 = refl
-
--- account 2 and 3 ticks, both used up: Done, 0 taken
-both02at03 : deliver (lent (hd tierLimits0 4 4 7 3 4 1000 2 11 12 13 false false (mk 8 1)) tierSlots0 tierPostings0) (lent (hd storeLimits0 8 2 5 0 4 1000 1000 11 12 13 false false (mk 4 2)) storeSlots0 storePostings0) (mt 0 3)
-    ≡ record { answer = transfer-answer.Done; tier = lent (hd tierLimits0 4 4 7 3 4 1000 0 11 12 13 false false (mk 8 1)) tierSlots0 tierPostings0; store = lent (hd storeLimits0 8 2 5 0 4 1000 1000 11 12 13 false false (mk 4 2)) storeSlots0 storePostings0; meter = mt 3 3; ticks = 3; took = []; evicts = false }
-unfolding opened
-both02at03 = refl
-
--- account 3 and 4 ticks, both used up: Done, 0 taken
-both03at04 : deliver (lent (hd tierLimits0 4 4 7 3 4 1000 3 11 12 13 false false (mk 8 1)) tierSlots0 tierPostings0) (lent (hd storeLimits0 8 2 5 0 4 1000 1000 11 12 13 false false (mk 4 2)) storeSlots0 storePostings0) (mt 0 4)
-    ≡ record { answer = transfer-answer.Done; tier = lent (hd tierLimits0 4 4 7 3 4 1000 0 11 12 13 false false (mk 8 1)) tierSlots0 tierPostings0; store = lent (hd storeLimits0 8 2 5 0 4 1000 1000 11 12 13 false false (mk 4 2)) storeSlots0 storePostings0; meter = mt 4 4; ticks = 4; took = []; evicts = false }
-unfolding opened
-both03at04 = refl
-
--- account 4 and 5 ticks, both used up: Done, 0 taken
-both04at05 : deliver (lent (hd tierLimits0 4 4 7 3 4 1000 4 11 12 13 false false (mk 8 1)) tierSlots0 tierPostings0) (lent (hd storeLimits0 8 2 5 0 4 1000 1000 11 12 13 false false (mk 4 2)) storeSlots0 storePostings0) (mt 0 5)
-    ≡ record { answer = transfer-answer.Done; tier = lent (hd tierLimits0 4 4 7 3 4 1000 0 11 12 13 false false (mk 8 1)) tierSlots0 tierPostings0; store = lent (hd storeLimits0 8 2 5 0 4 1000 1000 11 12 13 false false (mk 4 2)) storeSlots0 storePostings0; meter = mt 5 5; ticks = 5; took = []; evicts = false }
-unfolding opened
-both04at05 = refl
-
--- account 5 and 6 ticks, both used up: Done, 0 taken
-both05at06 : deliver (lent (hd tierLimits0 4 4 7 3 4 1000 5 11 12 13 false false (mk 8 1)) tierSlots0 tierPostings0) (lent (hd storeLimits0 8 2 5 0 4 1000 1000 11 12 13 false false (mk 4 2)) storeSlots0 storePostings0) (mt 0 6)
-    ≡ record { answer = transfer-answer.Done; tier = lent (hd tierLimits0 4 4 7 3 4 1000 0 11 12 13 false false (mk 8 1)) tierSlots0 tierPostings0; store = lent (hd storeLimits0 8 2 5 0 4 1000 1000 11 12 13 false false (mk 4 2)) storeSlots0 storePostings0; meter = mt 6 6; ticks = 6; took = []; evicts = false }
-unfolding opened
-both05at06 = refl
-
--- account 6 and 7 ticks, both used up: Done, 0 taken
-both06at07 : deliver (lent (hd tierLimits0 4 4 7 3 4 1000 6 11 12 13 false false (mk 8 1)) tierSlots0 tierPostings0) (lent (hd storeLimits0 8 2 5 0 4 1000 1000 11 12 13 false false (mk 4 2)) storeSlots0 storePostings0) (mt 0 7)
-    ≡ record { answer = transfer-answer.Done; tier = lent (hd tierLimits0 4 4 7 3 4 1000 0 11 12 13 false false (mk 8 1)) tierSlots0 tierPostings0; store = lent (hd storeLimits0 8 2 5 0 4 1000 1000 11 12 13 false false (mk 4 2)) storeSlots0 storePostings0; meter = mt 7 7; ticks = 7; took = []; evicts = false }
-unfolding opened
-both06at07 = refl
-
--- account 7 and 8 ticks, both used up: Stopped, 1 taken
-both07at08 : deliver (lent (hd tierLimits0 4 4 7 3 4 1000 7 11 12 13 false false (mk 8 1)) tierSlots0 tierPostings0) (lent (hd storeLimits0 8 2 5 0 4 1000 1000 11 12 13 false false (mk 4 2)) storeSlots0 storePostings0) (mt 0 8)
-    ≡ record { answer = transfer-answer.Stopped; tier = lent (hd tierLimits0 4 4 7 3 4 1000 0 11 12 13 false false (mk 8 1)) tierSlots2 tierPostings0; store = lent (hd storeLimits0 8 2 5 0 4 1000 1000 11 12 13 false false (mk 4 2)) storeSlots2 storePostings0; meter = mt 8 8; ticks = 8; took = row (7 ∷ []) (150 ∷ []) ∷ []; evicts = false }
-unfolding opened
-both07at08 = refl
-
--- account 7 and 9 ticks, both used up: Stopped, 1 taken
-both07at09 : deliver (lent (hd tierLimits0 4 4 7 3 4 1000 7 11 12 13 false false (mk 8 1)) tierSlots0 tierPostings0) (lent (hd storeLimits0 8 2 5 0 4 1000 1000 11 12 13 false false (mk 4 2)) storeSlots0 storePostings0) (mt 0 9)
-    ≡ record { answer = transfer-answer.Stopped; tier = lent (hd tierLimits0 4 4 7 3 4 1000 0 11 12 13 false false (mk 8 1)) tierSlots2 tierPostings0; store = lent (hd storeLimits0 8 2 5 0 4 1000 1000 11 12 13 false false (mk 4 2)) storeSlots2 storePostings0; meter = mt 9 9; ticks = 9; took = row (7 ∷ []) (150 ∷ []) ∷ []; evicts = false }
-unfolding opened
-both07at09 = refl
-
--- account 7 and 10 ticks, both used up: Done, 1 taken
-both07at10 : deliver (lent (hd tierLimits0 4 4 7 3 4 1000 7 11 12 13 false false (mk 8 1)) tierSlots0 tierPostings0) (lent (hd storeLimits0 8 2 5 0 4 1000 1000 11 12 13 false false (mk 4 2)) storeSlots0 storePostings0) (mt 0 10)
-    ≡ record { answer = transfer-answer.Done; tier = lent (hd tierLimits0 4 4 7 3 4 1000 0 11 12 13 false false (mk 8 1)) tierSlots2 tierPostings0; store = lent (hd storeLimits0 8 2 5 0 4 1000 1000 11 12 13 false false (mk 4 2)) storeSlots2 storePostings0; meter = mt 10 10; ticks = 10; took = row (7 ∷ []) (150 ∷ []) ∷ []; evicts = false }
-unfolding opened
-both07at10 = refl
-
--- account 8 and 11 ticks, both used up: Done, 1 taken
-both08at11 : deliver (lent (hd tierLimits0 4 4 7 3 4 1000 8 11 12 13 false false (mk 8 1)) tierSlots0 tierPostings0) (lent (hd storeLimits0 8 2 5 0 4 1000 1000 11 12 13 false false (mk 4 2)) storeSlots0 storePostings0) (mt 0 11)
-    ≡ record { answer = transfer-answer.Done; tier = lent (hd tierLimits0 4 4 7 3 4 1000 0 11 12 13 false false (mk 8 1)) tierSlots2 tierPostings0; store = lent (hd storeLimits0 8 2 5 0 4 1000 1000 11 12 13 false false (mk 4 2)) storeSlots2 storePostings0; meter = mt 11 11; ticks = 11; took = row (7 ∷ []) (150 ∷ []) ∷ []; evicts = false }
-unfolding opened
-both08at11 = refl
-
--- account 9 and 12 ticks, both used up: Done, 1 taken
-both09at12 : deliver (lent (hd tierLimits0 4 4 7 3 4 1000 9 11 12 13 false false (mk 8 1)) tierSlots0 tierPostings0) (lent (hd storeLimits0 8 2 5 0 4 1000 1000 11 12 13 false false (mk 4 2)) storeSlots0 storePostings0) (mt 0 12)
-    ≡ record { answer = transfer-answer.Done; tier = lent (hd tierLimits0 4 4 7 3 4 1000 0 11 12 13 false false (mk 8 1)) tierSlots2 tierPostings0; store = lent (hd storeLimits0 8 2 5 0 4 1000 1000 11 12 13 false false (mk 4 2)) storeSlots2 storePostings0; meter = mt 12 12; ticks = 12; took = row (7 ∷ []) (150 ∷ []) ∷ []; evicts = false }
-unfolding opened
-both09at12 = refl
-
--- account 10 and 13 ticks, both used up: Done, 1 taken
-both10at13 : deliver (lent (hd tierLimits0 4 4 7 3 4 1000 10 11 12 13 false false (mk 8 1)) tierSlots0 tierPostings0) (lent (hd storeLimits0 8 2 5 0 4 1000 1000 11 12 13 false false (mk 4 2)) storeSlots0 storePostings0) (mt 0 13)
-    ≡ record { answer = transfer-answer.Done; tier = lent (hd tierLimits0 4 4 7 3 4 1000 0 11 12 13 false false (mk 8 1)) tierSlots2 tierPostings0; store = lent (hd storeLimits0 8 2 5 0 4 1000 1000 11 12 13 false false (mk 4 2)) storeSlots2 storePostings0; meter = mt 13 13; ticks = 13; took = row (7 ∷ []) (150 ∷ []) ∷ []; evicts = false }
-unfolding opened
-both10at13 = refl
-
--- account 11 and 14 ticks, both used up: Done, 1 taken
-both11at14 : deliver (lent (hd tierLimits0 4 4 7 3 4 1000 11 11 12 13 false false (mk 8 1)) tierSlots0 tierPostings0) (lent (hd storeLimits0 8 2 5 0 4 1000 1000 11 12 13 false false (mk 4 2)) storeSlots0 storePostings0) (mt 0 14)
-    ≡ record { answer = transfer-answer.Done; tier = lent (hd tierLimits0 4 4 7 3 4 1000 0 11 12 13 false false (mk 8 1)) tierSlots2 tierPostings0; store = lent (hd storeLimits0 8 2 5 0 4 1000 1000 11 12 13 false false (mk 4 2)) storeSlots2 storePostings0; meter = mt 14 14; ticks = 14; took = row (7 ∷ []) (150 ∷ []) ∷ []; evicts = false }
-unfolding opened
-both11at14 = refl
-
--- account 12 and 15 ticks, both used up: Done, 1 taken
-both12at15 : deliver (lent (hd tierLimits0 4 4 7 3 4 1000 12 11 12 13 false false (mk 8 1)) tierSlots0 tierPostings0) (lent (hd storeLimits0 8 2 5 0 4 1000 1000 11 12 13 false false (mk 4 2)) storeSlots0 storePostings0) (mt 0 15)
-    ≡ record { answer = transfer-answer.Done; tier = lent (hd tierLimits0 4 4 7 3 4 1000 0 11 12 13 false false (mk 8 1)) tierSlots2 tierPostings0; store = lent (hd storeLimits0 8 2 5 0 4 1000 1000 11 12 13 false false (mk 4 2)) storeSlots2 storePostings0; meter = mt 15 15; ticks = 15; took = row (7 ∷ []) (150 ∷ []) ∷ []; evicts = false }
-unfolding opened
-both12at15 = refl
-
--- account 13 and 16 ticks, both used up: Done, 1 taken
-both13at16 : deliver (lent (hd tierLimits0 4 4 7 3 4 1000 13 11 12 13 false false (mk 8 1)) tierSlots0 tierPostings0) (lent (hd storeLimits0 8 2 5 0 4 1000 1000 11 12 13 false false (mk 4 2)) storeSlots0 storePostings0) (mt 0 16)
-    ≡ record { answer = transfer-answer.Done; tier = lent (hd tierLimits0 4 4 7 3 4 1000 0 11 12 13 false false (mk 8 1)) tierSlots2 tierPostings0; store = lent (hd storeLimits0 8 2 5 0 4 1000 1000 11 12 13 false false (mk 4 2)) storeSlots2 storePostings0; meter = mt 16 16; ticks = 16; took = row (7 ∷ []) (150 ∷ []) ∷ []; evicts = false }
-unfolding opened
-both13at16 = refl
-
--- account 14 and 17 ticks, both used up: Done, 1 taken
-both14at17 : deliver (lent (hd tierLimits0 4 4 7 3 4 1000 14 11 12 13 false false (mk 8 1)) tierSlots0 tierPostings0) (lent (hd storeLimits0 8 2 5 0 4 1000 1000 11 12 13 false false (mk 4 2)) storeSlots0 storePostings0) (mt 0 17)
-    ≡ record { answer = transfer-answer.Done; tier = lent (hd tierLimits0 4 4 7 3 4 1000 0 11 12 13 false false (mk 8 1)) tierSlots2 tierPostings0; store = lent (hd storeLimits0 8 2 5 0 4 1000 1000 11 12 13 false false (mk 4 2)) storeSlots2 storePostings0; meter = mt 17 17; ticks = 17; took = row (7 ∷ []) (150 ∷ []) ∷ []; evicts = false }
-unfolding opened
-both14at17 = refl
-
--- account 15 and 18 ticks, both used up: Done, 1 taken
-both15at18 : deliver (lent (hd tierLimits0 4 4 7 3 4 1000 15 11 12 13 false false (mk 8 1)) tierSlots0 tierPostings0) (lent (hd storeLimits0 8 2 5 0 4 1000 1000 11 12 13 false false (mk 4 2)) storeSlots0 storePostings0) (mt 0 18)
-    ≡ record { answer = transfer-answer.Done; tier = lent (hd tierLimits0 4 4 7 3 4 1000 0 11 12 13 false false (mk 8 1)) tierSlots2 tierPostings0; store = lent (hd storeLimits0 8 2 5 0 4 1000 1000 11 12 13 false false (mk 4 2)) storeSlots2 storePostings0; meter = mt 18 18; ticks = 18; took = row (7 ∷ []) (150 ∷ []) ∷ []; evicts = false }
-unfolding opened
-both15at18 = refl
-
--- account 16 and 19 ticks, both used up: Done, 1 taken
-both16at19 : deliver (lent (hd tierLimits0 4 4 7 3 4 1000 16 11 12 13 false false (mk 8 1)) tierSlots0 tierPostings0) (lent (hd storeLimits0 8 2 5 0 4 1000 1000 11 12 13 false false (mk 4 2)) storeSlots0 storePostings0) (mt 0 19)
-    ≡ record { answer = transfer-answer.Done; tier = lent (hd tierLimits0 4 4 7 3 4 1000 0 11 12 13 false false (mk 8 1)) tierSlots2 tierPostings0; store = lent (hd storeLimits0 8 2 5 0 4 1000 1000 11 12 13 false false (mk 4 2)) storeSlots2 storePostings0; meter = mt 19 19; ticks = 19; took = row (7 ∷ []) (150 ∷ []) ∷ []; evicts = false }
-unfolding opened
-both16at19 = refl
-
--- account 17 and 20 ticks, both used up: Done, 1 taken
-both17at20 : deliver (lent (hd tierLimits0 4 4 7 3 4 1000 17 11 12 13 false false (mk 8 1)) tierSlots0 tierPostings0) (lent (hd storeLimits0 8 2 5 0 4 1000 1000 11 12 13 false false (mk 4 2)) storeSlots0 storePostings0) (mt 0 20)
-    ≡ record { answer = transfer-answer.Done; tier = lent (hd tierLimits0 4 4 7 3 4 1000 0 11 12 13 false false (mk 8 1)) tierSlots2 tierPostings0; store = lent (hd storeLimits0 8 2 5 0 4 1000 1000 11 12 13 false false (mk 4 2)) storeSlots2 storePostings0; meter = mt 20 20; ticks = 20; took = row (7 ∷ []) (150 ∷ []) ∷ []; evicts = false }
-unfolding opened
-both17at20 = refl
-
--- account 18 and 21 ticks, both used up: Done, 1 taken
-both18at21 : deliver (lent (hd tierLimits0 4 4 7 3 4 1000 18 11 12 13 false false (mk 8 1)) tierSlots0 tierPostings0) (lent (hd storeLimits0 8 2 5 0 4 1000 1000 11 12 13 false false (mk 4 2)) storeSlots0 storePostings0) (mt 0 21)
-    ≡ record { answer = transfer-answer.Done; tier = lent (hd tierLimits0 4 4 7 3 4 1000 0 11 12 13 false false (mk 8 1)) tierSlots2 tierPostings0; store = lent (hd storeLimits0 8 2 5 0 4 1000 1000 11 12 13 false false (mk 4 2)) storeSlots2 storePostings0; meter = mt 21 21; ticks = 21; took = row (7 ∷ []) (150 ∷ []) ∷ []; evicts = false }
-unfolding opened
-both18at21 = refl
-
--- account 19 and 22 ticks, both used up: Done, 1 taken
-both19at22 : deliver (lent (hd tierLimits0 4 4 7 3 4 1000 19 11 12 13 false false (mk 8 1)) tierSlots0 tierPostings0) (lent (hd storeLimits0 8 2 5 0 4 1000 1000 11 12 13 false false (mk 4 2)) storeSlots0 storePostings0) (mt 0 22)
-    ≡ record { answer = transfer-answer.Done; tier = lent (hd tierLimits0 4 4 7 3 4 1000 0 11 12 13 false false (mk 8 1)) tierSlots2 tierPostings0; store = lent (hd storeLimits0 8 2 5 0 4 1000 1000 11 12 13 false false (mk 4 2)) storeSlots2 storePostings0; meter = mt 22 22; ticks = 22; took = row (7 ∷ []) (150 ∷ []) ∷ []; evicts = false }
-unfolding opened
-both19at22 = refl
-
--- account 20 and 23 ticks, both used up: Done, 1 taken
-both20at23 : deliver (lent (hd tierLimits0 4 4 7 3 4 1000 20 11 12 13 false false (mk 8 1)) tierSlots0 tierPostings0) (lent (hd storeLimits0 8 2 5 0 4 1000 1000 11 12 13 false false (mk 4 2)) storeSlots0 storePostings0) (mt 0 23)
-    ≡ record { answer = transfer-answer.Done; tier = lent (hd tierLimits0 4 4 7 3 4 1000 0 11 12 13 false false (mk 8 1)) tierSlots2 tierPostings0; store = lent (hd storeLimits0 8 2 5 0 4 1000 1000 11 12 13 false false (mk 4 2)) storeSlots2 storePostings0; meter = mt 23 23; ticks = 23; took = row (7 ∷ []) (150 ∷ []) ∷ []; evicts = false }
-unfolding opened
-both20at23 = refl
-
--- account 21 and 24 ticks, both used up: Done, 1 taken
-both21at24 : deliver (lent (hd tierLimits0 4 4 7 3 4 1000 21 11 12 13 false false (mk 8 1)) tierSlots0 tierPostings0) (lent (hd storeLimits0 8 2 5 0 4 1000 1000 11 12 13 false false (mk 4 2)) storeSlots0 storePostings0) (mt 0 24)
-    ≡ record { answer = transfer-answer.Done; tier = lent (hd tierLimits0 4 4 7 3 4 1000 0 11 12 13 false false (mk 8 1)) tierSlots2 tierPostings0; store = lent (hd storeLimits0 8 2 5 0 4 1000 1000 11 12 13 false false (mk 4 2)) storeSlots2 storePostings0; meter = mt 24 24; ticks = 24; took = row (7 ∷ []) (150 ∷ []) ∷ []; evicts = false }
-unfolding opened
-both21at24 = refl
-
--- account 22 and 25 ticks, both used up: Done, 1 taken
-both22at25 : deliver (lent (hd tierLimits0 4 4 7 3 4 1000 22 11 12 13 false false (mk 8 1)) tierSlots0 tierPostings0) (lent (hd storeLimits0 8 2 5 0 4 1000 1000 11 12 13 false false (mk 4 2)) storeSlots0 storePostings0) (mt 0 25)
-    ≡ record { answer = transfer-answer.Done; tier = lent (hd tierLimits0 4 4 7 3 4 1000 0 11 12 13 false false (mk 8 1)) tierSlots2 tierPostings0; store = lent (hd storeLimits0 8 2 5 0 4 1000 1000 11 12 13 false false (mk 4 2)) storeSlots2 storePostings0; meter = mt 25 25; ticks = 25; took = row (7 ∷ []) (150 ∷ []) ∷ []; evicts = false }
-unfolding opened
-both22at25 = refl
-
--- account 23 and 26 ticks, both used up: Done, 1 taken
-both23at26 : deliver (lent (hd tierLimits0 4 4 7 3 4 1000 23 11 12 13 false false (mk 8 1)) tierSlots0 tierPostings0) (lent (hd storeLimits0 8 2 5 0 4 1000 1000 11 12 13 false false (mk 4 2)) storeSlots0 storePostings0) (mt 0 26)
-    ≡ record { answer = transfer-answer.Done; tier = lent (hd tierLimits0 4 4 7 3 4 1000 0 11 12 13 false false (mk 8 1)) tierSlots2 tierPostings0; store = lent (hd storeLimits0 8 2 5 0 4 1000 1000 11 12 13 false false (mk 4 2)) storeSlots2 storePostings0; meter = mt 26 26; ticks = 26; took = row (7 ∷ []) (150 ∷ []) ∷ []; evicts = false }
-unfolding opened
-both23at26 = refl
-
--- account 24 and 27 ticks, both used up: Done, 1 taken
-both24at27 : deliver (lent (hd tierLimits0 4 4 7 3 4 1000 24 11 12 13 false false (mk 8 1)) tierSlots0 tierPostings0) (lent (hd storeLimits0 8 2 5 0 4 1000 1000 11 12 13 false false (mk 4 2)) storeSlots0 storePostings0) (mt 0 27)
-    ≡ record { answer = transfer-answer.Done; tier = lent (hd tierLimits0 4 4 7 3 4 1000 0 11 12 13 false false (mk 8 1)) tierSlots2 tierPostings0; store = lent (hd storeLimits0 8 2 5 0 4 1000 1000 11 12 13 false false (mk 4 2)) storeSlots2 storePostings0; meter = mt 27 27; ticks = 27; took = row (7 ∷ []) (150 ∷ []) ∷ []; evicts = false }
-unfolding opened
-both24at27 = refl
-
--- account 25 and 28 ticks, both used up: Done, 1 taken
-both25at28 : deliver (lent (hd tierLimits0 4 4 7 3 4 1000 25 11 12 13 false false (mk 8 1)) tierSlots0 tierPostings0) (lent (hd storeLimits0 8 2 5 0 4 1000 1000 11 12 13 false false (mk 4 2)) storeSlots0 storePostings0) (mt 0 28)
-    ≡ record { answer = transfer-answer.Done; tier = lent (hd tierLimits0 4 4 7 3 4 1000 0 11 12 13 false false (mk 8 1)) tierSlots2 tierPostings0; store = lent (hd storeLimits0 8 2 5 0 4 1000 1000 11 12 13 false false (mk 4 2)) storeSlots2 storePostings0; meter = mt 28 28; ticks = 28; took = row (7 ∷ []) (150 ∷ []) ∷ []; evicts = false }
-unfolding opened
-both25at28 = refl
-
--- account 26 and 29 ticks, both used up: Done, 1 taken
-both26at29 : deliver (lent (hd tierLimits0 4 4 7 3 4 1000 26 11 12 13 false false (mk 8 1)) tierSlots0 tierPostings0) (lent (hd storeLimits0 8 2 5 0 4 1000 1000 11 12 13 false false (mk 4 2)) storeSlots0 storePostings0) (mt 0 29)
-    ≡ record { answer = transfer-answer.Done; tier = lent (hd tierLimits0 4 4 7 3 4 1000 0 11 12 13 false false (mk 8 1)) tierSlots2 tierPostings0; store = lent (hd storeLimits0 8 2 5 0 4 1000 1000 11 12 13 false false (mk 4 2)) storeSlots2 storePostings0; meter = mt 29 29; ticks = 29; took = row (7 ∷ []) (150 ∷ []) ∷ []; evicts = false }
-unfolding opened
-both26at29 = refl
-
--- account 27 and 30 ticks, both used up: Done, 1 taken
-both27at30 : deliver (lent (hd tierLimits0 4 4 7 3 4 1000 27 11 12 13 false false (mk 8 1)) tierSlots0 tierPostings0) (lent (hd storeLimits0 8 2 5 0 4 1000 1000 11 12 13 false false (mk 4 2)) storeSlots0 storePostings0) (mt 0 30)
-    ≡ record { answer = transfer-answer.Done; tier = lent (hd tierLimits0 4 4 7 3 4 1000 0 11 12 13 false false (mk 8 1)) tierSlots2 tierPostings0; store = lent (hd storeLimits0 8 2 5 0 4 1000 1000 11 12 13 false false (mk 4 2)) storeSlots2 storePostings0; meter = mt 30 30; ticks = 30; took = row (7 ∷ []) (150 ∷ []) ∷ []; evicts = false }
-unfolding opened
-both27at30 = refl
-
--- account 28 and 31 ticks, both used up: Done, 1 taken
-both28at31 : deliver (lent (hd tierLimits0 4 4 7 3 4 1000 28 11 12 13 false false (mk 8 1)) tierSlots0 tierPostings0) (lent (hd storeLimits0 8 2 5 0 4 1000 1000 11 12 13 false false (mk 4 2)) storeSlots0 storePostings0) (mt 0 31)
-    ≡ record { answer = transfer-answer.Done; tier = lent (hd tierLimits0 4 4 7 3 4 1000 0 11 12 13 false false (mk 8 1)) tierSlots2 tierPostings0; store = lent (hd storeLimits0 8 2 5 0 4 1000 1000 11 12 13 false false (mk 4 2)) storeSlots2 storePostings0; meter = mt 31 31; ticks = 31; took = row (7 ∷ []) (150 ∷ []) ∷ []; evicts = false }
-unfolding opened
-both28at31 = refl
-
--- account 29 and 32 ticks, both used up: Done, 1 taken
-both29at32 : deliver (lent (hd tierLimits0 4 4 7 3 4 1000 29 11 12 13 false false (mk 8 1)) tierSlots0 tierPostings0) (lent (hd storeLimits0 8 2 5 0 4 1000 1000 11 12 13 false false (mk 4 2)) storeSlots0 storePostings0) (mt 0 32)
-    ≡ record { answer = transfer-answer.Done; tier = lent (hd tierLimits0 4 4 7 3 4 1000 0 11 12 13 false false (mk 8 1)) tierSlots2 tierPostings0; store = lent (hd storeLimits0 8 2 5 0 4 1000 1000 11 12 13 false false (mk 4 2)) storeSlots2 storePostings0; meter = mt 32 32; ticks = 32; took = row (7 ∷ []) (150 ∷ []) ∷ []; evicts = false }
-unfolding opened
-both29at32 = refl
-
--- account 30 and 33 ticks, both used up: Done, 1 taken
-both30at33 : deliver (lent (hd tierLimits0 4 4 7 3 4 1000 30 11 12 13 false false (mk 8 1)) tierSlots0 tierPostings0) (lent (hd storeLimits0 8 2 5 0 4 1000 1000 11 12 13 false false (mk 4 2)) storeSlots0 storePostings0) (mt 0 33)
-    ≡ record { answer = transfer-answer.Done; tier = lent (hd tierLimits0 4 4 7 3 4 1000 0 11 12 13 false false (mk 8 1)) tierSlots2 tierPostings0; store = lent (hd storeLimits0 8 2 5 0 4 1000 1000 11 12 13 false false (mk 4 2)) storeSlots2 storePostings0; meter = mt 33 33; ticks = 33; took = row (7 ∷ []) (150 ∷ []) ∷ []; evicts = false }
-unfolding opened
-both30at33 = refl
-
--- account 31 and 34 ticks, both used up: Done, 1 taken
-both31at34 : deliver (lent (hd tierLimits0 4 4 7 3 4 1000 31 11 12 13 false false (mk 8 1)) tierSlots0 tierPostings0) (lent (hd storeLimits0 8 2 5 0 4 1000 1000 11 12 13 false false (mk 4 2)) storeSlots0 storePostings0) (mt 0 34)
-    ≡ record { answer = transfer-answer.Done; tier = lent (hd tierLimits0 4 4 7 3 4 1000 0 11 12 13 false false (mk 8 1)) tierSlots2 tierPostings0; store = lent (hd storeLimits0 8 2 5 0 4 1000 1000 11 12 13 false false (mk 4 2)) storeSlots2 storePostings0; meter = mt 34 34; ticks = 34; took = row (7 ∷ []) (150 ∷ []) ∷ []; evicts = false }
-unfolding opened
-both31at34 = refl
-
--- account 32 and 35 ticks, both used up: Done, 1 taken
-both32at35 : deliver (lent (hd tierLimits0 4 4 7 3 4 1000 32 11 12 13 false false (mk 8 1)) tierSlots0 tierPostings0) (lent (hd storeLimits0 8 2 5 0 4 1000 1000 11 12 13 false false (mk 4 2)) storeSlots0 storePostings0) (mt 0 35)
-    ≡ record { answer = transfer-answer.Done; tier = lent (hd tierLimits0 4 4 7 3 4 1000 0 11 12 13 false false (mk 8 1)) tierSlots2 tierPostings0; store = lent (hd storeLimits0 8 2 5 0 4 1000 1000 11 12 13 false false (mk 4 2)) storeSlots2 storePostings0; meter = mt 35 35; ticks = 35; took = row (7 ∷ []) (150 ∷ []) ∷ []; evicts = false }
-unfolding opened
-both32at35 = refl
-
--- account 33 and 36 ticks, both used up: Done, 1 taken
-both33at36 : deliver (lent (hd tierLimits0 4 4 7 3 4 1000 33 11 12 13 false false (mk 8 1)) tierSlots0 tierPostings0) (lent (hd storeLimits0 8 2 5 0 4 1000 1000 11 12 13 false false (mk 4 2)) storeSlots0 storePostings0) (mt 0 36)
-    ≡ record { answer = transfer-answer.Done; tier = lent (hd tierLimits0 4 4 7 3 4 1000 0 11 12 13 false false (mk 8 1)) tierSlots2 tierPostings0; store = lent (hd storeLimits0 8 2 5 0 4 1000 1000 11 12 13 false false (mk 4 2)) storeSlots2 storePostings0; meter = mt 36 36; ticks = 36; took = row (7 ∷ []) (150 ∷ []) ∷ []; evicts = false }
-unfolding opened
-both33at36 = refl
-
--- account 34 and 37 ticks, both used up: Done, 1 taken
-both34at37 : deliver (lent (hd tierLimits0 4 4 7 3 4 1000 34 11 12 13 false false (mk 8 1)) tierSlots0 tierPostings0) (lent (hd storeLimits0 8 2 5 0 4 1000 1000 11 12 13 false false (mk 4 2)) storeSlots0 storePostings0) (mt 0 37)
-    ≡ record { answer = transfer-answer.Done; tier = lent (hd tierLimits0 4 4 7 3 4 1000 0 11 12 13 false false (mk 8 1)) tierSlots2 tierPostings0; store = lent (hd storeLimits0 8 2 5 0 4 1000 1000 11 12 13 false false (mk 4 2)) storeSlots2 storePostings0; meter = mt 37 37; ticks = 37; took = row (7 ∷ []) (150 ∷ []) ∷ []; evicts = false }
-unfolding opened
-both34at37 = refl
-
--- account 35 and 38 ticks, both used up: Done, 1 taken
-both35at38 : deliver (lent (hd tierLimits0 4 4 7 3 4 1000 35 11 12 13 false false (mk 8 1)) tierSlots0 tierPostings0) (lent (hd storeLimits0 8 2 5 0 4 1000 1000 11 12 13 false false (mk 4 2)) storeSlots0 storePostings0) (mt 0 38)
-    ≡ record { answer = transfer-answer.Done; tier = lent (hd tierLimits0 4 4 7 3 4 1000 0 11 12 13 false false (mk 8 1)) tierSlots2 tierPostings0; store = lent (hd storeLimits0 8 2 5 0 4 1000 1000 11 12 13 false false (mk 4 2)) storeSlots2 storePostings0; meter = mt 38 38; ticks = 38; took = row (7 ∷ []) (150 ∷ []) ∷ []; evicts = false }
-unfolding opened
-both35at38 = refl
-
--- account 36 and 39 ticks, both used up: Done, 1 taken
-both36at39 : deliver (lent (hd tierLimits0 4 4 7 3 4 1000 36 11 12 13 false false (mk 8 1)) tierSlots0 tierPostings0) (lent (hd storeLimits0 8 2 5 0 4 1000 1000 11 12 13 false false (mk 4 2)) storeSlots0 storePostings0) (mt 0 39)
-    ≡ record { answer = transfer-answer.Done; tier = lent (hd tierLimits0 4 4 7 3 4 1000 0 11 12 13 false false (mk 8 1)) tierSlots2 tierPostings0; store = lent (hd storeLimits0 8 2 5 0 4 1000 1000 11 12 13 false false (mk 4 2)) storeSlots2 storePostings0; meter = mt 39 39; ticks = 39; took = row (7 ∷ []) (150 ∷ []) ∷ []; evicts = false }
-unfolding opened
-both36at39 = refl
-
--- account 37 and 40 ticks, both used up: Done, 1 taken
-both37at40 : deliver (lent (hd tierLimits0 4 4 7 3 4 1000 37 11 12 13 false false (mk 8 1)) tierSlots0 tierPostings0) (lent (hd storeLimits0 8 2 5 0 4 1000 1000 11 12 13 false false (mk 4 2)) storeSlots0 storePostings0) (mt 0 40)
-    ≡ record { answer = transfer-answer.Done; tier = lent (hd tierLimits0 4 4 7 3 4 1000 0 11 12 13 false false (mk 8 1)) tierSlots2 tierPostings0; store = lent (hd storeLimits0 8 2 5 0 4 1000 1000 11 12 13 false false (mk 4 2)) storeSlots2 storePostings0; meter = mt 40 40; ticks = 40; took = row (7 ∷ []) (150 ∷ []) ∷ []; evicts = false }
-unfolding opened
-both37at40 = refl
-
--- account 38 and 41 ticks, both used up: Done, 1 taken
-both38at41 : deliver (lent (hd tierLimits0 4 4 7 3 4 1000 38 11 12 13 false false (mk 8 1)) tierSlots0 tierPostings0) (lent (hd storeLimits0 8 2 5 0 4 1000 1000 11 12 13 false false (mk 4 2)) storeSlots0 storePostings0) (mt 0 41)
-    ≡ record { answer = transfer-answer.Done; tier = lent (hd tierLimits0 4 4 7 3 4 1000 0 11 12 13 false false (mk 8 1)) tierSlots2 tierPostings0; store = lent (hd storeLimits0 8 2 5 0 4 1000 1000 11 12 13 false false (mk 4 2)) storeSlots2 storePostings0; meter = mt 41 41; ticks = 41; took = row (7 ∷ []) (150 ∷ []) ∷ []; evicts = false }
-unfolding opened
-both38at41 = refl
-
--- account 39 and 42 ticks, both used up: Stopped, 2 taken
-both39at42 : deliver (lent (hd tierLimits0 4 4 7 3 4 1000 39 11 12 13 false false (mk 8 1)) tierSlots0 tierPostings0) (lent (hd storeLimits0 8 2 5 0 4 1000 1000 11 12 13 false false (mk 4 2)) storeSlots0 storePostings0) (mt 0 42)
-    ≡ record { answer = transfer-answer.Stopped; tier = lent (hd tierLimits0 4 4 7 3 4 1000 0 11 12 13 false false (mk 8 1)) tierSlots3 tierPostings0; store = lent (hd storeLimits0 8 2 6 1 4 1000 1000 11 13 13 true true (mk 4 2)) storeSlots3 (zs 160 []); meter = mt 42 42; ticks = 42; took = row (11 ∷ []) (158 ∷ []) ∷ row (7 ∷ []) (150 ∷ []) ∷ []; evicts = false }
-unfolding opened
-both39at42 = refl
-
--- account 39 and 43 ticks, both used up: Done, 2 taken
-both39at43 : deliver (lent (hd tierLimits0 4 4 7 3 4 1000 39 11 12 13 false false (mk 8 1)) tierSlots0 tierPostings0) (lent (hd storeLimits0 8 2 5 0 4 1000 1000 11 12 13 false false (mk 4 2)) storeSlots0 storePostings0) (mt 0 43)
-    ≡ record { answer = transfer-answer.Done; tier = lent (hd tierLimits0 4 4 7 3 4 1000 0 11 12 13 false false (mk 8 1)) tierSlots3 tierPostings0; store = lent (hd storeLimits0 8 2 6 1 4 1000 1000 11 13 13 true true (mk 4 2)) storeSlots3 (zs 160 []); meter = mt 43 43; ticks = 43; took = row (11 ∷ []) (158 ∷ []) ∷ row (7 ∷ []) (150 ∷ []) ∷ []; evicts = false }
-unfolding opened
-both39at43 = refl
-
--- account 40 and 44 ticks, both used up: Done, 2 taken
-both40at44 : deliver (lent (hd tierLimits0 4 4 7 3 4 1000 40 11 12 13 false false (mk 8 1)) tierSlots0 tierPostings0) (lent (hd storeLimits0 8 2 5 0 4 1000 1000 11 12 13 false false (mk 4 2)) storeSlots0 storePostings0) (mt 0 44)
-    ≡ record { answer = transfer-answer.Done; tier = lent (hd tierLimits0 4 4 7 3 4 1000 0 11 12 13 false false (mk 8 1)) tierSlots3 tierPostings0; store = lent (hd storeLimits0 8 2 6 1 4 1000 1000 11 13 13 true true (mk 4 2)) storeSlots3 (zs 160 []); meter = mt 44 44; ticks = 44; took = row (11 ∷ []) (158 ∷ []) ∷ row (7 ∷ []) (150 ∷ []) ∷ []; evicts = false }
-unfolding opened
-both40at44 = refl
-
--- account 41 and 45 ticks, both used up: Done, 2 taken
-both41at45 : deliver (lent (hd tierLimits0 4 4 7 3 4 1000 41 11 12 13 false false (mk 8 1)) tierSlots0 tierPostings0) (lent (hd storeLimits0 8 2 5 0 4 1000 1000 11 12 13 false false (mk 4 2)) storeSlots0 storePostings0) (mt 0 45)
-    ≡ record { answer = transfer-answer.Done; tier = lent (hd tierLimits0 4 4 7 3 4 1000 0 11 12 13 false false (mk 8 1)) tierSlots3 tierPostings0; store = lent (hd storeLimits0 8 2 6 1 4 1000 1000 11 13 13 true true (mk 4 2)) storeSlots3 (zs 160 []); meter = mt 45 45; ticks = 45; took = row (11 ∷ []) (158 ∷ []) ∷ row (7 ∷ []) (150 ∷ []) ∷ []; evicts = false }
-unfolding opened
-both41at45 = refl
-
--- account 42 and 46 ticks, both used up: Done, 2 taken
-both42at46 : deliver (lent (hd tierLimits0 4 4 7 3 4 1000 42 11 12 13 false false (mk 8 1)) tierSlots0 tierPostings0) (lent (hd storeLimits0 8 2 5 0 4 1000 1000 11 12 13 false false (mk 4 2)) storeSlots0 storePostings0) (mt 0 46)
-    ≡ record { answer = transfer-answer.Done; tier = lent (hd tierLimits0 4 4 7 3 4 1000 0 11 12 13 false false (mk 8 1)) tierSlots3 tierPostings0; store = lent (hd storeLimits0 8 2 6 1 4 1000 1000 11 13 13 true true (mk 4 2)) storeSlots3 (zs 160 []); meter = mt 46 46; ticks = 46; took = row (11 ∷ []) (158 ∷ []) ∷ row (7 ∷ []) (150 ∷ []) ∷ []; evicts = false }
-unfolding opened
-both42at46 = refl
-
--- account 43 and 47 ticks, both used up: Done, 2 taken
-both43at47 : deliver (lent (hd tierLimits0 4 4 7 3 4 1000 43 11 12 13 false false (mk 8 1)) tierSlots0 tierPostings0) (lent (hd storeLimits0 8 2 5 0 4 1000 1000 11 12 13 false false (mk 4 2)) storeSlots0 storePostings0) (mt 0 47)
-    ≡ record { answer = transfer-answer.Done; tier = lent (hd tierLimits0 4 4 7 3 4 1000 0 11 12 13 false false (mk 8 1)) tierSlots3 tierPostings0; store = lent (hd storeLimits0 8 2 6 1 4 1000 1000 11 13 13 true true (mk 4 2)) storeSlots3 (zs 160 []); meter = mt 47 47; ticks = 47; took = row (11 ∷ []) (158 ∷ []) ∷ row (7 ∷ []) (150 ∷ []) ∷ []; evicts = false }
-unfolding opened
-both43at47 = refl
-
--- account 44 and 48 ticks, both used up: Done, 2 taken
-both44at48 : deliver (lent (hd tierLimits0 4 4 7 3 4 1000 44 11 12 13 false false (mk 8 1)) tierSlots0 tierPostings0) (lent (hd storeLimits0 8 2 5 0 4 1000 1000 11 12 13 false false (mk 4 2)) storeSlots0 storePostings0) (mt 0 48)
-    ≡ record { answer = transfer-answer.Done; tier = lent (hd tierLimits0 4 4 7 3 4 1000 0 11 12 13 false false (mk 8 1)) tierSlots3 tierPostings0; store = lent (hd storeLimits0 8 2 6 1 4 1000 1000 11 13 13 true true (mk 4 2)) storeSlots3 (zs 160 []); meter = mt 48 48; ticks = 48; took = row (11 ∷ []) (158 ∷ []) ∷ row (7 ∷ []) (150 ∷ []) ∷ []; evicts = false }
-unfolding opened
-both44at48 = refl
-
--- account 45 and 49 ticks, both used up: Done, 2 taken
-both45at49 : deliver (lent (hd tierLimits0 4 4 7 3 4 1000 45 11 12 13 false false (mk 8 1)) tierSlots0 tierPostings0) (lent (hd storeLimits0 8 2 5 0 4 1000 1000 11 12 13 false false (mk 4 2)) storeSlots0 storePostings0) (mt 0 49)
-    ≡ record { answer = transfer-answer.Done; tier = lent (hd tierLimits0 4 4 7 3 4 1000 0 11 12 13 false false (mk 8 1)) tierSlots3 tierPostings0; store = lent (hd storeLimits0 8 2 6 1 4 1000 1000 11 13 13 true true (mk 4 2)) storeSlots3 (zs 160 []); meter = mt 49 49; ticks = 49; took = row (11 ∷ []) (158 ∷ []) ∷ row (7 ∷ []) (150 ∷ []) ∷ []; evicts = false }
-unfolding opened
-both45at49 = refl
-
--- account 46 and 50 ticks, both used up: Done, 2 taken
-both46at50 : deliver (lent (hd tierLimits0 4 4 7 3 4 1000 46 11 12 13 false false (mk 8 1)) tierSlots0 tierPostings0) (lent (hd storeLimits0 8 2 5 0 4 1000 1000 11 12 13 false false (mk 4 2)) storeSlots0 storePostings0) (mt 0 50)
-    ≡ record { answer = transfer-answer.Done; tier = lent (hd tierLimits0 4 4 7 3 4 1000 0 11 12 13 false false (mk 8 1)) tierSlots3 tierPostings0; store = lent (hd storeLimits0 8 2 6 1 4 1000 1000 11 13 13 true true (mk 4 2)) storeSlots3 (zs 160 []); meter = mt 50 50; ticks = 50; took = row (11 ∷ []) (158 ∷ []) ∷ row (7 ∷ []) (150 ∷ []) ∷ []; evicts = false }
-unfolding opened
-both46at50 = refl
-
--- account 47 and 51 ticks, both used up: Done, 2 taken
-both47at51 : deliver (lent (hd tierLimits0 4 4 7 3 4 1000 47 11 12 13 false false (mk 8 1)) tierSlots0 tierPostings0) (lent (hd storeLimits0 8 2 5 0 4 1000 1000 11 12 13 false false (mk 4 2)) storeSlots0 storePostings0) (mt 0 51)
-    ≡ record { answer = transfer-answer.Done; tier = lent (hd tierLimits0 4 4 7 3 4 1000 0 11 12 13 false false (mk 8 1)) tierSlots3 tierPostings0; store = lent (hd storeLimits0 8 2 6 1 4 1000 1000 11 13 13 true true (mk 4 2)) storeSlots3 (zs 160 []); meter = mt 51 51; ticks = 51; took = row (11 ∷ []) (158 ∷ []) ∷ row (7 ∷ []) (150 ∷ []) ∷ []; evicts = false }
-unfolding opened
-both47at51 = refl
-
--- account 48 and 52 ticks, both used up: Done, 2 taken
-both48at52 : deliver (lent (hd tierLimits0 4 4 7 3 4 1000 48 11 12 13 false false (mk 8 1)) tierSlots0 tierPostings0) (lent (hd storeLimits0 8 2 5 0 4 1000 1000 11 12 13 false false (mk 4 2)) storeSlots0 storePostings0) (mt 0 52)
-    ≡ record { answer = transfer-answer.Done; tier = lent (hd tierLimits0 4 4 7 3 4 1000 0 11 12 13 false false (mk 8 1)) tierSlots3 tierPostings0; store = lent (hd storeLimits0 8 2 6 1 4 1000 1000 11 13 13 true true (mk 4 2)) storeSlots3 (zs 160 []); meter = mt 52 52; ticks = 52; took = row (11 ∷ []) (158 ∷ []) ∷ row (7 ∷ []) (150 ∷ []) ∷ []; evicts = false }
-unfolding opened
-both48at52 = refl
-
--- account 49 and 53 ticks, both used up: Done, 2 taken
-both49at53 : deliver (lent (hd tierLimits0 4 4 7 3 4 1000 49 11 12 13 false false (mk 8 1)) tierSlots0 tierPostings0) (lent (hd storeLimits0 8 2 5 0 4 1000 1000 11 12 13 false false (mk 4 2)) storeSlots0 storePostings0) (mt 0 53)
-    ≡ record { answer = transfer-answer.Done; tier = lent (hd tierLimits0 4 4 7 3 4 1000 0 11 12 13 false false (mk 8 1)) tierSlots3 tierPostings0; store = lent (hd storeLimits0 8 2 6 1 4 1000 1000 11 13 13 true true (mk 4 2)) storeSlots3 (zs 160 []); meter = mt 53 53; ticks = 53; took = row (11 ∷ []) (158 ∷ []) ∷ row (7 ∷ []) (150 ∷ []) ∷ []; evicts = false }
-unfolding opened
-both49at53 = refl
-
--- account 50 and 54 ticks, both used up: Done, 2 taken
-both50at54 : deliver (lent (hd tierLimits0 4 4 7 3 4 1000 50 11 12 13 false false (mk 8 1)) tierSlots0 tierPostings0) (lent (hd storeLimits0 8 2 5 0 4 1000 1000 11 12 13 false false (mk 4 2)) storeSlots0 storePostings0) (mt 0 54)
-    ≡ record { answer = transfer-answer.Done; tier = lent (hd tierLimits0 4 4 7 3 4 1000 0 11 12 13 false false (mk 8 1)) tierSlots3 tierPostings0; store = lent (hd storeLimits0 8 2 6 1 4 1000 1000 11 13 13 true true (mk 4 2)) storeSlots3 (zs 160 []); meter = mt 54 54; ticks = 54; took = row (11 ∷ []) (158 ∷ []) ∷ row (7 ∷ []) (150 ∷ []) ∷ []; evicts = false }
-unfolding opened
-both50at54 = refl
-
--- account 51 and 55 ticks, both used up: Done, 2 taken
-both51at55 : deliver (lent (hd tierLimits0 4 4 7 3 4 1000 51 11 12 13 false false (mk 8 1)) tierSlots0 tierPostings0) (lent (hd storeLimits0 8 2 5 0 4 1000 1000 11 12 13 false false (mk 4 2)) storeSlots0 storePostings0) (mt 0 55)
-    ≡ record { answer = transfer-answer.Done; tier = lent (hd tierLimits0 4 4 7 3 4 1000 0 11 12 13 false false (mk 8 1)) tierSlots3 tierPostings0; store = lent (hd storeLimits0 8 2 6 1 4 1000 1000 11 13 13 true true (mk 4 2)) storeSlots3 (zs 160 []); meter = mt 55 55; ticks = 55; took = row (11 ∷ []) (158 ∷ []) ∷ row (7 ∷ []) (150 ∷ []) ∷ []; evicts = false }
-unfolding opened
-both51at55 = refl
-
--- account 52 and 56 ticks, both used up: Done, 2 taken
-both52at56 : deliver (lent (hd tierLimits0 4 4 7 3 4 1000 52 11 12 13 false false (mk 8 1)) tierSlots0 tierPostings0) (lent (hd storeLimits0 8 2 5 0 4 1000 1000 11 12 13 false false (mk 4 2)) storeSlots0 storePostings0) (mt 0 56)
-    ≡ record { answer = transfer-answer.Done; tier = lent (hd tierLimits0 4 4 7 3 4 1000 0 11 12 13 false false (mk 8 1)) tierSlots3 tierPostings0; store = lent (hd storeLimits0 8 2 6 1 4 1000 1000 11 13 13 true true (mk 4 2)) storeSlots3 (zs 160 []); meter = mt 56 56; ticks = 56; took = row (11 ∷ []) (158 ∷ []) ∷ row (7 ∷ []) (150 ∷ []) ∷ []; evicts = false }
-unfolding opened
-both52at56 = refl
-
--- account 53 and 57 ticks, both used up: Done, 2 taken
-both53at57 : deliver (lent (hd tierLimits0 4 4 7 3 4 1000 53 11 12 13 false false (mk 8 1)) tierSlots0 tierPostings0) (lent (hd storeLimits0 8 2 5 0 4 1000 1000 11 12 13 false false (mk 4 2)) storeSlots0 storePostings0) (mt 0 57)
-    ≡ record { answer = transfer-answer.Done; tier = lent (hd tierLimits0 4 4 7 3 4 1000 0 11 12 13 false false (mk 8 1)) tierSlots3 tierPostings0; store = lent (hd storeLimits0 8 2 6 1 4 1000 1000 11 13 13 true true (mk 4 2)) storeSlots3 (zs 160 []); meter = mt 57 57; ticks = 57; took = row (11 ∷ []) (158 ∷ []) ∷ row (7 ∷ []) (150 ∷ []) ∷ []; evicts = false }
-unfolding opened
-both53at57 = refl
-
--- account 54 and 58 ticks, both used up: Done, 3 taken
-both54at58 : deliver (lent (hd tierLimits0 4 4 7 3 4 1000 54 11 12 13 false false (mk 8 1)) tierSlots0 tierPostings0) (lent (hd storeLimits0 8 2 5 0 4 1000 1000 11 12 13 false false (mk 4 2)) storeSlots0 storePostings0) (mt 0 58)
-    ≡ record { answer = transfer-answer.Done; tier = lent (hd tierLimits0 4 4 7 3 4 1000 0 11 12 13 false false (mk 8 1)) tierSlots1 tierPostings0; store = lent (hd storeLimits0 8 2 7 0 4 1000 1000 12 14 13 true true (mk 4 2)) storeSlots1 (zs 160 []); meter = mt 58 58; ticks = 58; took = row (13 ∷ []) (20 ∷ []) ∷ row (11 ∷ []) (158 ∷ []) ∷ row (7 ∷ []) (150 ∷ []) ∷ []; evicts = true }
-unfolding opened
-both54at58 = refl
+account : Agree TransferEnd (
+    -- account 0: Done, 0 taken
+    (
+      deliver (lent (hd tierLimits0 4 4 7 3 4 1000 0 11 12 13 false false (mk 8 1)) tierSlots0 tierPostings0) (lent (hd storeLimits0 8 2 5 0 4 1000 1000 11 12 13 false false (mk 4 2)) storeSlots0 storePostings0) (mt 0 1000),
+      record { answer = transfer-answer.Done; tier = lent (hd tierLimits0 4 4 7 3 4 1000 0 11 12 13 false false (mk 8 1)) tierSlots0 tierPostings0; store = lent (hd storeLimits0 8 2 5 0 4 1000 1000 11 12 13 false false (mk 4 2)) storeSlots0 storePostings0; meter = mt 1 1000; ticks = 1; took = []; evicts = false },
+    )
+    -- account 1: Done, 0 taken
+    ∷ (
+      deliver (lent (hd tierLimits0 4 4 7 3 4 1000 1 11 12 13 false false (mk 8 1)) tierSlots0 tierPostings0) (lent (hd storeLimits0 8 2 5 0 4 1000 1000 11 12 13 false false (mk 4 2)) storeSlots0 storePostings0) (mt 0 1000),
+      record { answer = transfer-answer.Done; tier = lent (hd tierLimits0 4 4 7 3 4 1000 0 11 12 13 false false (mk 8 1)) tierSlots0 tierPostings0; store = lent (hd storeLimits0 8 2 5 0 4 1000 1000 11 12 13 false false (mk 4 2)) storeSlots0 storePostings0; meter = mt 2 1000; ticks = 2; took = []; evicts = false },
+    )
+    -- account 2: Done, 0 taken
+    ∷ (
+      deliver (lent (hd tierLimits0 4 4 7 3 4 1000 2 11 12 13 false false (mk 8 1)) tierSlots0 tierPostings0) (lent (hd storeLimits0 8 2 5 0 4 1000 1000 11 12 13 false false (mk 4 2)) storeSlots0 storePostings0) (mt 0 1000),
+      record { answer = transfer-answer.Done; tier = lent (hd tierLimits0 4 4 7 3 4 1000 0 11 12 13 false false (mk 8 1)) tierSlots0 tierPostings0; store = lent (hd storeLimits0 8 2 5 0 4 1000 1000 11 12 13 false false (mk 4 2)) storeSlots0 storePostings0; meter = mt 3 1000; ticks = 3; took = []; evicts = false },
+    )
+    -- account 3: Done, 0 taken
+    ∷ (
+      deliver (lent (hd tierLimits0 4 4 7 3 4 1000 3 11 12 13 false false (mk 8 1)) tierSlots0 tierPostings0) (lent (hd storeLimits0 8 2 5 0 4 1000 1000 11 12 13 false false (mk 4 2)) storeSlots0 storePostings0) (mt 0 1000),
+      record { answer = transfer-answer.Done; tier = lent (hd tierLimits0 4 4 7 3 4 1000 0 11 12 13 false false (mk 8 1)) tierSlots0 tierPostings0; store = lent (hd storeLimits0 8 2 5 0 4 1000 1000 11 12 13 false false (mk 4 2)) storeSlots0 storePostings0; meter = mt 4 1000; ticks = 4; took = []; evicts = false },
+    )
+    -- account 4: Done, 0 taken
+    ∷ (
+      deliver (lent (hd tierLimits0 4 4 7 3 4 1000 4 11 12 13 false false (mk 8 1)) tierSlots0 tierPostings0) (lent (hd storeLimits0 8 2 5 0 4 1000 1000 11 12 13 false false (mk 4 2)) storeSlots0 storePostings0) (mt 0 1000),
+      record { answer = transfer-answer.Done; tier = lent (hd tierLimits0 4 4 7 3 4 1000 0 11 12 13 false false (mk 8 1)) tierSlots0 tierPostings0; store = lent (hd storeLimits0 8 2 5 0 4 1000 1000 11 12 13 false false (mk 4 2)) storeSlots0 storePostings0; meter = mt 5 1000; ticks = 5; took = []; evicts = false },
+    )
+    -- account 5: Done, 0 taken
+    ∷ (
+      deliver (lent (hd tierLimits0 4 4 7 3 4 1000 5 11 12 13 false false (mk 8 1)) tierSlots0 tierPostings0) (lent (hd storeLimits0 8 2 5 0 4 1000 1000 11 12 13 false false (mk 4 2)) storeSlots0 storePostings0) (mt 0 1000),
+      record { answer = transfer-answer.Done; tier = lent (hd tierLimits0 4 4 7 3 4 1000 0 11 12 13 false false (mk 8 1)) tierSlots0 tierPostings0; store = lent (hd storeLimits0 8 2 5 0 4 1000 1000 11 12 13 false false (mk 4 2)) storeSlots0 storePostings0; meter = mt 6 1000; ticks = 6; took = []; evicts = false },
+    )
+    -- account 6: Done, 0 taken
+    ∷ (
+      deliver (lent (hd tierLimits0 4 4 7 3 4 1000 6 11 12 13 false false (mk 8 1)) tierSlots0 tierPostings0) (lent (hd storeLimits0 8 2 5 0 4 1000 1000 11 12 13 false false (mk 4 2)) storeSlots0 storePostings0) (mt 0 1000),
+      record { answer = transfer-answer.Done; tier = lent (hd tierLimits0 4 4 7 3 4 1000 0 11 12 13 false false (mk 8 1)) tierSlots0 tierPostings0; store = lent (hd storeLimits0 8 2 5 0 4 1000 1000 11 12 13 false false (mk 4 2)) storeSlots0 storePostings0; meter = mt 7 1000; ticks = 7; took = []; evicts = false },
+    )
+    -- account 7: Done, 1 taken
+    ∷ (
+      deliver (lent (hd tierLimits0 4 4 7 3 4 1000 7 11 12 13 false false (mk 8 1)) tierSlots0 tierPostings0) (lent (hd storeLimits0 8 2 5 0 4 1000 1000 11 12 13 false false (mk 4 2)) storeSlots0 storePostings0) (mt 0 1000),
+      record { answer = transfer-answer.Done; tier = lent (hd tierLimits0 4 4 7 3 4 1000 0 11 12 13 false false (mk 8 1)) tierSlots2 tierPostings0; store = lent (hd storeLimits0 8 2 5 0 4 1000 1000 11 12 13 false false (mk 4 2)) storeSlots2 storePostings0; meter = mt 10 1000; ticks = 10; took = row (7 ∷ []) (150 ∷ []) ∷ []; evicts = false },
+    )
+    -- account 8: Done, 1 taken
+    ∷ (
+      deliver (lent (hd tierLimits0 4 4 7 3 4 1000 8 11 12 13 false false (mk 8 1)) tierSlots0 tierPostings0) (lent (hd storeLimits0 8 2 5 0 4 1000 1000 11 12 13 false false (mk 4 2)) storeSlots0 storePostings0) (mt 0 1000),
+      record { answer = transfer-answer.Done; tier = lent (hd tierLimits0 4 4 7 3 4 1000 0 11 12 13 false false (mk 8 1)) tierSlots2 tierPostings0; store = lent (hd storeLimits0 8 2 5 0 4 1000 1000 11 12 13 false false (mk 4 2)) storeSlots2 storePostings0; meter = mt 11 1000; ticks = 11; took = row (7 ∷ []) (150 ∷ []) ∷ []; evicts = false },
+    )
+    -- account 9: Done, 1 taken
+    ∷ (
+      deliver (lent (hd tierLimits0 4 4 7 3 4 1000 9 11 12 13 false false (mk 8 1)) tierSlots0 tierPostings0) (lent (hd storeLimits0 8 2 5 0 4 1000 1000 11 12 13 false false (mk 4 2)) storeSlots0 storePostings0) (mt 0 1000),
+      record { answer = transfer-answer.Done; tier = lent (hd tierLimits0 4 4 7 3 4 1000 0 11 12 13 false false (mk 8 1)) tierSlots2 tierPostings0; store = lent (hd storeLimits0 8 2 5 0 4 1000 1000 11 12 13 false false (mk 4 2)) storeSlots2 storePostings0; meter = mt 12 1000; ticks = 12; took = row (7 ∷ []) (150 ∷ []) ∷ []; evicts = false },
+    )
+    -- account 10: Done, 1 taken
+    ∷ (
+      deliver (lent (hd tierLimits0 4 4 7 3 4 1000 10 11 12 13 false false (mk 8 1)) tierSlots0 tierPostings0) (lent (hd storeLimits0 8 2 5 0 4 1000 1000 11 12 13 false false (mk 4 2)) storeSlots0 storePostings0) (mt 0 1000),
+      record { answer = transfer-answer.Done; tier = lent (hd tierLimits0 4 4 7 3 4 1000 0 11 12 13 false false (mk 8 1)) tierSlots2 tierPostings0; store = lent (hd storeLimits0 8 2 5 0 4 1000 1000 11 12 13 false false (mk 4 2)) storeSlots2 storePostings0; meter = mt 13 1000; ticks = 13; took = row (7 ∷ []) (150 ∷ []) ∷ []; evicts = false },
+    )
+    -- account 11: Done, 1 taken
+    ∷ (
+      deliver (lent (hd tierLimits0 4 4 7 3 4 1000 11 11 12 13 false false (mk 8 1)) tierSlots0 tierPostings0) (lent (hd storeLimits0 8 2 5 0 4 1000 1000 11 12 13 false false (mk 4 2)) storeSlots0 storePostings0) (mt 0 1000),
+      record { answer = transfer-answer.Done; tier = lent (hd tierLimits0 4 4 7 3 4 1000 0 11 12 13 false false (mk 8 1)) tierSlots2 tierPostings0; store = lent (hd storeLimits0 8 2 5 0 4 1000 1000 11 12 13 false false (mk 4 2)) storeSlots2 storePostings0; meter = mt 14 1000; ticks = 14; took = row (7 ∷ []) (150 ∷ []) ∷ []; evicts = false },
+    )
+    -- account 12: Done, 1 taken
+    ∷ (
+      deliver (lent (hd tierLimits0 4 4 7 3 4 1000 12 11 12 13 false false (mk 8 1)) tierSlots0 tierPostings0) (lent (hd storeLimits0 8 2 5 0 4 1000 1000 11 12 13 false false (mk 4 2)) storeSlots0 storePostings0) (mt 0 1000),
+      record { answer = transfer-answer.Done; tier = lent (hd tierLimits0 4 4 7 3 4 1000 0 11 12 13 false false (mk 8 1)) tierSlots2 tierPostings0; store = lent (hd storeLimits0 8 2 5 0 4 1000 1000 11 12 13 false false (mk 4 2)) storeSlots2 storePostings0; meter = mt 15 1000; ticks = 15; took = row (7 ∷ []) (150 ∷ []) ∷ []; evicts = false },
+    )
+    -- account 13: Done, 1 taken
+    ∷ (
+      deliver (lent (hd tierLimits0 4 4 7 3 4 1000 13 11 12 13 false false (mk 8 1)) tierSlots0 tierPostings0) (lent (hd storeLimits0 8 2 5 0 4 1000 1000 11 12 13 false false (mk 4 2)) storeSlots0 storePostings0) (mt 0 1000),
+      record { answer = transfer-answer.Done; tier = lent (hd tierLimits0 4 4 7 3 4 1000 0 11 12 13 false false (mk 8 1)) tierSlots2 tierPostings0; store = lent (hd storeLimits0 8 2 5 0 4 1000 1000 11 12 13 false false (mk 4 2)) storeSlots2 storePostings0; meter = mt 16 1000; ticks = 16; took = row (7 ∷ []) (150 ∷ []) ∷ []; evicts = false },
+    )
+    -- account 14: Done, 1 taken
+    ∷ (
+      deliver (lent (hd tierLimits0 4 4 7 3 4 1000 14 11 12 13 false false (mk 8 1)) tierSlots0 tierPostings0) (lent (hd storeLimits0 8 2 5 0 4 1000 1000 11 12 13 false false (mk 4 2)) storeSlots0 storePostings0) (mt 0 1000),
+      record { answer = transfer-answer.Done; tier = lent (hd tierLimits0 4 4 7 3 4 1000 0 11 12 13 false false (mk 8 1)) tierSlots2 tierPostings0; store = lent (hd storeLimits0 8 2 5 0 4 1000 1000 11 12 13 false false (mk 4 2)) storeSlots2 storePostings0; meter = mt 17 1000; ticks = 17; took = row (7 ∷ []) (150 ∷ []) ∷ []; evicts = false },
+    )
+    -- account 15: Done, 1 taken
+    ∷ (
+      deliver (lent (hd tierLimits0 4 4 7 3 4 1000 15 11 12 13 false false (mk 8 1)) tierSlots0 tierPostings0) (lent (hd storeLimits0 8 2 5 0 4 1000 1000 11 12 13 false false (mk 4 2)) storeSlots0 storePostings0) (mt 0 1000),
+      record { answer = transfer-answer.Done; tier = lent (hd tierLimits0 4 4 7 3 4 1000 0 11 12 13 false false (mk 8 1)) tierSlots2 tierPostings0; store = lent (hd storeLimits0 8 2 5 0 4 1000 1000 11 12 13 false false (mk 4 2)) storeSlots2 storePostings0; meter = mt 18 1000; ticks = 18; took = row (7 ∷ []) (150 ∷ []) ∷ []; evicts = false },
+    )
+    -- account 16: Done, 1 taken
+    ∷ (
+      deliver (lent (hd tierLimits0 4 4 7 3 4 1000 16 11 12 13 false false (mk 8 1)) tierSlots0 tierPostings0) (lent (hd storeLimits0 8 2 5 0 4 1000 1000 11 12 13 false false (mk 4 2)) storeSlots0 storePostings0) (mt 0 1000),
+      record { answer = transfer-answer.Done; tier = lent (hd tierLimits0 4 4 7 3 4 1000 0 11 12 13 false false (mk 8 1)) tierSlots2 tierPostings0; store = lent (hd storeLimits0 8 2 5 0 4 1000 1000 11 12 13 false false (mk 4 2)) storeSlots2 storePostings0; meter = mt 19 1000; ticks = 19; took = row (7 ∷ []) (150 ∷ []) ∷ []; evicts = false },
+    )
+    -- account 17: Done, 1 taken
+    ∷ (
+      deliver (lent (hd tierLimits0 4 4 7 3 4 1000 17 11 12 13 false false (mk 8 1)) tierSlots0 tierPostings0) (lent (hd storeLimits0 8 2 5 0 4 1000 1000 11 12 13 false false (mk 4 2)) storeSlots0 storePostings0) (mt 0 1000),
+      record { answer = transfer-answer.Done; tier = lent (hd tierLimits0 4 4 7 3 4 1000 0 11 12 13 false false (mk 8 1)) tierSlots2 tierPostings0; store = lent (hd storeLimits0 8 2 5 0 4 1000 1000 11 12 13 false false (mk 4 2)) storeSlots2 storePostings0; meter = mt 20 1000; ticks = 20; took = row (7 ∷ []) (150 ∷ []) ∷ []; evicts = false },
+    )
+    -- account 18: Done, 1 taken
+    ∷ (
+      deliver (lent (hd tierLimits0 4 4 7 3 4 1000 18 11 12 13 false false (mk 8 1)) tierSlots0 tierPostings0) (lent (hd storeLimits0 8 2 5 0 4 1000 1000 11 12 13 false false (mk 4 2)) storeSlots0 storePostings0) (mt 0 1000),
+      record { answer = transfer-answer.Done; tier = lent (hd tierLimits0 4 4 7 3 4 1000 0 11 12 13 false false (mk 8 1)) tierSlots2 tierPostings0; store = lent (hd storeLimits0 8 2 5 0 4 1000 1000 11 12 13 false false (mk 4 2)) storeSlots2 storePostings0; meter = mt 21 1000; ticks = 21; took = row (7 ∷ []) (150 ∷ []) ∷ []; evicts = false },
+    )
+    -- account 19: Done, 1 taken
+    ∷ (
+      deliver (lent (hd tierLimits0 4 4 7 3 4 1000 19 11 12 13 false false (mk 8 1)) tierSlots0 tierPostings0) (lent (hd storeLimits0 8 2 5 0 4 1000 1000 11 12 13 false false (mk 4 2)) storeSlots0 storePostings0) (mt 0 1000),
+      record { answer = transfer-answer.Done; tier = lent (hd tierLimits0 4 4 7 3 4 1000 0 11 12 13 false false (mk 8 1)) tierSlots2 tierPostings0; store = lent (hd storeLimits0 8 2 5 0 4 1000 1000 11 12 13 false false (mk 4 2)) storeSlots2 storePostings0; meter = mt 22 1000; ticks = 22; took = row (7 ∷ []) (150 ∷ []) ∷ []; evicts = false },
+    )
+    -- account 20: Done, 1 taken
+    ∷ (
+      deliver (lent (hd tierLimits0 4 4 7 3 4 1000 20 11 12 13 false false (mk 8 1)) tierSlots0 tierPostings0) (lent (hd storeLimits0 8 2 5 0 4 1000 1000 11 12 13 false false (mk 4 2)) storeSlots0 storePostings0) (mt 0 1000),
+      record { answer = transfer-answer.Done; tier = lent (hd tierLimits0 4 4 7 3 4 1000 0 11 12 13 false false (mk 8 1)) tierSlots2 tierPostings0; store = lent (hd storeLimits0 8 2 5 0 4 1000 1000 11 12 13 false false (mk 4 2)) storeSlots2 storePostings0; meter = mt 23 1000; ticks = 23; took = row (7 ∷ []) (150 ∷ []) ∷ []; evicts = false },
+    )
+    -- account 21: Done, 1 taken
+    ∷ (
+      deliver (lent (hd tierLimits0 4 4 7 3 4 1000 21 11 12 13 false false (mk 8 1)) tierSlots0 tierPostings0) (lent (hd storeLimits0 8 2 5 0 4 1000 1000 11 12 13 false false (mk 4 2)) storeSlots0 storePostings0) (mt 0 1000),
+      record { answer = transfer-answer.Done; tier = lent (hd tierLimits0 4 4 7 3 4 1000 0 11 12 13 false false (mk 8 1)) tierSlots2 tierPostings0; store = lent (hd storeLimits0 8 2 5 0 4 1000 1000 11 12 13 false false (mk 4 2)) storeSlots2 storePostings0; meter = mt 24 1000; ticks = 24; took = row (7 ∷ []) (150 ∷ []) ∷ []; evicts = false },
+    )
+    -- account 22: Done, 1 taken
+    ∷ (
+      deliver (lent (hd tierLimits0 4 4 7 3 4 1000 22 11 12 13 false false (mk 8 1)) tierSlots0 tierPostings0) (lent (hd storeLimits0 8 2 5 0 4 1000 1000 11 12 13 false false (mk 4 2)) storeSlots0 storePostings0) (mt 0 1000),
+      record { answer = transfer-answer.Done; tier = lent (hd tierLimits0 4 4 7 3 4 1000 0 11 12 13 false false (mk 8 1)) tierSlots2 tierPostings0; store = lent (hd storeLimits0 8 2 5 0 4 1000 1000 11 12 13 false false (mk 4 2)) storeSlots2 storePostings0; meter = mt 25 1000; ticks = 25; took = row (7 ∷ []) (150 ∷ []) ∷ []; evicts = false },
+    )
+    -- account 23: Done, 1 taken
+    ∷ (
+      deliver (lent (hd tierLimits0 4 4 7 3 4 1000 23 11 12 13 false false (mk 8 1)) tierSlots0 tierPostings0) (lent (hd storeLimits0 8 2 5 0 4 1000 1000 11 12 13 false false (mk 4 2)) storeSlots0 storePostings0) (mt 0 1000),
+      record { answer = transfer-answer.Done; tier = lent (hd tierLimits0 4 4 7 3 4 1000 0 11 12 13 false false (mk 8 1)) tierSlots2 tierPostings0; store = lent (hd storeLimits0 8 2 5 0 4 1000 1000 11 12 13 false false (mk 4 2)) storeSlots2 storePostings0; meter = mt 26 1000; ticks = 26; took = row (7 ∷ []) (150 ∷ []) ∷ []; evicts = false },
+    )
+    -- account 24: Done, 1 taken
+    ∷ (
+      deliver (lent (hd tierLimits0 4 4 7 3 4 1000 24 11 12 13 false false (mk 8 1)) tierSlots0 tierPostings0) (lent (hd storeLimits0 8 2 5 0 4 1000 1000 11 12 13 false false (mk 4 2)) storeSlots0 storePostings0) (mt 0 1000),
+      record { answer = transfer-answer.Done; tier = lent (hd tierLimits0 4 4 7 3 4 1000 0 11 12 13 false false (mk 8 1)) tierSlots2 tierPostings0; store = lent (hd storeLimits0 8 2 5 0 4 1000 1000 11 12 13 false false (mk 4 2)) storeSlots2 storePostings0; meter = mt 27 1000; ticks = 27; took = row (7 ∷ []) (150 ∷ []) ∷ []; evicts = false },
+    )
+    -- account 25: Done, 1 taken
+    ∷ (
+      deliver (lent (hd tierLimits0 4 4 7 3 4 1000 25 11 12 13 false false (mk 8 1)) tierSlots0 tierPostings0) (lent (hd storeLimits0 8 2 5 0 4 1000 1000 11 12 13 false false (mk 4 2)) storeSlots0 storePostings0) (mt 0 1000),
+      record { answer = transfer-answer.Done; tier = lent (hd tierLimits0 4 4 7 3 4 1000 0 11 12 13 false false (mk 8 1)) tierSlots2 tierPostings0; store = lent (hd storeLimits0 8 2 5 0 4 1000 1000 11 12 13 false false (mk 4 2)) storeSlots2 storePostings0; meter = mt 28 1000; ticks = 28; took = row (7 ∷ []) (150 ∷ []) ∷ []; evicts = false },
+    )
+    -- account 26: Done, 1 taken
+    ∷ (
+      deliver (lent (hd tierLimits0 4 4 7 3 4 1000 26 11 12 13 false false (mk 8 1)) tierSlots0 tierPostings0) (lent (hd storeLimits0 8 2 5 0 4 1000 1000 11 12 13 false false (mk 4 2)) storeSlots0 storePostings0) (mt 0 1000),
+      record { answer = transfer-answer.Done; tier = lent (hd tierLimits0 4 4 7 3 4 1000 0 11 12 13 false false (mk 8 1)) tierSlots2 tierPostings0; store = lent (hd storeLimits0 8 2 5 0 4 1000 1000 11 12 13 false false (mk 4 2)) storeSlots2 storePostings0; meter = mt 29 1000; ticks = 29; took = row (7 ∷ []) (150 ∷ []) ∷ []; evicts = false },
+    )
+    -- account 27: Done, 1 taken
+    ∷ (
+      deliver (lent (hd tierLimits0 4 4 7 3 4 1000 27 11 12 13 false false (mk 8 1)) tierSlots0 tierPostings0) (lent (hd storeLimits0 8 2 5 0 4 1000 1000 11 12 13 false false (mk 4 2)) storeSlots0 storePostings0) (mt 0 1000),
+      record { answer = transfer-answer.Done; tier = lent (hd tierLimits0 4 4 7 3 4 1000 0 11 12 13 false false (mk 8 1)) tierSlots2 tierPostings0; store = lent (hd storeLimits0 8 2 5 0 4 1000 1000 11 12 13 false false (mk 4 2)) storeSlots2 storePostings0; meter = mt 30 1000; ticks = 30; took = row (7 ∷ []) (150 ∷ []) ∷ []; evicts = false },
+    )
+    -- account 28: Done, 1 taken
+    ∷ (
+      deliver (lent (hd tierLimits0 4 4 7 3 4 1000 28 11 12 13 false false (mk 8 1)) tierSlots0 tierPostings0) (lent (hd storeLimits0 8 2 5 0 4 1000 1000 11 12 13 false false (mk 4 2)) storeSlots0 storePostings0) (mt 0 1000),
+      record { answer = transfer-answer.Done; tier = lent (hd tierLimits0 4 4 7 3 4 1000 0 11 12 13 false false (mk 8 1)) tierSlots2 tierPostings0; store = lent (hd storeLimits0 8 2 5 0 4 1000 1000 11 12 13 false false (mk 4 2)) storeSlots2 storePostings0; meter = mt 31 1000; ticks = 31; took = row (7 ∷ []) (150 ∷ []) ∷ []; evicts = false },
+    )
+    -- account 29: Done, 1 taken
+    ∷ (
+      deliver (lent (hd tierLimits0 4 4 7 3 4 1000 29 11 12 13 false false (mk 8 1)) tierSlots0 tierPostings0) (lent (hd storeLimits0 8 2 5 0 4 1000 1000 11 12 13 false false (mk 4 2)) storeSlots0 storePostings0) (mt 0 1000),
+      record { answer = transfer-answer.Done; tier = lent (hd tierLimits0 4 4 7 3 4 1000 0 11 12 13 false false (mk 8 1)) tierSlots2 tierPostings0; store = lent (hd storeLimits0 8 2 5 0 4 1000 1000 11 12 13 false false (mk 4 2)) storeSlots2 storePostings0; meter = mt 32 1000; ticks = 32; took = row (7 ∷ []) (150 ∷ []) ∷ []; evicts = false },
+    )
+    -- account 30: Done, 1 taken
+    ∷ (
+      deliver (lent (hd tierLimits0 4 4 7 3 4 1000 30 11 12 13 false false (mk 8 1)) tierSlots0 tierPostings0) (lent (hd storeLimits0 8 2 5 0 4 1000 1000 11 12 13 false false (mk 4 2)) storeSlots0 storePostings0) (mt 0 1000),
+      record { answer = transfer-answer.Done; tier = lent (hd tierLimits0 4 4 7 3 4 1000 0 11 12 13 false false (mk 8 1)) tierSlots2 tierPostings0; store = lent (hd storeLimits0 8 2 5 0 4 1000 1000 11 12 13 false false (mk 4 2)) storeSlots2 storePostings0; meter = mt 33 1000; ticks = 33; took = row (7 ∷ []) (150 ∷ []) ∷ []; evicts = false },
+    )
+    -- account 31: Done, 1 taken
+    ∷ (
+      deliver (lent (hd tierLimits0 4 4 7 3 4 1000 31 11 12 13 false false (mk 8 1)) tierSlots0 tierPostings0) (lent (hd storeLimits0 8 2 5 0 4 1000 1000 11 12 13 false false (mk 4 2)) storeSlots0 storePostings0) (mt 0 1000),
+      record { answer = transfer-answer.Done; tier = lent (hd tierLimits0 4 4 7 3 4 1000 0 11 12 13 false false (mk 8 1)) tierSlots2 tierPostings0; store = lent (hd storeLimits0 8 2 5 0 4 1000 1000 11 12 13 false false (mk 4 2)) storeSlots2 storePostings0; meter = mt 34 1000; ticks = 34; took = row (7 ∷ []) (150 ∷ []) ∷ []; evicts = false },
+    )
+    -- account 32: Done, 1 taken
+    ∷ (
+      deliver (lent (hd tierLimits0 4 4 7 3 4 1000 32 11 12 13 false false (mk 8 1)) tierSlots0 tierPostings0) (lent (hd storeLimits0 8 2 5 0 4 1000 1000 11 12 13 false false (mk 4 2)) storeSlots0 storePostings0) (mt 0 1000),
+      record { answer = transfer-answer.Done; tier = lent (hd tierLimits0 4 4 7 3 4 1000 0 11 12 13 false false (mk 8 1)) tierSlots2 tierPostings0; store = lent (hd storeLimits0 8 2 5 0 4 1000 1000 11 12 13 false false (mk 4 2)) storeSlots2 storePostings0; meter = mt 35 1000; ticks = 35; took = row (7 ∷ []) (150 ∷ []) ∷ []; evicts = false },
+    )
+    -- account 33: Done, 1 taken
+    ∷ (
+      deliver (lent (hd tierLimits0 4 4 7 3 4 1000 33 11 12 13 false false (mk 8 1)) tierSlots0 tierPostings0) (lent (hd storeLimits0 8 2 5 0 4 1000 1000 11 12 13 false false (mk 4 2)) storeSlots0 storePostings0) (mt 0 1000),
+      record { answer = transfer-answer.Done; tier = lent (hd tierLimits0 4 4 7 3 4 1000 0 11 12 13 false false (mk 8 1)) tierSlots2 tierPostings0; store = lent (hd storeLimits0 8 2 5 0 4 1000 1000 11 12 13 false false (mk 4 2)) storeSlots2 storePostings0; meter = mt 36 1000; ticks = 36; took = row (7 ∷ []) (150 ∷ []) ∷ []; evicts = false },
+    )
+    -- account 34: Done, 1 taken
+    ∷ (
+      deliver (lent (hd tierLimits0 4 4 7 3 4 1000 34 11 12 13 false false (mk 8 1)) tierSlots0 tierPostings0) (lent (hd storeLimits0 8 2 5 0 4 1000 1000 11 12 13 false false (mk 4 2)) storeSlots0 storePostings0) (mt 0 1000),
+      record { answer = transfer-answer.Done; tier = lent (hd tierLimits0 4 4 7 3 4 1000 0 11 12 13 false false (mk 8 1)) tierSlots2 tierPostings0; store = lent (hd storeLimits0 8 2 5 0 4 1000 1000 11 12 13 false false (mk 4 2)) storeSlots2 storePostings0; meter = mt 37 1000; ticks = 37; took = row (7 ∷ []) (150 ∷ []) ∷ []; evicts = false },
+    )
+    -- account 35: Done, 1 taken
+    ∷ (
+      deliver (lent (hd tierLimits0 4 4 7 3 4 1000 35 11 12 13 false false (mk 8 1)) tierSlots0 tierPostings0) (lent (hd storeLimits0 8 2 5 0 4 1000 1000 11 12 13 false false (mk 4 2)) storeSlots0 storePostings0) (mt 0 1000),
+      record { answer = transfer-answer.Done; tier = lent (hd tierLimits0 4 4 7 3 4 1000 0 11 12 13 false false (mk 8 1)) tierSlots2 tierPostings0; store = lent (hd storeLimits0 8 2 5 0 4 1000 1000 11 12 13 false false (mk 4 2)) storeSlots2 storePostings0; meter = mt 38 1000; ticks = 38; took = row (7 ∷ []) (150 ∷ []) ∷ []; evicts = false },
+    )
+    -- account 36: Done, 1 taken
+    ∷ (
+      deliver (lent (hd tierLimits0 4 4 7 3 4 1000 36 11 12 13 false false (mk 8 1)) tierSlots0 tierPostings0) (lent (hd storeLimits0 8 2 5 0 4 1000 1000 11 12 13 false false (mk 4 2)) storeSlots0 storePostings0) (mt 0 1000),
+      record { answer = transfer-answer.Done; tier = lent (hd tierLimits0 4 4 7 3 4 1000 0 11 12 13 false false (mk 8 1)) tierSlots2 tierPostings0; store = lent (hd storeLimits0 8 2 5 0 4 1000 1000 11 12 13 false false (mk 4 2)) storeSlots2 storePostings0; meter = mt 39 1000; ticks = 39; took = row (7 ∷ []) (150 ∷ []) ∷ []; evicts = false },
+    )
+    -- account 37: Done, 1 taken
+    ∷ (
+      deliver (lent (hd tierLimits0 4 4 7 3 4 1000 37 11 12 13 false false (mk 8 1)) tierSlots0 tierPostings0) (lent (hd storeLimits0 8 2 5 0 4 1000 1000 11 12 13 false false (mk 4 2)) storeSlots0 storePostings0) (mt 0 1000),
+      record { answer = transfer-answer.Done; tier = lent (hd tierLimits0 4 4 7 3 4 1000 0 11 12 13 false false (mk 8 1)) tierSlots2 tierPostings0; store = lent (hd storeLimits0 8 2 5 0 4 1000 1000 11 12 13 false false (mk 4 2)) storeSlots2 storePostings0; meter = mt 40 1000; ticks = 40; took = row (7 ∷ []) (150 ∷ []) ∷ []; evicts = false },
+    )
+    -- account 38: Done, 1 taken
+    ∷ (
+      deliver (lent (hd tierLimits0 4 4 7 3 4 1000 38 11 12 13 false false (mk 8 1)) tierSlots0 tierPostings0) (lent (hd storeLimits0 8 2 5 0 4 1000 1000 11 12 13 false false (mk 4 2)) storeSlots0 storePostings0) (mt 0 1000),
+      record { answer = transfer-answer.Done; tier = lent (hd tierLimits0 4 4 7 3 4 1000 0 11 12 13 false false (mk 8 1)) tierSlots2 tierPostings0; store = lent (hd storeLimits0 8 2 5 0 4 1000 1000 11 12 13 false false (mk 4 2)) storeSlots2 storePostings0; meter = mt 41 1000; ticks = 41; took = row (7 ∷ []) (150 ∷ []) ∷ []; evicts = false },
+    )
+    -- account 39: Done, 2 taken
+    ∷ (
+      deliver (lent (hd tierLimits0 4 4 7 3 4 1000 39 11 12 13 false false (mk 8 1)) tierSlots0 tierPostings0) (lent (hd storeLimits0 8 2 5 0 4 1000 1000 11 12 13 false false (mk 4 2)) storeSlots0 storePostings0) (mt 0 1000),
+      record { answer = transfer-answer.Done; tier = lent (hd tierLimits0 4 4 7 3 4 1000 0 11 12 13 false false (mk 8 1)) tierSlots3 tierPostings0; store = lent (hd storeLimits0 8 2 6 1 4 1000 1000 11 13 13 true true (mk 4 2)) storeSlots3 (zs 160 []); meter = mt 43 1000; ticks = 43; took = row (11 ∷ []) (158 ∷ []) ∷ row (7 ∷ []) (150 ∷ []) ∷ []; evicts = false },
+    )
+    -- account 40: Done, 2 taken
+    ∷ (
+      deliver (lent (hd tierLimits0 4 4 7 3 4 1000 40 11 12 13 false false (mk 8 1)) tierSlots0 tierPostings0) (lent (hd storeLimits0 8 2 5 0 4 1000 1000 11 12 13 false false (mk 4 2)) storeSlots0 storePostings0) (mt 0 1000),
+      record { answer = transfer-answer.Done; tier = lent (hd tierLimits0 4 4 7 3 4 1000 0 11 12 13 false false (mk 8 1)) tierSlots3 tierPostings0; store = lent (hd storeLimits0 8 2 6 1 4 1000 1000 11 13 13 true true (mk 4 2)) storeSlots3 (zs 160 []); meter = mt 44 1000; ticks = 44; took = row (11 ∷ []) (158 ∷ []) ∷ row (7 ∷ []) (150 ∷ []) ∷ []; evicts = false },
+    )
+    -- account 41: Done, 2 taken
+    ∷ (
+      deliver (lent (hd tierLimits0 4 4 7 3 4 1000 41 11 12 13 false false (mk 8 1)) tierSlots0 tierPostings0) (lent (hd storeLimits0 8 2 5 0 4 1000 1000 11 12 13 false false (mk 4 2)) storeSlots0 storePostings0) (mt 0 1000),
+      record { answer = transfer-answer.Done; tier = lent (hd tierLimits0 4 4 7 3 4 1000 0 11 12 13 false false (mk 8 1)) tierSlots3 tierPostings0; store = lent (hd storeLimits0 8 2 6 1 4 1000 1000 11 13 13 true true (mk 4 2)) storeSlots3 (zs 160 []); meter = mt 45 1000; ticks = 45; took = row (11 ∷ []) (158 ∷ []) ∷ row (7 ∷ []) (150 ∷ []) ∷ []; evicts = false },
+    )
+    -- account 42: Done, 2 taken
+    ∷ (
+      deliver (lent (hd tierLimits0 4 4 7 3 4 1000 42 11 12 13 false false (mk 8 1)) tierSlots0 tierPostings0) (lent (hd storeLimits0 8 2 5 0 4 1000 1000 11 12 13 false false (mk 4 2)) storeSlots0 storePostings0) (mt 0 1000),
+      record { answer = transfer-answer.Done; tier = lent (hd tierLimits0 4 4 7 3 4 1000 0 11 12 13 false false (mk 8 1)) tierSlots3 tierPostings0; store = lent (hd storeLimits0 8 2 6 1 4 1000 1000 11 13 13 true true (mk 4 2)) storeSlots3 (zs 160 []); meter = mt 46 1000; ticks = 46; took = row (11 ∷ []) (158 ∷ []) ∷ row (7 ∷ []) (150 ∷ []) ∷ []; evicts = false },
+    )
+    -- account 43: Done, 2 taken
+    ∷ (
+      deliver (lent (hd tierLimits0 4 4 7 3 4 1000 43 11 12 13 false false (mk 8 1)) tierSlots0 tierPostings0) (lent (hd storeLimits0 8 2 5 0 4 1000 1000 11 12 13 false false (mk 4 2)) storeSlots0 storePostings0) (mt 0 1000),
+      record { answer = transfer-answer.Done; tier = lent (hd tierLimits0 4 4 7 3 4 1000 0 11 12 13 false false (mk 8 1)) tierSlots3 tierPostings0; store = lent (hd storeLimits0 8 2 6 1 4 1000 1000 11 13 13 true true (mk 4 2)) storeSlots3 (zs 160 []); meter = mt 47 1000; ticks = 47; took = row (11 ∷ []) (158 ∷ []) ∷ row (7 ∷ []) (150 ∷ []) ∷ []; evicts = false },
+    )
+    -- account 44: Done, 2 taken
+    ∷ (
+      deliver (lent (hd tierLimits0 4 4 7 3 4 1000 44 11 12 13 false false (mk 8 1)) tierSlots0 tierPostings0) (lent (hd storeLimits0 8 2 5 0 4 1000 1000 11 12 13 false false (mk 4 2)) storeSlots0 storePostings0) (mt 0 1000),
+      record { answer = transfer-answer.Done; tier = lent (hd tierLimits0 4 4 7 3 4 1000 0 11 12 13 false false (mk 8 1)) tierSlots3 tierPostings0; store = lent (hd storeLimits0 8 2 6 1 4 1000 1000 11 13 13 true true (mk 4 2)) storeSlots3 (zs 160 []); meter = mt 48 1000; ticks = 48; took = row (11 ∷ []) (158 ∷ []) ∷ row (7 ∷ []) (150 ∷ []) ∷ []; evicts = false },
+    )
+    -- account 45: Done, 2 taken
+    ∷ (
+      deliver (lent (hd tierLimits0 4 4 7 3 4 1000 45 11 12 13 false false (mk 8 1)) tierSlots0 tierPostings0) (lent (hd storeLimits0 8 2 5 0 4 1000 1000 11 12 13 false false (mk 4 2)) storeSlots0 storePostings0) (mt 0 1000),
+      record { answer = transfer-answer.Done; tier = lent (hd tierLimits0 4 4 7 3 4 1000 0 11 12 13 false false (mk 8 1)) tierSlots3 tierPostings0; store = lent (hd storeLimits0 8 2 6 1 4 1000 1000 11 13 13 true true (mk 4 2)) storeSlots3 (zs 160 []); meter = mt 49 1000; ticks = 49; took = row (11 ∷ []) (158 ∷ []) ∷ row (7 ∷ []) (150 ∷ []) ∷ []; evicts = false },
+    )
+    -- account 46: Done, 2 taken
+    ∷ (
+      deliver (lent (hd tierLimits0 4 4 7 3 4 1000 46 11 12 13 false false (mk 8 1)) tierSlots0 tierPostings0) (lent (hd storeLimits0 8 2 5 0 4 1000 1000 11 12 13 false false (mk 4 2)) storeSlots0 storePostings0) (mt 0 1000),
+      record { answer = transfer-answer.Done; tier = lent (hd tierLimits0 4 4 7 3 4 1000 0 11 12 13 false false (mk 8 1)) tierSlots3 tierPostings0; store = lent (hd storeLimits0 8 2 6 1 4 1000 1000 11 13 13 true true (mk 4 2)) storeSlots3 (zs 160 []); meter = mt 50 1000; ticks = 50; took = row (11 ∷ []) (158 ∷ []) ∷ row (7 ∷ []) (150 ∷ []) ∷ []; evicts = false },
+    )
+    -- account 47: Done, 2 taken
+    ∷ (
+      deliver (lent (hd tierLimits0 4 4 7 3 4 1000 47 11 12 13 false false (mk 8 1)) tierSlots0 tierPostings0) (lent (hd storeLimits0 8 2 5 0 4 1000 1000 11 12 13 false false (mk 4 2)) storeSlots0 storePostings0) (mt 0 1000),
+      record { answer = transfer-answer.Done; tier = lent (hd tierLimits0 4 4 7 3 4 1000 0 11 12 13 false false (mk 8 1)) tierSlots3 tierPostings0; store = lent (hd storeLimits0 8 2 6 1 4 1000 1000 11 13 13 true true (mk 4 2)) storeSlots3 (zs 160 []); meter = mt 51 1000; ticks = 51; took = row (11 ∷ []) (158 ∷ []) ∷ row (7 ∷ []) (150 ∷ []) ∷ []; evicts = false },
+    )
+    -- account 48: Done, 2 taken
+    ∷ (
+      deliver (lent (hd tierLimits0 4 4 7 3 4 1000 48 11 12 13 false false (mk 8 1)) tierSlots0 tierPostings0) (lent (hd storeLimits0 8 2 5 0 4 1000 1000 11 12 13 false false (mk 4 2)) storeSlots0 storePostings0) (mt 0 1000),
+      record { answer = transfer-answer.Done; tier = lent (hd tierLimits0 4 4 7 3 4 1000 0 11 12 13 false false (mk 8 1)) tierSlots3 tierPostings0; store = lent (hd storeLimits0 8 2 6 1 4 1000 1000 11 13 13 true true (mk 4 2)) storeSlots3 (zs 160 []); meter = mt 52 1000; ticks = 52; took = row (11 ∷ []) (158 ∷ []) ∷ row (7 ∷ []) (150 ∷ []) ∷ []; evicts = false },
+    )
+    -- account 49: Done, 2 taken
+    ∷ (
+      deliver (lent (hd tierLimits0 4 4 7 3 4 1000 49 11 12 13 false false (mk 8 1)) tierSlots0 tierPostings0) (lent (hd storeLimits0 8 2 5 0 4 1000 1000 11 12 13 false false (mk 4 2)) storeSlots0 storePostings0) (mt 0 1000),
+      record { answer = transfer-answer.Done; tier = lent (hd tierLimits0 4 4 7 3 4 1000 0 11 12 13 false false (mk 8 1)) tierSlots3 tierPostings0; store = lent (hd storeLimits0 8 2 6 1 4 1000 1000 11 13 13 true true (mk 4 2)) storeSlots3 (zs 160 []); meter = mt 53 1000; ticks = 53; took = row (11 ∷ []) (158 ∷ []) ∷ row (7 ∷ []) (150 ∷ []) ∷ []; evicts = false },
+    )
+    -- account 50: Done, 2 taken
+    ∷ (
+      deliver (lent (hd tierLimits0 4 4 7 3 4 1000 50 11 12 13 false false (mk 8 1)) tierSlots0 tierPostings0) (lent (hd storeLimits0 8 2 5 0 4 1000 1000 11 12 13 false false (mk 4 2)) storeSlots0 storePostings0) (mt 0 1000),
+      record { answer = transfer-answer.Done; tier = lent (hd tierLimits0 4 4 7 3 4 1000 0 11 12 13 false false (mk 8 1)) tierSlots3 tierPostings0; store = lent (hd storeLimits0 8 2 6 1 4 1000 1000 11 13 13 true true (mk 4 2)) storeSlots3 (zs 160 []); meter = mt 54 1000; ticks = 54; took = row (11 ∷ []) (158 ∷ []) ∷ row (7 ∷ []) (150 ∷ []) ∷ []; evicts = false },
+    )
+    -- account 51: Done, 2 taken
+    ∷ (
+      deliver (lent (hd tierLimits0 4 4 7 3 4 1000 51 11 12 13 false false (mk 8 1)) tierSlots0 tierPostings0) (lent (hd storeLimits0 8 2 5 0 4 1000 1000 11 12 13 false false (mk 4 2)) storeSlots0 storePostings0) (mt 0 1000),
+      record { answer = transfer-answer.Done; tier = lent (hd tierLimits0 4 4 7 3 4 1000 0 11 12 13 false false (mk 8 1)) tierSlots3 tierPostings0; store = lent (hd storeLimits0 8 2 6 1 4 1000 1000 11 13 13 true true (mk 4 2)) storeSlots3 (zs 160 []); meter = mt 55 1000; ticks = 55; took = row (11 ∷ []) (158 ∷ []) ∷ row (7 ∷ []) (150 ∷ []) ∷ []; evicts = false },
+    )
+    -- account 52: Done, 2 taken
+    ∷ (
+      deliver (lent (hd tierLimits0 4 4 7 3 4 1000 52 11 12 13 false false (mk 8 1)) tierSlots0 tierPostings0) (lent (hd storeLimits0 8 2 5 0 4 1000 1000 11 12 13 false false (mk 4 2)) storeSlots0 storePostings0) (mt 0 1000),
+      record { answer = transfer-answer.Done; tier = lent (hd tierLimits0 4 4 7 3 4 1000 0 11 12 13 false false (mk 8 1)) tierSlots3 tierPostings0; store = lent (hd storeLimits0 8 2 6 1 4 1000 1000 11 13 13 true true (mk 4 2)) storeSlots3 (zs 160 []); meter = mt 56 1000; ticks = 56; took = row (11 ∷ []) (158 ∷ []) ∷ row (7 ∷ []) (150 ∷ []) ∷ []; evicts = false },
+    )
+    -- account 53: Done, 2 taken
+    ∷ (
+      deliver (lent (hd tierLimits0 4 4 7 3 4 1000 53 11 12 13 false false (mk 8 1)) tierSlots0 tierPostings0) (lent (hd storeLimits0 8 2 5 0 4 1000 1000 11 12 13 false false (mk 4 2)) storeSlots0 storePostings0) (mt 0 1000),
+      record { answer = transfer-answer.Done; tier = lent (hd tierLimits0 4 4 7 3 4 1000 0 11 12 13 false false (mk 8 1)) tierSlots3 tierPostings0; store = lent (hd storeLimits0 8 2 6 1 4 1000 1000 11 13 13 true true (mk 4 2)) storeSlots3 (zs 160 []); meter = mt 57 1000; ticks = 57; took = row (11 ∷ []) (158 ∷ []) ∷ row (7 ∷ []) (150 ∷ []) ∷ []; evicts = false },
+    )
+    -- account 54: Done, 3 taken
+    ∷ (
+      deliver (lent (hd tierLimits0 4 4 7 3 4 1000 54 11 12 13 false false (mk 8 1)) tierSlots0 tierPostings0) (lent (hd storeLimits0 8 2 5 0 4 1000 1000 11 12 13 false false (mk 4 2)) storeSlots0 storePostings0) (mt 0 1000),
+      record { answer = transfer-answer.Done; tier = lent (hd tierLimits0 4 4 7 3 4 1000 0 11 12 13 false false (mk 8 1)) tierSlots1 tierPostings0; store = lent (hd storeLimits0 8 2 7 0 4 1000 1000 12 14 13 true true (mk 4 2)) storeSlots1 (zs 160 []); meter = mt 58 1000; ticks = 58; took = row (13 ∷ []) (20 ∷ []) ∷ row (11 ∷ []) (158 ∷ []) ∷ row (7 ∷ []) (150 ∷ []) ∷ []; evicts = true },
+    )
+    -- account 55: Done, 3 taken
+    ∷ (
+      deliver (lent (hd tierLimits0 4 4 7 3 4 1000 55 11 12 13 false false (mk 8 1)) tierSlots0 tierPostings0) (lent (hd storeLimits0 8 2 5 0 4 1000 1000 11 12 13 false false (mk 4 2)) storeSlots0 storePostings0) (mt 0 1000),
+      record { answer = transfer-answer.Done; tier = lent (hd tierLimits0 4 4 7 3 4 1000 1 11 12 13 false false (mk 8 1)) tierSlots1 tierPostings0; store = lent (hd storeLimits0 8 2 7 0 4 1000 1000 12 14 13 true true (mk 4 2)) storeSlots1 (zs 160 []); meter = mt 58 1000; ticks = 58; took = row (13 ∷ []) (20 ∷ []) ∷ row (11 ∷ []) (158 ∷ []) ∷ row (7 ∷ []) (150 ∷ []) ∷ []; evicts = true },
+    )
+    -- account 56: Done, 3 taken
+    ∷ (
+      deliver (lent (hd tierLimits0 4 4 7 3 4 1000 56 11 12 13 false false (mk 8 1)) tierSlots0 tierPostings0) (lent (hd storeLimits0 8 2 5 0 4 1000 1000 11 12 13 false false (mk 4 2)) storeSlots0 storePostings0) (mt 0 1000),
+      record { answer = transfer-answer.Done; tier = lent (hd tierLimits0 4 4 7 3 4 1000 2 11 12 13 false false (mk 8 1)) tierSlots1 tierPostings0; store = lent (hd storeLimits0 8 2 7 0 4 1000 1000 12 14 13 true true (mk 4 2)) storeSlots1 (zs 160 []); meter = mt 58 1000; ticks = 58; took = row (13 ∷ []) (20 ∷ []) ∷ row (11 ∷ []) (158 ∷ []) ∷ row (7 ∷ []) (150 ∷ []) ∷ []; evicts = true },
+    )
+    -- account 57: Done, 3 taken
+    ∷ (
+      deliver (lent (hd tierLimits0 4 4 7 3 4 1000 57 11 12 13 false false (mk 8 1)) tierSlots0 tierPostings0) (lent (hd storeLimits0 8 2 5 0 4 1000 1000 11 12 13 false false (mk 4 2)) storeSlots0 storePostings0) (mt 0 1000),
+      record { answer = transfer-answer.Done; tier = lent (hd tierLimits0 4 4 7 3 4 1000 3 11 12 13 false false (mk 8 1)) tierSlots1 tierPostings0; store = lent (hd storeLimits0 8 2 7 0 4 1000 1000 12 14 13 true true (mk 4 2)) storeSlots1 (zs 160 []); meter = mt 58 1000; ticks = 58; took = row (13 ∷ []) (20 ∷ []) ∷ row (11 ∷ []) (158 ∷ []) ∷ row (7 ∷ []) (150 ∷ []) ∷ []; evicts = true },
+    )
+    -- account 58: Done, 3 taken
+    ∷ (
+      deliver (lent (hd tierLimits0 4 4 7 3 4 1000 58 11 12 13 false false (mk 8 1)) tierSlots0 tierPostings0) (lent (hd storeLimits0 8 2 5 0 4 1000 1000 11 12 13 false false (mk 4 2)) storeSlots0 storePostings0) (mt 0 1000),
+      record { answer = transfer-answer.Done; tier = lent (hd tierLimits0 4 4 7 3 4 1000 4 11 12 13 false false (mk 8 1)) tierSlots1 tierPostings0; store = lent (hd storeLimits0 8 2 7 0 4 1000 1000 12 14 13 true true (mk 4 2)) storeSlots1 (zs 160 []); meter = mt 58 1000; ticks = 58; took = row (13 ∷ []) (20 ∷ []) ∷ row (11 ∷ []) (158 ∷ []) ∷ row (7 ∷ []) (150 ∷ []) ∷ []; evicts = true },
+    )
+    -- account 59: Done, 3 taken
+    ∷ (
+      deliver (lent (hd tierLimits0 4 4 7 3 4 1000 59 11 12 13 false false (mk 8 1)) tierSlots0 tierPostings0) (lent (hd storeLimits0 8 2 5 0 4 1000 1000 11 12 13 false false (mk 4 2)) storeSlots0 storePostings0) (mt 0 1000),
+      record { answer = transfer-answer.Done; tier = lent (hd tierLimits0 4 4 7 3 4 1000 5 11 12 13 false false (mk 8 1)) tierSlots1 tierPostings0; store = lent (hd storeLimits0 8 2 7 0 4 1000 1000 12 14 13 true true (mk 4 2)) storeSlots1 (zs 160 []); meter = mt 58 1000; ticks = 58; took = row (13 ∷ []) (20 ∷ []) ∷ row (11 ∷ []) (158 ∷ []) ∷ row (7 ∷ []) (150 ∷ []) ∷ []; evicts = true },
+    )
+    ∷ [])
+unfolding opened
+account = refl
+
+limit : Agree TransferEnd (
+    -- 0 ticks left: Stopped, 0 taken
+    (
+      deliver (lent (hd tierLimits0 4 4 7 3 4 1000 1000 11 12 13 false false (mk 8 1)) tierSlots0 tierPostings0) (lent (hd storeLimits0 8 2 5 0 4 1000 1000 11 12 13 false false (mk 4 2)) storeSlots0 storePostings0) (mt 3 3),
+      record { answer = transfer-answer.Stopped; tier = lent (hd tierLimits0 4 4 7 3 4 1000 1000 11 12 13 false false (mk 8 1)) tierSlots0 tierPostings0; store = lent (hd storeLimits0 8 2 5 0 4 1000 1000 11 12 13 false false (mk 4 2)) storeSlots0 storePostings0; meter = mt 3 3; ticks = 0; took = []; evicts = false },
+    )
+    -- 1 ticks left: Stopped, 0 taken
+    ∷ (
+      deliver (lent (hd tierLimits0 4 4 7 3 4 1000 1000 11 12 13 false false (mk 8 1)) tierSlots0 tierPostings0) (lent (hd storeLimits0 8 2 5 0 4 1000 1000 11 12 13 false false (mk 4 2)) storeSlots0 storePostings0) (mt 3 4),
+      record { answer = transfer-answer.Stopped; tier = lent (hd tierLimits0 4 4 7 3 4 1000 1000 11 12 13 false false (mk 8 1)) tierSlots0 tierPostings0; store = lent (hd storeLimits0 8 2 5 0 4 1000 1000 11 12 13 false false (mk 4 2)) storeSlots0 storePostings0; meter = mt 4 4; ticks = 1; took = []; evicts = false },
+    )
+    -- 2 ticks left: Stopped, 0 taken
+    ∷ (
+      deliver (lent (hd tierLimits0 4 4 7 3 4 1000 1000 11 12 13 false false (mk 8 1)) tierSlots0 tierPostings0) (lent (hd storeLimits0 8 2 5 0 4 1000 1000 11 12 13 false false (mk 4 2)) storeSlots0 storePostings0) (mt 3 5),
+      record { answer = transfer-answer.Stopped; tier = lent (hd tierLimits0 4 4 7 3 4 1000 999 11 12 13 false false (mk 8 1)) tierSlots0 tierPostings0; store = lent (hd storeLimits0 8 2 5 0 4 1000 1000 11 12 13 false false (mk 4 2)) storeSlots0 storePostings0; meter = mt 5 5; ticks = 2; took = []; evicts = false },
+    )
+    -- 3 ticks left: Stopped, 0 taken
+    ∷ (
+      deliver (lent (hd tierLimits0 4 4 7 3 4 1000 1000 11 12 13 false false (mk 8 1)) tierSlots0 tierPostings0) (lent (hd storeLimits0 8 2 5 0 4 1000 1000 11 12 13 false false (mk 4 2)) storeSlots0 storePostings0) (mt 3 6),
+      record { answer = transfer-answer.Stopped; tier = lent (hd tierLimits0 4 4 7 3 4 1000 998 11 12 13 false false (mk 8 1)) tierSlots0 tierPostings0; store = lent (hd storeLimits0 8 2 5 0 4 1000 1000 11 12 13 false false (mk 4 2)) storeSlots0 storePostings0; meter = mt 6 6; ticks = 3; took = []; evicts = false },
+    )
+    -- 4 ticks left: Stopped, 0 taken
+    ∷ (
+      deliver (lent (hd tierLimits0 4 4 7 3 4 1000 1000 11 12 13 false false (mk 8 1)) tierSlots0 tierPostings0) (lent (hd storeLimits0 8 2 5 0 4 1000 1000 11 12 13 false false (mk 4 2)) storeSlots0 storePostings0) (mt 3 7),
+      record { answer = transfer-answer.Stopped; tier = lent (hd tierLimits0 4 4 7 3 4 1000 997 11 12 13 false false (mk 8 1)) tierSlots0 tierPostings0; store = lent (hd storeLimits0 8 2 5 0 4 1000 1000 11 12 13 false false (mk 4 2)) storeSlots0 storePostings0; meter = mt 7 7; ticks = 4; took = []; evicts = false },
+    )
+    -- 5 ticks left: Stopped, 0 taken
+    ∷ (
+      deliver (lent (hd tierLimits0 4 4 7 3 4 1000 1000 11 12 13 false false (mk 8 1)) tierSlots0 tierPostings0) (lent (hd storeLimits0 8 2 5 0 4 1000 1000 11 12 13 false false (mk 4 2)) storeSlots0 storePostings0) (mt 3 8),
+      record { answer = transfer-answer.Stopped; tier = lent (hd tierLimits0 4 4 7 3 4 1000 996 11 12 13 false false (mk 8 1)) tierSlots0 tierPostings0; store = lent (hd storeLimits0 8 2 5 0 4 1000 1000 11 12 13 false false (mk 4 2)) storeSlots0 storePostings0; meter = mt 8 8; ticks = 5; took = []; evicts = false },
+    )
+    -- 6 ticks left: Stopped, 0 taken
+    ∷ (
+      deliver (lent (hd tierLimits0 4 4 7 3 4 1000 1000 11 12 13 false false (mk 8 1)) tierSlots0 tierPostings0) (lent (hd storeLimits0 8 2 5 0 4 1000 1000 11 12 13 false false (mk 4 2)) storeSlots0 storePostings0) (mt 3 9),
+      record { answer = transfer-answer.Stopped; tier = lent (hd tierLimits0 4 4 7 3 4 1000 995 11 12 13 false false (mk 8 1)) tierSlots0 tierPostings0; store = lent (hd storeLimits0 8 2 5 0 4 1000 1000 11 12 13 false false (mk 4 2)) storeSlots0 storePostings0; meter = mt 9 9; ticks = 6; took = []; evicts = false },
+    )
+    -- 7 ticks left: Stopped, 0 taken
+    ∷ (
+      deliver (lent (hd tierLimits0 4 4 7 3 4 1000 1000 11 12 13 false false (mk 8 1)) tierSlots0 tierPostings0) (lent (hd storeLimits0 8 2 5 0 4 1000 1000 11 12 13 false false (mk 4 2)) storeSlots0 storePostings0) (mt 3 10),
+      record { answer = transfer-answer.Stopped; tier = lent (hd tierLimits0 4 4 7 3 4 1000 994 11 12 13 false false (mk 8 1)) tierSlots0 tierPostings0; store = lent (hd storeLimits0 8 2 5 0 4 1000 1000 11 12 13 false false (mk 4 2)) storeSlots0 storePostings0; meter = mt 10 10; ticks = 7; took = []; evicts = false },
+    )
+    -- 8 ticks left: Stopped, 1 taken
+    ∷ (
+      deliver (lent (hd tierLimits0 4 4 7 3 4 1000 1000 11 12 13 false false (mk 8 1)) tierSlots0 tierPostings0) (lent (hd storeLimits0 8 2 5 0 4 1000 1000 11 12 13 false false (mk 4 2)) storeSlots0 storePostings0) (mt 3 11),
+      record { answer = transfer-answer.Stopped; tier = lent (hd tierLimits0 4 4 7 3 4 1000 993 11 12 13 false false (mk 8 1)) tierSlots2 tierPostings0; store = lent (hd storeLimits0 8 2 5 0 4 1000 1000 11 12 13 false false (mk 4 2)) storeSlots2 storePostings0; meter = mt 11 11; ticks = 8; took = row (7 ∷ []) (150 ∷ []) ∷ []; evicts = false },
+    )
+    -- 9 ticks left: Stopped, 1 taken
+    ∷ (
+      deliver (lent (hd tierLimits0 4 4 7 3 4 1000 1000 11 12 13 false false (mk 8 1)) tierSlots0 tierPostings0) (lent (hd storeLimits0 8 2 5 0 4 1000 1000 11 12 13 false false (mk 4 2)) storeSlots0 storePostings0) (mt 3 12),
+      record { answer = transfer-answer.Stopped; tier = lent (hd tierLimits0 4 4 7 3 4 1000 993 11 12 13 false false (mk 8 1)) tierSlots2 tierPostings0; store = lent (hd storeLimits0 8 2 5 0 4 1000 1000 11 12 13 false false (mk 4 2)) storeSlots2 storePostings0; meter = mt 12 12; ticks = 9; took = row (7 ∷ []) (150 ∷ []) ∷ []; evicts = false },
+    )
+    -- 10 ticks left: Stopped, 1 taken
+    ∷ (
+      deliver (lent (hd tierLimits0 4 4 7 3 4 1000 1000 11 12 13 false false (mk 8 1)) tierSlots0 tierPostings0) (lent (hd storeLimits0 8 2 5 0 4 1000 1000 11 12 13 false false (mk 4 2)) storeSlots0 storePostings0) (mt 3 13),
+      record { answer = transfer-answer.Stopped; tier = lent (hd tierLimits0 4 4 7 3 4 1000 993 11 12 13 false false (mk 8 1)) tierSlots2 tierPostings0; store = lent (hd storeLimits0 8 2 5 0 4 1000 1000 11 12 13 false false (mk 4 2)) storeSlots2 storePostings0; meter = mt 13 13; ticks = 10; took = row (7 ∷ []) (150 ∷ []) ∷ []; evicts = false },
+    )
+    -- 11 ticks left: Stopped, 1 taken
+    ∷ (
+      deliver (lent (hd tierLimits0 4 4 7 3 4 1000 1000 11 12 13 false false (mk 8 1)) tierSlots0 tierPostings0) (lent (hd storeLimits0 8 2 5 0 4 1000 1000 11 12 13 false false (mk 4 2)) storeSlots0 storePostings0) (mt 3 14),
+      record { answer = transfer-answer.Stopped; tier = lent (hd tierLimits0 4 4 7 3 4 1000 992 11 12 13 false false (mk 8 1)) tierSlots2 tierPostings0; store = lent (hd storeLimits0 8 2 5 0 4 1000 1000 11 12 13 false false (mk 4 2)) storeSlots2 storePostings0; meter = mt 14 14; ticks = 11; took = row (7 ∷ []) (150 ∷ []) ∷ []; evicts = false },
+    )
+    -- 12 ticks left: Stopped, 1 taken
+    ∷ (
+      deliver (lent (hd tierLimits0 4 4 7 3 4 1000 1000 11 12 13 false false (mk 8 1)) tierSlots0 tierPostings0) (lent (hd storeLimits0 8 2 5 0 4 1000 1000 11 12 13 false false (mk 4 2)) storeSlots0 storePostings0) (mt 3 15),
+      record { answer = transfer-answer.Stopped; tier = lent (hd tierLimits0 4 4 7 3 4 1000 991 11 12 13 false false (mk 8 1)) tierSlots2 tierPostings0; store = lent (hd storeLimits0 8 2 5 0 4 1000 1000 11 12 13 false false (mk 4 2)) storeSlots2 storePostings0; meter = mt 15 15; ticks = 12; took = row (7 ∷ []) (150 ∷ []) ∷ []; evicts = false },
+    )
+    -- 13 ticks left: Stopped, 1 taken
+    ∷ (
+      deliver (lent (hd tierLimits0 4 4 7 3 4 1000 1000 11 12 13 false false (mk 8 1)) tierSlots0 tierPostings0) (lent (hd storeLimits0 8 2 5 0 4 1000 1000 11 12 13 false false (mk 4 2)) storeSlots0 storePostings0) (mt 3 16),
+      record { answer = transfer-answer.Stopped; tier = lent (hd tierLimits0 4 4 7 3 4 1000 990 11 12 13 false false (mk 8 1)) tierSlots2 tierPostings0; store = lent (hd storeLimits0 8 2 5 0 4 1000 1000 11 12 13 false false (mk 4 2)) storeSlots2 storePostings0; meter = mt 16 16; ticks = 13; took = row (7 ∷ []) (150 ∷ []) ∷ []; evicts = false },
+    )
+    -- 14 ticks left: Stopped, 1 taken
+    ∷ (
+      deliver (lent (hd tierLimits0 4 4 7 3 4 1000 1000 11 12 13 false false (mk 8 1)) tierSlots0 tierPostings0) (lent (hd storeLimits0 8 2 5 0 4 1000 1000 11 12 13 false false (mk 4 2)) storeSlots0 storePostings0) (mt 3 17),
+      record { answer = transfer-answer.Stopped; tier = lent (hd tierLimits0 4 4 7 3 4 1000 989 11 12 13 false false (mk 8 1)) tierSlots2 tierPostings0; store = lent (hd storeLimits0 8 2 5 0 4 1000 1000 11 12 13 false false (mk 4 2)) storeSlots2 storePostings0; meter = mt 17 17; ticks = 14; took = row (7 ∷ []) (150 ∷ []) ∷ []; evicts = false },
+    )
+    -- 15 ticks left: Stopped, 1 taken
+    ∷ (
+      deliver (lent (hd tierLimits0 4 4 7 3 4 1000 1000 11 12 13 false false (mk 8 1)) tierSlots0 tierPostings0) (lent (hd storeLimits0 8 2 5 0 4 1000 1000 11 12 13 false false (mk 4 2)) storeSlots0 storePostings0) (mt 3 18),
+      record { answer = transfer-answer.Stopped; tier = lent (hd tierLimits0 4 4 7 3 4 1000 988 11 12 13 false false (mk 8 1)) tierSlots2 tierPostings0; store = lent (hd storeLimits0 8 2 5 0 4 1000 1000 11 12 13 false false (mk 4 2)) storeSlots2 storePostings0; meter = mt 18 18; ticks = 15; took = row (7 ∷ []) (150 ∷ []) ∷ []; evicts = false },
+    )
+    -- 16 ticks left: Stopped, 1 taken
+    ∷ (
+      deliver (lent (hd tierLimits0 4 4 7 3 4 1000 1000 11 12 13 false false (mk 8 1)) tierSlots0 tierPostings0) (lent (hd storeLimits0 8 2 5 0 4 1000 1000 11 12 13 false false (mk 4 2)) storeSlots0 storePostings0) (mt 3 19),
+      record { answer = transfer-answer.Stopped; tier = lent (hd tierLimits0 4 4 7 3 4 1000 987 11 12 13 false false (mk 8 1)) tierSlots2 tierPostings0; store = lent (hd storeLimits0 8 2 5 0 4 1000 1000 11 12 13 false false (mk 4 2)) storeSlots2 storePostings0; meter = mt 19 19; ticks = 16; took = row (7 ∷ []) (150 ∷ []) ∷ []; evicts = false },
+    )
+    -- 17 ticks left: Stopped, 1 taken
+    ∷ (
+      deliver (lent (hd tierLimits0 4 4 7 3 4 1000 1000 11 12 13 false false (mk 8 1)) tierSlots0 tierPostings0) (lent (hd storeLimits0 8 2 5 0 4 1000 1000 11 12 13 false false (mk 4 2)) storeSlots0 storePostings0) (mt 3 20),
+      record { answer = transfer-answer.Stopped; tier = lent (hd tierLimits0 4 4 7 3 4 1000 986 11 12 13 false false (mk 8 1)) tierSlots2 tierPostings0; store = lent (hd storeLimits0 8 2 5 0 4 1000 1000 11 12 13 false false (mk 4 2)) storeSlots2 storePostings0; meter = mt 20 20; ticks = 17; took = row (7 ∷ []) (150 ∷ []) ∷ []; evicts = false },
+    )
+    -- 18 ticks left: Stopped, 1 taken
+    ∷ (
+      deliver (lent (hd tierLimits0 4 4 7 3 4 1000 1000 11 12 13 false false (mk 8 1)) tierSlots0 tierPostings0) (lent (hd storeLimits0 8 2 5 0 4 1000 1000 11 12 13 false false (mk 4 2)) storeSlots0 storePostings0) (mt 3 21),
+      record { answer = transfer-answer.Stopped; tier = lent (hd tierLimits0 4 4 7 3 4 1000 985 11 12 13 false false (mk 8 1)) tierSlots2 tierPostings0; store = lent (hd storeLimits0 8 2 5 0 4 1000 1000 11 12 13 false false (mk 4 2)) storeSlots2 storePostings0; meter = mt 21 21; ticks = 18; took = row (7 ∷ []) (150 ∷ []) ∷ []; evicts = false },
+    )
+    -- 19 ticks left: Stopped, 1 taken
+    ∷ (
+      deliver (lent (hd tierLimits0 4 4 7 3 4 1000 1000 11 12 13 false false (mk 8 1)) tierSlots0 tierPostings0) (lent (hd storeLimits0 8 2 5 0 4 1000 1000 11 12 13 false false (mk 4 2)) storeSlots0 storePostings0) (mt 3 22),
+      record { answer = transfer-answer.Stopped; tier = lent (hd tierLimits0 4 4 7 3 4 1000 984 11 12 13 false false (mk 8 1)) tierSlots2 tierPostings0; store = lent (hd storeLimits0 8 2 5 0 4 1000 1000 11 12 13 false false (mk 4 2)) storeSlots2 storePostings0; meter = mt 22 22; ticks = 19; took = row (7 ∷ []) (150 ∷ []) ∷ []; evicts = false },
+    )
+    -- 20 ticks left: Stopped, 1 taken
+    ∷ (
+      deliver (lent (hd tierLimits0 4 4 7 3 4 1000 1000 11 12 13 false false (mk 8 1)) tierSlots0 tierPostings0) (lent (hd storeLimits0 8 2 5 0 4 1000 1000 11 12 13 false false (mk 4 2)) storeSlots0 storePostings0) (mt 3 23),
+      record { answer = transfer-answer.Stopped; tier = lent (hd tierLimits0 4 4 7 3 4 1000 983 11 12 13 false false (mk 8 1)) tierSlots2 tierPostings0; store = lent (hd storeLimits0 8 2 5 0 4 1000 1000 11 12 13 false false (mk 4 2)) storeSlots2 storePostings0; meter = mt 23 23; ticks = 20; took = row (7 ∷ []) (150 ∷ []) ∷ []; evicts = false },
+    )
+    -- 21 ticks left: Stopped, 1 taken
+    ∷ (
+      deliver (lent (hd tierLimits0 4 4 7 3 4 1000 1000 11 12 13 false false (mk 8 1)) tierSlots0 tierPostings0) (lent (hd storeLimits0 8 2 5 0 4 1000 1000 11 12 13 false false (mk 4 2)) storeSlots0 storePostings0) (mt 3 24),
+      record { answer = transfer-answer.Stopped; tier = lent (hd tierLimits0 4 4 7 3 4 1000 982 11 12 13 false false (mk 8 1)) tierSlots2 tierPostings0; store = lent (hd storeLimits0 8 2 5 0 4 1000 1000 11 12 13 false false (mk 4 2)) storeSlots2 storePostings0; meter = mt 24 24; ticks = 21; took = row (7 ∷ []) (150 ∷ []) ∷ []; evicts = false },
+    )
+    -- 22 ticks left: Stopped, 1 taken
+    ∷ (
+      deliver (lent (hd tierLimits0 4 4 7 3 4 1000 1000 11 12 13 false false (mk 8 1)) tierSlots0 tierPostings0) (lent (hd storeLimits0 8 2 5 0 4 1000 1000 11 12 13 false false (mk 4 2)) storeSlots0 storePostings0) (mt 3 25),
+      record { answer = transfer-answer.Stopped; tier = lent (hd tierLimits0 4 4 7 3 4 1000 981 11 12 13 false false (mk 8 1)) tierSlots2 tierPostings0; store = lent (hd storeLimits0 8 2 5 0 4 1000 1000 11 12 13 false false (mk 4 2)) storeSlots2 storePostings0; meter = mt 25 25; ticks = 22; took = row (7 ∷ []) (150 ∷ []) ∷ []; evicts = false },
+    )
+    -- 23 ticks left: Stopped, 1 taken
+    ∷ (
+      deliver (lent (hd tierLimits0 4 4 7 3 4 1000 1000 11 12 13 false false (mk 8 1)) tierSlots0 tierPostings0) (lent (hd storeLimits0 8 2 5 0 4 1000 1000 11 12 13 false false (mk 4 2)) storeSlots0 storePostings0) (mt 3 26),
+      record { answer = transfer-answer.Stopped; tier = lent (hd tierLimits0 4 4 7 3 4 1000 980 11 12 13 false false (mk 8 1)) tierSlots2 tierPostings0; store = lent (hd storeLimits0 8 2 5 0 4 1000 1000 11 12 13 false false (mk 4 2)) storeSlots2 storePostings0; meter = mt 26 26; ticks = 23; took = row (7 ∷ []) (150 ∷ []) ∷ []; evicts = false },
+    )
+    -- 24 ticks left: Stopped, 1 taken
+    ∷ (
+      deliver (lent (hd tierLimits0 4 4 7 3 4 1000 1000 11 12 13 false false (mk 8 1)) tierSlots0 tierPostings0) (lent (hd storeLimits0 8 2 5 0 4 1000 1000 11 12 13 false false (mk 4 2)) storeSlots0 storePostings0) (mt 3 27),
+      record { answer = transfer-answer.Stopped; tier = lent (hd tierLimits0 4 4 7 3 4 1000 979 11 12 13 false false (mk 8 1)) tierSlots2 tierPostings0; store = lent (hd storeLimits0 8 2 5 0 4 1000 1000 11 12 13 false false (mk 4 2)) storeSlots2 storePostings0; meter = mt 27 27; ticks = 24; took = row (7 ∷ []) (150 ∷ []) ∷ []; evicts = false },
+    )
+    -- 25 ticks left: Stopped, 1 taken
+    ∷ (
+      deliver (lent (hd tierLimits0 4 4 7 3 4 1000 1000 11 12 13 false false (mk 8 1)) tierSlots0 tierPostings0) (lent (hd storeLimits0 8 2 5 0 4 1000 1000 11 12 13 false false (mk 4 2)) storeSlots0 storePostings0) (mt 3 28),
+      record { answer = transfer-answer.Stopped; tier = lent (hd tierLimits0 4 4 7 3 4 1000 978 11 12 13 false false (mk 8 1)) tierSlots2 tierPostings0; store = lent (hd storeLimits0 8 2 5 0 4 1000 1000 11 12 13 false false (mk 4 2)) storeSlots2 storePostings0; meter = mt 28 28; ticks = 25; took = row (7 ∷ []) (150 ∷ []) ∷ []; evicts = false },
+    )
+    -- 26 ticks left: Stopped, 1 taken
+    ∷ (
+      deliver (lent (hd tierLimits0 4 4 7 3 4 1000 1000 11 12 13 false false (mk 8 1)) tierSlots0 tierPostings0) (lent (hd storeLimits0 8 2 5 0 4 1000 1000 11 12 13 false false (mk 4 2)) storeSlots0 storePostings0) (mt 3 29),
+      record { answer = transfer-answer.Stopped; tier = lent (hd tierLimits0 4 4 7 3 4 1000 977 11 12 13 false false (mk 8 1)) tierSlots2 tierPostings0; store = lent (hd storeLimits0 8 2 5 0 4 1000 1000 11 12 13 false false (mk 4 2)) storeSlots2 storePostings0; meter = mt 29 29; ticks = 26; took = row (7 ∷ []) (150 ∷ []) ∷ []; evicts = false },
+    )
+    -- 27 ticks left: Stopped, 1 taken
+    ∷ (
+      deliver (lent (hd tierLimits0 4 4 7 3 4 1000 1000 11 12 13 false false (mk 8 1)) tierSlots0 tierPostings0) (lent (hd storeLimits0 8 2 5 0 4 1000 1000 11 12 13 false false (mk 4 2)) storeSlots0 storePostings0) (mt 3 30),
+      record { answer = transfer-answer.Stopped; tier = lent (hd tierLimits0 4 4 7 3 4 1000 976 11 12 13 false false (mk 8 1)) tierSlots2 tierPostings0; store = lent (hd storeLimits0 8 2 5 0 4 1000 1000 11 12 13 false false (mk 4 2)) storeSlots2 storePostings0; meter = mt 30 30; ticks = 27; took = row (7 ∷ []) (150 ∷ []) ∷ []; evicts = false },
+    )
+    -- 28 ticks left: Stopped, 1 taken
+    ∷ (
+      deliver (lent (hd tierLimits0 4 4 7 3 4 1000 1000 11 12 13 false false (mk 8 1)) tierSlots0 tierPostings0) (lent (hd storeLimits0 8 2 5 0 4 1000 1000 11 12 13 false false (mk 4 2)) storeSlots0 storePostings0) (mt 3 31),
+      record { answer = transfer-answer.Stopped; tier = lent (hd tierLimits0 4 4 7 3 4 1000 975 11 12 13 false false (mk 8 1)) tierSlots2 tierPostings0; store = lent (hd storeLimits0 8 2 5 0 4 1000 1000 11 12 13 false false (mk 4 2)) storeSlots2 storePostings0; meter = mt 31 31; ticks = 28; took = row (7 ∷ []) (150 ∷ []) ∷ []; evicts = false },
+    )
+    -- 29 ticks left: Stopped, 1 taken
+    ∷ (
+      deliver (lent (hd tierLimits0 4 4 7 3 4 1000 1000 11 12 13 false false (mk 8 1)) tierSlots0 tierPostings0) (lent (hd storeLimits0 8 2 5 0 4 1000 1000 11 12 13 false false (mk 4 2)) storeSlots0 storePostings0) (mt 3 32),
+      record { answer = transfer-answer.Stopped; tier = lent (hd tierLimits0 4 4 7 3 4 1000 974 11 12 13 false false (mk 8 1)) tierSlots2 tierPostings0; store = lent (hd storeLimits0 8 2 5 0 4 1000 1000 11 12 13 false false (mk 4 2)) storeSlots2 storePostings0; meter = mt 32 32; ticks = 29; took = row (7 ∷ []) (150 ∷ []) ∷ []; evicts = false },
+    )
+    -- 30 ticks left: Stopped, 1 taken
+    ∷ (
+      deliver (lent (hd tierLimits0 4 4 7 3 4 1000 1000 11 12 13 false false (mk 8 1)) tierSlots0 tierPostings0) (lent (hd storeLimits0 8 2 5 0 4 1000 1000 11 12 13 false false (mk 4 2)) storeSlots0 storePostings0) (mt 3 33),
+      record { answer = transfer-answer.Stopped; tier = lent (hd tierLimits0 4 4 7 3 4 1000 973 11 12 13 false false (mk 8 1)) tierSlots2 tierPostings0; store = lent (hd storeLimits0 8 2 5 0 4 1000 1000 11 12 13 false false (mk 4 2)) storeSlots2 storePostings0; meter = mt 33 33; ticks = 30; took = row (7 ∷ []) (150 ∷ []) ∷ []; evicts = false },
+    )
+    -- 31 ticks left: Stopped, 1 taken
+    ∷ (
+      deliver (lent (hd tierLimits0 4 4 7 3 4 1000 1000 11 12 13 false false (mk 8 1)) tierSlots0 tierPostings0) (lent (hd storeLimits0 8 2 5 0 4 1000 1000 11 12 13 false false (mk 4 2)) storeSlots0 storePostings0) (mt 3 34),
+      record { answer = transfer-answer.Stopped; tier = lent (hd tierLimits0 4 4 7 3 4 1000 972 11 12 13 false false (mk 8 1)) tierSlots2 tierPostings0; store = lent (hd storeLimits0 8 2 5 0 4 1000 1000 11 12 13 false false (mk 4 2)) storeSlots2 storePostings0; meter = mt 34 34; ticks = 31; took = row (7 ∷ []) (150 ∷ []) ∷ []; evicts = false },
+    )
+    -- 32 ticks left: Stopped, 1 taken
+    ∷ (
+      deliver (lent (hd tierLimits0 4 4 7 3 4 1000 1000 11 12 13 false false (mk 8 1)) tierSlots0 tierPostings0) (lent (hd storeLimits0 8 2 5 0 4 1000 1000 11 12 13 false false (mk 4 2)) storeSlots0 storePostings0) (mt 3 35),
+      record { answer = transfer-answer.Stopped; tier = lent (hd tierLimits0 4 4 7 3 4 1000 971 11 12 13 false false (mk 8 1)) tierSlots2 tierPostings0; store = lent (hd storeLimits0 8 2 5 0 4 1000 1000 11 12 13 false false (mk 4 2)) storeSlots2 storePostings0; meter = mt 35 35; ticks = 32; took = row (7 ∷ []) (150 ∷ []) ∷ []; evicts = false },
+    )
+    -- 33 ticks left: Stopped, 1 taken
+    ∷ (
+      deliver (lent (hd tierLimits0 4 4 7 3 4 1000 1000 11 12 13 false false (mk 8 1)) tierSlots0 tierPostings0) (lent (hd storeLimits0 8 2 5 0 4 1000 1000 11 12 13 false false (mk 4 2)) storeSlots0 storePostings0) (mt 3 36),
+      record { answer = transfer-answer.Stopped; tier = lent (hd tierLimits0 4 4 7 3 4 1000 970 11 12 13 false false (mk 8 1)) tierSlots2 tierPostings0; store = lent (hd storeLimits0 8 2 5 0 4 1000 1000 11 12 13 false false (mk 4 2)) storeSlots2 storePostings0; meter = mt 36 36; ticks = 33; took = row (7 ∷ []) (150 ∷ []) ∷ []; evicts = false },
+    )
+    -- 34 ticks left: Stopped, 1 taken
+    ∷ (
+      deliver (lent (hd tierLimits0 4 4 7 3 4 1000 1000 11 12 13 false false (mk 8 1)) tierSlots0 tierPostings0) (lent (hd storeLimits0 8 2 5 0 4 1000 1000 11 12 13 false false (mk 4 2)) storeSlots0 storePostings0) (mt 3 37),
+      record { answer = transfer-answer.Stopped; tier = lent (hd tierLimits0 4 4 7 3 4 1000 969 11 12 13 false false (mk 8 1)) tierSlots2 tierPostings0; store = lent (hd storeLimits0 8 2 5 0 4 1000 1000 11 12 13 false false (mk 4 2)) storeSlots2 storePostings0; meter = mt 37 37; ticks = 34; took = row (7 ∷ []) (150 ∷ []) ∷ []; evicts = false },
+    )
+    -- 35 ticks left: Stopped, 1 taken
+    ∷ (
+      deliver (lent (hd tierLimits0 4 4 7 3 4 1000 1000 11 12 13 false false (mk 8 1)) tierSlots0 tierPostings0) (lent (hd storeLimits0 8 2 5 0 4 1000 1000 11 12 13 false false (mk 4 2)) storeSlots0 storePostings0) (mt 3 38),
+      record { answer = transfer-answer.Stopped; tier = lent (hd tierLimits0 4 4 7 3 4 1000 968 11 12 13 false false (mk 8 1)) tierSlots2 tierPostings0; store = lent (hd storeLimits0 8 2 5 0 4 1000 1000 11 12 13 false false (mk 4 2)) storeSlots2 storePostings0; meter = mt 38 38; ticks = 35; took = row (7 ∷ []) (150 ∷ []) ∷ []; evicts = false },
+    )
+    -- 36 ticks left: Stopped, 1 taken
+    ∷ (
+      deliver (lent (hd tierLimits0 4 4 7 3 4 1000 1000 11 12 13 false false (mk 8 1)) tierSlots0 tierPostings0) (lent (hd storeLimits0 8 2 5 0 4 1000 1000 11 12 13 false false (mk 4 2)) storeSlots0 storePostings0) (mt 3 39),
+      record { answer = transfer-answer.Stopped; tier = lent (hd tierLimits0 4 4 7 3 4 1000 967 11 12 13 false false (mk 8 1)) tierSlots2 tierPostings0; store = lent (hd storeLimits0 8 2 5 0 4 1000 1000 11 12 13 false false (mk 4 2)) storeSlots2 storePostings0; meter = mt 39 39; ticks = 36; took = row (7 ∷ []) (150 ∷ []) ∷ []; evicts = false },
+    )
+    -- 37 ticks left: Stopped, 1 taken
+    ∷ (
+      deliver (lent (hd tierLimits0 4 4 7 3 4 1000 1000 11 12 13 false false (mk 8 1)) tierSlots0 tierPostings0) (lent (hd storeLimits0 8 2 5 0 4 1000 1000 11 12 13 false false (mk 4 2)) storeSlots0 storePostings0) (mt 3 40),
+      record { answer = transfer-answer.Stopped; tier = lent (hd tierLimits0 4 4 7 3 4 1000 966 11 12 13 false false (mk 8 1)) tierSlots2 tierPostings0; store = lent (hd storeLimits0 8 2 5 0 4 1000 1000 11 12 13 false false (mk 4 2)) storeSlots2 storePostings0; meter = mt 40 40; ticks = 37; took = row (7 ∷ []) (150 ∷ []) ∷ []; evicts = false },
+    )
+    -- 38 ticks left: Stopped, 1 taken
+    ∷ (
+      deliver (lent (hd tierLimits0 4 4 7 3 4 1000 1000 11 12 13 false false (mk 8 1)) tierSlots0 tierPostings0) (lent (hd storeLimits0 8 2 5 0 4 1000 1000 11 12 13 false false (mk 4 2)) storeSlots0 storePostings0) (mt 3 41),
+      record { answer = transfer-answer.Stopped; tier = lent (hd tierLimits0 4 4 7 3 4 1000 965 11 12 13 false false (mk 8 1)) tierSlots2 tierPostings0; store = lent (hd storeLimits0 8 2 5 0 4 1000 1000 11 12 13 false false (mk 4 2)) storeSlots2 storePostings0; meter = mt 41 41; ticks = 38; took = row (7 ∷ []) (150 ∷ []) ∷ []; evicts = false },
+    )
+    -- 39 ticks left: Stopped, 1 taken
+    ∷ (
+      deliver (lent (hd tierLimits0 4 4 7 3 4 1000 1000 11 12 13 false false (mk 8 1)) tierSlots0 tierPostings0) (lent (hd storeLimits0 8 2 5 0 4 1000 1000 11 12 13 false false (mk 4 2)) storeSlots0 storePostings0) (mt 3 42),
+      record { answer = transfer-answer.Stopped; tier = lent (hd tierLimits0 4 4 7 3 4 1000 964 11 12 13 false false (mk 8 1)) tierSlots2 tierPostings0; store = lent (hd storeLimits0 8 2 5 0 4 1000 1000 11 12 13 false false (mk 4 2)) storeSlots2 storePostings0; meter = mt 42 42; ticks = 39; took = row (7 ∷ []) (150 ∷ []) ∷ []; evicts = false },
+    )
+    -- 40 ticks left: Stopped, 1 taken
+    ∷ (
+      deliver (lent (hd tierLimits0 4 4 7 3 4 1000 1000 11 12 13 false false (mk 8 1)) tierSlots0 tierPostings0) (lent (hd storeLimits0 8 2 5 0 4 1000 1000 11 12 13 false false (mk 4 2)) storeSlots0 storePostings0) (mt 3 43),
+      record { answer = transfer-answer.Stopped; tier = lent (hd tierLimits0 4 4 7 3 4 1000 963 11 12 13 false false (mk 8 1)) tierSlots2 tierPostings0; store = lent (hd storeLimits0 8 2 5 0 4 1000 1000 11 12 13 false false (mk 4 2)) storeSlots2 storePostings0; meter = mt 43 43; ticks = 40; took = row (7 ∷ []) (150 ∷ []) ∷ []; evicts = false },
+    )
+    -- 41 ticks left: Stopped, 1 taken
+    ∷ (
+      deliver (lent (hd tierLimits0 4 4 7 3 4 1000 1000 11 12 13 false false (mk 8 1)) tierSlots0 tierPostings0) (lent (hd storeLimits0 8 2 5 0 4 1000 1000 11 12 13 false false (mk 4 2)) storeSlots0 storePostings0) (mt 3 44),
+      record { answer = transfer-answer.Stopped; tier = lent (hd tierLimits0 4 4 7 3 4 1000 962 11 12 13 false false (mk 8 1)) tierSlots2 tierPostings0; store = lent (hd storeLimits0 8 2 5 0 4 1000 1000 11 12 13 false false (mk 4 2)) storeSlots2 storePostings0; meter = mt 44 44; ticks = 41; took = row (7 ∷ []) (150 ∷ []) ∷ []; evicts = false },
+    )
+    -- 42 ticks left: Stopped, 2 taken
+    ∷ (
+      deliver (lent (hd tierLimits0 4 4 7 3 4 1000 1000 11 12 13 false false (mk 8 1)) tierSlots0 tierPostings0) (lent (hd storeLimits0 8 2 5 0 4 1000 1000 11 12 13 false false (mk 4 2)) storeSlots0 storePostings0) (mt 3 45),
+      record { answer = transfer-answer.Stopped; tier = lent (hd tierLimits0 4 4 7 3 4 1000 961 11 12 13 false false (mk 8 1)) tierSlots3 tierPostings0; store = lent (hd storeLimits0 8 2 6 1 4 1000 1000 11 13 13 true true (mk 4 2)) storeSlots3 (zs 160 []); meter = mt 45 45; ticks = 42; took = row (11 ∷ []) (158 ∷ []) ∷ row (7 ∷ []) (150 ∷ []) ∷ []; evicts = false },
+    )
+    -- 43 ticks left: Stopped, 2 taken
+    ∷ (
+      deliver (lent (hd tierLimits0 4 4 7 3 4 1000 1000 11 12 13 false false (mk 8 1)) tierSlots0 tierPostings0) (lent (hd storeLimits0 8 2 5 0 4 1000 1000 11 12 13 false false (mk 4 2)) storeSlots0 storePostings0) (mt 3 46),
+      record { answer = transfer-answer.Stopped; tier = lent (hd tierLimits0 4 4 7 3 4 1000 961 11 12 13 false false (mk 8 1)) tierSlots3 tierPostings0; store = lent (hd storeLimits0 8 2 6 1 4 1000 1000 11 13 13 true true (mk 4 2)) storeSlots3 (zs 160 []); meter = mt 46 46; ticks = 43; took = row (11 ∷ []) (158 ∷ []) ∷ row (7 ∷ []) (150 ∷ []) ∷ []; evicts = false },
+    )
+    -- 44 ticks left: Stopped, 2 taken
+    ∷ (
+      deliver (lent (hd tierLimits0 4 4 7 3 4 1000 1000 11 12 13 false false (mk 8 1)) tierSlots0 tierPostings0) (lent (hd storeLimits0 8 2 5 0 4 1000 1000 11 12 13 false false (mk 4 2)) storeSlots0 storePostings0) (mt 3 47),
+      record { answer = transfer-answer.Stopped; tier = lent (hd tierLimits0 4 4 7 3 4 1000 960 11 12 13 false false (mk 8 1)) tierSlots3 tierPostings0; store = lent (hd storeLimits0 8 2 6 1 4 1000 1000 11 13 13 true true (mk 4 2)) storeSlots3 (zs 160 []); meter = mt 47 47; ticks = 44; took = row (11 ∷ []) (158 ∷ []) ∷ row (7 ∷ []) (150 ∷ []) ∷ []; evicts = false },
+    )
+    -- 45 ticks left: Stopped, 2 taken
+    ∷ (
+      deliver (lent (hd tierLimits0 4 4 7 3 4 1000 1000 11 12 13 false false (mk 8 1)) tierSlots0 tierPostings0) (lent (hd storeLimits0 8 2 5 0 4 1000 1000 11 12 13 false false (mk 4 2)) storeSlots0 storePostings0) (mt 3 48),
+      record { answer = transfer-answer.Stopped; tier = lent (hd tierLimits0 4 4 7 3 4 1000 959 11 12 13 false false (mk 8 1)) tierSlots3 tierPostings0; store = lent (hd storeLimits0 8 2 6 1 4 1000 1000 11 13 13 true true (mk 4 2)) storeSlots3 (zs 160 []); meter = mt 48 48; ticks = 45; took = row (11 ∷ []) (158 ∷ []) ∷ row (7 ∷ []) (150 ∷ []) ∷ []; evicts = false },
+    )
+    -- 46 ticks left: Stopped, 2 taken
+    ∷ (
+      deliver (lent (hd tierLimits0 4 4 7 3 4 1000 1000 11 12 13 false false (mk 8 1)) tierSlots0 tierPostings0) (lent (hd storeLimits0 8 2 5 0 4 1000 1000 11 12 13 false false (mk 4 2)) storeSlots0 storePostings0) (mt 3 49),
+      record { answer = transfer-answer.Stopped; tier = lent (hd tierLimits0 4 4 7 3 4 1000 958 11 12 13 false false (mk 8 1)) tierSlots3 tierPostings0; store = lent (hd storeLimits0 8 2 6 1 4 1000 1000 11 13 13 true true (mk 4 2)) storeSlots3 (zs 160 []); meter = mt 49 49; ticks = 46; took = row (11 ∷ []) (158 ∷ []) ∷ row (7 ∷ []) (150 ∷ []) ∷ []; evicts = false },
+    )
+    -- 47 ticks left: Stopped, 2 taken
+    ∷ (
+      deliver (lent (hd tierLimits0 4 4 7 3 4 1000 1000 11 12 13 false false (mk 8 1)) tierSlots0 tierPostings0) (lent (hd storeLimits0 8 2 5 0 4 1000 1000 11 12 13 false false (mk 4 2)) storeSlots0 storePostings0) (mt 3 50),
+      record { answer = transfer-answer.Stopped; tier = lent (hd tierLimits0 4 4 7 3 4 1000 957 11 12 13 false false (mk 8 1)) tierSlots3 tierPostings0; store = lent (hd storeLimits0 8 2 6 1 4 1000 1000 11 13 13 true true (mk 4 2)) storeSlots3 (zs 160 []); meter = mt 50 50; ticks = 47; took = row (11 ∷ []) (158 ∷ []) ∷ row (7 ∷ []) (150 ∷ []) ∷ []; evicts = false },
+    )
+    -- 48 ticks left: Stopped, 2 taken
+    ∷ (
+      deliver (lent (hd tierLimits0 4 4 7 3 4 1000 1000 11 12 13 false false (mk 8 1)) tierSlots0 tierPostings0) (lent (hd storeLimits0 8 2 5 0 4 1000 1000 11 12 13 false false (mk 4 2)) storeSlots0 storePostings0) (mt 3 51),
+      record { answer = transfer-answer.Stopped; tier = lent (hd tierLimits0 4 4 7 3 4 1000 956 11 12 13 false false (mk 8 1)) tierSlots3 tierPostings0; store = lent (hd storeLimits0 8 2 6 1 4 1000 1000 11 13 13 true true (mk 4 2)) storeSlots3 (zs 160 []); meter = mt 51 51; ticks = 48; took = row (11 ∷ []) (158 ∷ []) ∷ row (7 ∷ []) (150 ∷ []) ∷ []; evicts = false },
+    )
+    -- 49 ticks left: Stopped, 2 taken
+    ∷ (
+      deliver (lent (hd tierLimits0 4 4 7 3 4 1000 1000 11 12 13 false false (mk 8 1)) tierSlots0 tierPostings0) (lent (hd storeLimits0 8 2 5 0 4 1000 1000 11 12 13 false false (mk 4 2)) storeSlots0 storePostings0) (mt 3 52),
+      record { answer = transfer-answer.Stopped; tier = lent (hd tierLimits0 4 4 7 3 4 1000 955 11 12 13 false false (mk 8 1)) tierSlots3 tierPostings0; store = lent (hd storeLimits0 8 2 6 1 4 1000 1000 11 13 13 true true (mk 4 2)) storeSlots3 (zs 160 []); meter = mt 52 52; ticks = 49; took = row (11 ∷ []) (158 ∷ []) ∷ row (7 ∷ []) (150 ∷ []) ∷ []; evicts = false },
+    )
+    -- 50 ticks left: Stopped, 2 taken
+    ∷ (
+      deliver (lent (hd tierLimits0 4 4 7 3 4 1000 1000 11 12 13 false false (mk 8 1)) tierSlots0 tierPostings0) (lent (hd storeLimits0 8 2 5 0 4 1000 1000 11 12 13 false false (mk 4 2)) storeSlots0 storePostings0) (mt 3 53),
+      record { answer = transfer-answer.Stopped; tier = lent (hd tierLimits0 4 4 7 3 4 1000 954 11 12 13 false false (mk 8 1)) tierSlots3 tierPostings0; store = lent (hd storeLimits0 8 2 6 1 4 1000 1000 11 13 13 true true (mk 4 2)) storeSlots3 (zs 160 []); meter = mt 53 53; ticks = 50; took = row (11 ∷ []) (158 ∷ []) ∷ row (7 ∷ []) (150 ∷ []) ∷ []; evicts = false },
+    )
+    -- 51 ticks left: Stopped, 2 taken
+    ∷ (
+      deliver (lent (hd tierLimits0 4 4 7 3 4 1000 1000 11 12 13 false false (mk 8 1)) tierSlots0 tierPostings0) (lent (hd storeLimits0 8 2 5 0 4 1000 1000 11 12 13 false false (mk 4 2)) storeSlots0 storePostings0) (mt 3 54),
+      record { answer = transfer-answer.Stopped; tier = lent (hd tierLimits0 4 4 7 3 4 1000 953 11 12 13 false false (mk 8 1)) tierSlots3 tierPostings0; store = lent (hd storeLimits0 8 2 6 1 4 1000 1000 11 13 13 true true (mk 4 2)) storeSlots3 (zs 160 []); meter = mt 54 54; ticks = 51; took = row (11 ∷ []) (158 ∷ []) ∷ row (7 ∷ []) (150 ∷ []) ∷ []; evicts = false },
+    )
+    -- 52 ticks left: Stopped, 2 taken
+    ∷ (
+      deliver (lent (hd tierLimits0 4 4 7 3 4 1000 1000 11 12 13 false false (mk 8 1)) tierSlots0 tierPostings0) (lent (hd storeLimits0 8 2 5 0 4 1000 1000 11 12 13 false false (mk 4 2)) storeSlots0 storePostings0) (mt 3 55),
+      record { answer = transfer-answer.Stopped; tier = lent (hd tierLimits0 4 4 7 3 4 1000 952 11 12 13 false false (mk 8 1)) tierSlots3 tierPostings0; store = lent (hd storeLimits0 8 2 6 1 4 1000 1000 11 13 13 true true (mk 4 2)) storeSlots3 (zs 160 []); meter = mt 55 55; ticks = 52; took = row (11 ∷ []) (158 ∷ []) ∷ row (7 ∷ []) (150 ∷ []) ∷ []; evicts = false },
+    )
+    -- 53 ticks left: Stopped, 2 taken
+    ∷ (
+      deliver (lent (hd tierLimits0 4 4 7 3 4 1000 1000 11 12 13 false false (mk 8 1)) tierSlots0 tierPostings0) (lent (hd storeLimits0 8 2 5 0 4 1000 1000 11 12 13 false false (mk 4 2)) storeSlots0 storePostings0) (mt 3 56),
+      record { answer = transfer-answer.Stopped; tier = lent (hd tierLimits0 4 4 7 3 4 1000 951 11 12 13 false false (mk 8 1)) tierSlots3 tierPostings0; store = lent (hd storeLimits0 8 2 6 1 4 1000 1000 11 13 13 true true (mk 4 2)) storeSlots3 (zs 160 []); meter = mt 56 56; ticks = 53; took = row (11 ∷ []) (158 ∷ []) ∷ row (7 ∷ []) (150 ∷ []) ∷ []; evicts = false },
+    )
+    -- 54 ticks left: Stopped, 2 taken
+    ∷ (
+      deliver (lent (hd tierLimits0 4 4 7 3 4 1000 1000 11 12 13 false false (mk 8 1)) tierSlots0 tierPostings0) (lent (hd storeLimits0 8 2 5 0 4 1000 1000 11 12 13 false false (mk 4 2)) storeSlots0 storePostings0) (mt 3 57),
+      record { answer = transfer-answer.Stopped; tier = lent (hd tierLimits0 4 4 7 3 4 1000 950 11 12 13 false false (mk 8 1)) tierSlots3 tierPostings0; store = lent (hd storeLimits0 8 2 6 1 4 1000 1000 11 13 13 true true (mk 4 2)) storeSlots3 (zs 160 []); meter = mt 57 57; ticks = 54; took = row (11 ∷ []) (158 ∷ []) ∷ row (7 ∷ []) (150 ∷ []) ∷ []; evicts = false },
+    )
+    -- 55 ticks left: Stopped, 2 taken
+    ∷ (
+      deliver (lent (hd tierLimits0 4 4 7 3 4 1000 1000 11 12 13 false false (mk 8 1)) tierSlots0 tierPostings0) (lent (hd storeLimits0 8 2 5 0 4 1000 1000 11 12 13 false false (mk 4 2)) storeSlots0 storePostings0) (mt 3 58),
+      record { answer = transfer-answer.Stopped; tier = lent (hd tierLimits0 4 4 7 3 4 1000 949 11 12 13 false false (mk 8 1)) tierSlots3 tierPostings0; store = lent (hd storeLimits0 8 2 6 1 4 1000 1000 11 13 13 true true (mk 4 2)) storeSlots3 (zs 160 []); meter = mt 58 58; ticks = 55; took = row (11 ∷ []) (158 ∷ []) ∷ row (7 ∷ []) (150 ∷ []) ∷ []; evicts = false },
+    )
+    -- 56 ticks left: Stopped, 2 taken
+    ∷ (
+      deliver (lent (hd tierLimits0 4 4 7 3 4 1000 1000 11 12 13 false false (mk 8 1)) tierSlots0 tierPostings0) (lent (hd storeLimits0 8 2 5 0 4 1000 1000 11 12 13 false false (mk 4 2)) storeSlots0 storePostings0) (mt 3 59),
+      record { answer = transfer-answer.Stopped; tier = lent (hd tierLimits0 4 4 7 3 4 1000 948 11 12 13 false false (mk 8 1)) tierSlots3 tierPostings0; store = lent (hd storeLimits0 8 2 6 1 4 1000 1000 11 13 13 true true (mk 4 2)) storeSlots3 (zs 160 []); meter = mt 59 59; ticks = 56; took = row (11 ∷ []) (158 ∷ []) ∷ row (7 ∷ []) (150 ∷ []) ∷ []; evicts = false },
+    )
+    -- 57 ticks left: Stopped, 2 taken
+    ∷ (
+      deliver (lent (hd tierLimits0 4 4 7 3 4 1000 1000 11 12 13 false false (mk 8 1)) tierSlots0 tierPostings0) (lent (hd storeLimits0 8 2 5 0 4 1000 1000 11 12 13 false false (mk 4 2)) storeSlots0 storePostings0) (mt 3 60),
+      record { answer = transfer-answer.Stopped; tier = lent (hd tierLimits0 4 4 7 3 4 1000 947 11 12 13 false false (mk 8 1)) tierSlots3 tierPostings0; store = lent (hd storeLimits0 8 2 6 1 4 1000 1000 11 13 13 true true (mk 4 2)) storeSlots3 (zs 160 []); meter = mt 60 60; ticks = 57; took = row (11 ∷ []) (158 ∷ []) ∷ row (7 ∷ []) (150 ∷ []) ∷ []; evicts = false },
+    )
+    -- 58 ticks left: Done, 3 taken
+    ∷ (
+      deliver (lent (hd tierLimits0 4 4 7 3 4 1000 1000 11 12 13 false false (mk 8 1)) tierSlots0 tierPostings0) (lent (hd storeLimits0 8 2 5 0 4 1000 1000 11 12 13 false false (mk 4 2)) storeSlots0 storePostings0) (mt 3 61),
+      record { answer = transfer-answer.Done; tier = lent (hd tierLimits0 4 4 7 3 4 1000 946 11 12 13 false false (mk 8 1)) tierSlots1 tierPostings0; store = lent (hd storeLimits0 8 2 7 0 4 1000 1000 12 14 13 true true (mk 4 2)) storeSlots1 (zs 160 []); meter = mt 61 61; ticks = 58; took = row (13 ∷ []) (20 ∷ []) ∷ row (11 ∷ []) (158 ∷ []) ∷ row (7 ∷ []) (150 ∷ []) ∷ []; evicts = true },
+    )
+    -- 59 ticks left: Done, 3 taken
+    ∷ (
+      deliver (lent (hd tierLimits0 4 4 7 3 4 1000 1000 11 12 13 false false (mk 8 1)) tierSlots0 tierPostings0) (lent (hd storeLimits0 8 2 5 0 4 1000 1000 11 12 13 false false (mk 4 2)) storeSlots0 storePostings0) (mt 3 62),
+      record { answer = transfer-answer.Done; tier = lent (hd tierLimits0 4 4 7 3 4 1000 946 11 12 13 false false (mk 8 1)) tierSlots1 tierPostings0; store = lent (hd storeLimits0 8 2 7 0 4 1000 1000 12 14 13 true true (mk 4 2)) storeSlots1 (zs 160 []); meter = mt 61 62; ticks = 58; took = row (13 ∷ []) (20 ∷ []) ∷ row (11 ∷ []) (158 ∷ []) ∷ row (7 ∷ []) (150 ∷ []) ∷ []; evicts = true },
+    )
+    ∷ [])
+unfolding opened
+limit = refl
+
+both : Agree TransferEnd (
+    -- account 0 and 0 ticks, both used up: Stopped, 0 taken
+    (
+      deliver (lent (hd tierLimits0 4 4 7 3 4 1000 0 11 12 13 false false (mk 8 1)) tierSlots0 tierPostings0) (lent (hd storeLimits0 8 2 5 0 4 1000 1000 11 12 13 false false (mk 4 2)) storeSlots0 storePostings0) (mt 0 0),
+      record { answer = transfer-answer.Stopped; tier = lent (hd tierLimits0 4 4 7 3 4 1000 0 11 12 13 false false (mk 8 1)) tierSlots0 tierPostings0; store = lent (hd storeLimits0 8 2 5 0 4 1000 1000 11 12 13 false false (mk 4 2)) storeSlots0 storePostings0; meter = mt 0 0; ticks = 0; took = []; evicts = false },
+    )
+    -- account 0 and 1 ticks, both used up: Done, 0 taken
+    ∷ (
+      deliver (lent (hd tierLimits0 4 4 7 3 4 1000 0 11 12 13 false false (mk 8 1)) tierSlots0 tierPostings0) (lent (hd storeLimits0 8 2 5 0 4 1000 1000 11 12 13 false false (mk 4 2)) storeSlots0 storePostings0) (mt 0 1),
+      record { answer = transfer-answer.Done; tier = lent (hd tierLimits0 4 4 7 3 4 1000 0 11 12 13 false false (mk 8 1)) tierSlots0 tierPostings0; store = lent (hd storeLimits0 8 2 5 0 4 1000 1000 11 12 13 false false (mk 4 2)) storeSlots0 storePostings0; meter = mt 1 1; ticks = 1; took = []; evicts = false },
+    )
+    -- account 1 and 2 ticks, both used up: Done, 0 taken
+    ∷ (
+      deliver (lent (hd tierLimits0 4 4 7 3 4 1000 1 11 12 13 false false (mk 8 1)) tierSlots0 tierPostings0) (lent (hd storeLimits0 8 2 5 0 4 1000 1000 11 12 13 false false (mk 4 2)) storeSlots0 storePostings0) (mt 0 2),
+      record { answer = transfer-answer.Done; tier = lent (hd tierLimits0 4 4 7 3 4 1000 0 11 12 13 false false (mk 8 1)) tierSlots0 tierPostings0; store = lent (hd storeLimits0 8 2 5 0 4 1000 1000 11 12 13 false false (mk 4 2)) storeSlots0 storePostings0; meter = mt 2 2; ticks = 2; took = []; evicts = false },
+    )
+    -- account 2 and 3 ticks, both used up: Done, 0 taken
+    ∷ (
+      deliver (lent (hd tierLimits0 4 4 7 3 4 1000 2 11 12 13 false false (mk 8 1)) tierSlots0 tierPostings0) (lent (hd storeLimits0 8 2 5 0 4 1000 1000 11 12 13 false false (mk 4 2)) storeSlots0 storePostings0) (mt 0 3),
+      record { answer = transfer-answer.Done; tier = lent (hd tierLimits0 4 4 7 3 4 1000 0 11 12 13 false false (mk 8 1)) tierSlots0 tierPostings0; store = lent (hd storeLimits0 8 2 5 0 4 1000 1000 11 12 13 false false (mk 4 2)) storeSlots0 storePostings0; meter = mt 3 3; ticks = 3; took = []; evicts = false },
+    )
+    -- account 3 and 4 ticks, both used up: Done, 0 taken
+    ∷ (
+      deliver (lent (hd tierLimits0 4 4 7 3 4 1000 3 11 12 13 false false (mk 8 1)) tierSlots0 tierPostings0) (lent (hd storeLimits0 8 2 5 0 4 1000 1000 11 12 13 false false (mk 4 2)) storeSlots0 storePostings0) (mt 0 4),
+      record { answer = transfer-answer.Done; tier = lent (hd tierLimits0 4 4 7 3 4 1000 0 11 12 13 false false (mk 8 1)) tierSlots0 tierPostings0; store = lent (hd storeLimits0 8 2 5 0 4 1000 1000 11 12 13 false false (mk 4 2)) storeSlots0 storePostings0; meter = mt 4 4; ticks = 4; took = []; evicts = false },
+    )
+    -- account 4 and 5 ticks, both used up: Done, 0 taken
+    ∷ (
+      deliver (lent (hd tierLimits0 4 4 7 3 4 1000 4 11 12 13 false false (mk 8 1)) tierSlots0 tierPostings0) (lent (hd storeLimits0 8 2 5 0 4 1000 1000 11 12 13 false false (mk 4 2)) storeSlots0 storePostings0) (mt 0 5),
+      record { answer = transfer-answer.Done; tier = lent (hd tierLimits0 4 4 7 3 4 1000 0 11 12 13 false false (mk 8 1)) tierSlots0 tierPostings0; store = lent (hd storeLimits0 8 2 5 0 4 1000 1000 11 12 13 false false (mk 4 2)) storeSlots0 storePostings0; meter = mt 5 5; ticks = 5; took = []; evicts = false },
+    )
+    -- account 5 and 6 ticks, both used up: Done, 0 taken
+    ∷ (
+      deliver (lent (hd tierLimits0 4 4 7 3 4 1000 5 11 12 13 false false (mk 8 1)) tierSlots0 tierPostings0) (lent (hd storeLimits0 8 2 5 0 4 1000 1000 11 12 13 false false (mk 4 2)) storeSlots0 storePostings0) (mt 0 6),
+      record { answer = transfer-answer.Done; tier = lent (hd tierLimits0 4 4 7 3 4 1000 0 11 12 13 false false (mk 8 1)) tierSlots0 tierPostings0; store = lent (hd storeLimits0 8 2 5 0 4 1000 1000 11 12 13 false false (mk 4 2)) storeSlots0 storePostings0; meter = mt 6 6; ticks = 6; took = []; evicts = false },
+    )
+    -- account 6 and 7 ticks, both used up: Done, 0 taken
+    ∷ (
+      deliver (lent (hd tierLimits0 4 4 7 3 4 1000 6 11 12 13 false false (mk 8 1)) tierSlots0 tierPostings0) (lent (hd storeLimits0 8 2 5 0 4 1000 1000 11 12 13 false false (mk 4 2)) storeSlots0 storePostings0) (mt 0 7),
+      record { answer = transfer-answer.Done; tier = lent (hd tierLimits0 4 4 7 3 4 1000 0 11 12 13 false false (mk 8 1)) tierSlots0 tierPostings0; store = lent (hd storeLimits0 8 2 5 0 4 1000 1000 11 12 13 false false (mk 4 2)) storeSlots0 storePostings0; meter = mt 7 7; ticks = 7; took = []; evicts = false },
+    )
+    -- account 7 and 8 ticks, both used up: Stopped, 1 taken
+    ∷ (
+      deliver (lent (hd tierLimits0 4 4 7 3 4 1000 7 11 12 13 false false (mk 8 1)) tierSlots0 tierPostings0) (lent (hd storeLimits0 8 2 5 0 4 1000 1000 11 12 13 false false (mk 4 2)) storeSlots0 storePostings0) (mt 0 8),
+      record { answer = transfer-answer.Stopped; tier = lent (hd tierLimits0 4 4 7 3 4 1000 0 11 12 13 false false (mk 8 1)) tierSlots2 tierPostings0; store = lent (hd storeLimits0 8 2 5 0 4 1000 1000 11 12 13 false false (mk 4 2)) storeSlots2 storePostings0; meter = mt 8 8; ticks = 8; took = row (7 ∷ []) (150 ∷ []) ∷ []; evicts = false },
+    )
+    -- account 7 and 9 ticks, both used up: Stopped, 1 taken
+    ∷ (
+      deliver (lent (hd tierLimits0 4 4 7 3 4 1000 7 11 12 13 false false (mk 8 1)) tierSlots0 tierPostings0) (lent (hd storeLimits0 8 2 5 0 4 1000 1000 11 12 13 false false (mk 4 2)) storeSlots0 storePostings0) (mt 0 9),
+      record { answer = transfer-answer.Stopped; tier = lent (hd tierLimits0 4 4 7 3 4 1000 0 11 12 13 false false (mk 8 1)) tierSlots2 tierPostings0; store = lent (hd storeLimits0 8 2 5 0 4 1000 1000 11 12 13 false false (mk 4 2)) storeSlots2 storePostings0; meter = mt 9 9; ticks = 9; took = row (7 ∷ []) (150 ∷ []) ∷ []; evicts = false },
+    )
+    -- account 7 and 10 ticks, both used up: Done, 1 taken
+    ∷ (
+      deliver (lent (hd tierLimits0 4 4 7 3 4 1000 7 11 12 13 false false (mk 8 1)) tierSlots0 tierPostings0) (lent (hd storeLimits0 8 2 5 0 4 1000 1000 11 12 13 false false (mk 4 2)) storeSlots0 storePostings0) (mt 0 10),
+      record { answer = transfer-answer.Done; tier = lent (hd tierLimits0 4 4 7 3 4 1000 0 11 12 13 false false (mk 8 1)) tierSlots2 tierPostings0; store = lent (hd storeLimits0 8 2 5 0 4 1000 1000 11 12 13 false false (mk 4 2)) storeSlots2 storePostings0; meter = mt 10 10; ticks = 10; took = row (7 ∷ []) (150 ∷ []) ∷ []; evicts = false },
+    )
+    -- account 8 and 11 ticks, both used up: Done, 1 taken
+    ∷ (
+      deliver (lent (hd tierLimits0 4 4 7 3 4 1000 8 11 12 13 false false (mk 8 1)) tierSlots0 tierPostings0) (lent (hd storeLimits0 8 2 5 0 4 1000 1000 11 12 13 false false (mk 4 2)) storeSlots0 storePostings0) (mt 0 11),
+      record { answer = transfer-answer.Done; tier = lent (hd tierLimits0 4 4 7 3 4 1000 0 11 12 13 false false (mk 8 1)) tierSlots2 tierPostings0; store = lent (hd storeLimits0 8 2 5 0 4 1000 1000 11 12 13 false false (mk 4 2)) storeSlots2 storePostings0; meter = mt 11 11; ticks = 11; took = row (7 ∷ []) (150 ∷ []) ∷ []; evicts = false },
+    )
+    -- account 9 and 12 ticks, both used up: Done, 1 taken
+    ∷ (
+      deliver (lent (hd tierLimits0 4 4 7 3 4 1000 9 11 12 13 false false (mk 8 1)) tierSlots0 tierPostings0) (lent (hd storeLimits0 8 2 5 0 4 1000 1000 11 12 13 false false (mk 4 2)) storeSlots0 storePostings0) (mt 0 12),
+      record { answer = transfer-answer.Done; tier = lent (hd tierLimits0 4 4 7 3 4 1000 0 11 12 13 false false (mk 8 1)) tierSlots2 tierPostings0; store = lent (hd storeLimits0 8 2 5 0 4 1000 1000 11 12 13 false false (mk 4 2)) storeSlots2 storePostings0; meter = mt 12 12; ticks = 12; took = row (7 ∷ []) (150 ∷ []) ∷ []; evicts = false },
+    )
+    -- account 10 and 13 ticks, both used up: Done, 1 taken
+    ∷ (
+      deliver (lent (hd tierLimits0 4 4 7 3 4 1000 10 11 12 13 false false (mk 8 1)) tierSlots0 tierPostings0) (lent (hd storeLimits0 8 2 5 0 4 1000 1000 11 12 13 false false (mk 4 2)) storeSlots0 storePostings0) (mt 0 13),
+      record { answer = transfer-answer.Done; tier = lent (hd tierLimits0 4 4 7 3 4 1000 0 11 12 13 false false (mk 8 1)) tierSlots2 tierPostings0; store = lent (hd storeLimits0 8 2 5 0 4 1000 1000 11 12 13 false false (mk 4 2)) storeSlots2 storePostings0; meter = mt 13 13; ticks = 13; took = row (7 ∷ []) (150 ∷ []) ∷ []; evicts = false },
+    )
+    -- account 11 and 14 ticks, both used up: Done, 1 taken
+    ∷ (
+      deliver (lent (hd tierLimits0 4 4 7 3 4 1000 11 11 12 13 false false (mk 8 1)) tierSlots0 tierPostings0) (lent (hd storeLimits0 8 2 5 0 4 1000 1000 11 12 13 false false (mk 4 2)) storeSlots0 storePostings0) (mt 0 14),
+      record { answer = transfer-answer.Done; tier = lent (hd tierLimits0 4 4 7 3 4 1000 0 11 12 13 false false (mk 8 1)) tierSlots2 tierPostings0; store = lent (hd storeLimits0 8 2 5 0 4 1000 1000 11 12 13 false false (mk 4 2)) storeSlots2 storePostings0; meter = mt 14 14; ticks = 14; took = row (7 ∷ []) (150 ∷ []) ∷ []; evicts = false },
+    )
+    -- account 12 and 15 ticks, both used up: Done, 1 taken
+    ∷ (
+      deliver (lent (hd tierLimits0 4 4 7 3 4 1000 12 11 12 13 false false (mk 8 1)) tierSlots0 tierPostings0) (lent (hd storeLimits0 8 2 5 0 4 1000 1000 11 12 13 false false (mk 4 2)) storeSlots0 storePostings0) (mt 0 15),
+      record { answer = transfer-answer.Done; tier = lent (hd tierLimits0 4 4 7 3 4 1000 0 11 12 13 false false (mk 8 1)) tierSlots2 tierPostings0; store = lent (hd storeLimits0 8 2 5 0 4 1000 1000 11 12 13 false false (mk 4 2)) storeSlots2 storePostings0; meter = mt 15 15; ticks = 15; took = row (7 ∷ []) (150 ∷ []) ∷ []; evicts = false },
+    )
+    -- account 13 and 16 ticks, both used up: Done, 1 taken
+    ∷ (
+      deliver (lent (hd tierLimits0 4 4 7 3 4 1000 13 11 12 13 false false (mk 8 1)) tierSlots0 tierPostings0) (lent (hd storeLimits0 8 2 5 0 4 1000 1000 11 12 13 false false (mk 4 2)) storeSlots0 storePostings0) (mt 0 16),
+      record { answer = transfer-answer.Done; tier = lent (hd tierLimits0 4 4 7 3 4 1000 0 11 12 13 false false (mk 8 1)) tierSlots2 tierPostings0; store = lent (hd storeLimits0 8 2 5 0 4 1000 1000 11 12 13 false false (mk 4 2)) storeSlots2 storePostings0; meter = mt 16 16; ticks = 16; took = row (7 ∷ []) (150 ∷ []) ∷ []; evicts = false },
+    )
+    -- account 14 and 17 ticks, both used up: Done, 1 taken
+    ∷ (
+      deliver (lent (hd tierLimits0 4 4 7 3 4 1000 14 11 12 13 false false (mk 8 1)) tierSlots0 tierPostings0) (lent (hd storeLimits0 8 2 5 0 4 1000 1000 11 12 13 false false (mk 4 2)) storeSlots0 storePostings0) (mt 0 17),
+      record { answer = transfer-answer.Done; tier = lent (hd tierLimits0 4 4 7 3 4 1000 0 11 12 13 false false (mk 8 1)) tierSlots2 tierPostings0; store = lent (hd storeLimits0 8 2 5 0 4 1000 1000 11 12 13 false false (mk 4 2)) storeSlots2 storePostings0; meter = mt 17 17; ticks = 17; took = row (7 ∷ []) (150 ∷ []) ∷ []; evicts = false },
+    )
+    -- account 15 and 18 ticks, both used up: Done, 1 taken
+    ∷ (
+      deliver (lent (hd tierLimits0 4 4 7 3 4 1000 15 11 12 13 false false (mk 8 1)) tierSlots0 tierPostings0) (lent (hd storeLimits0 8 2 5 0 4 1000 1000 11 12 13 false false (mk 4 2)) storeSlots0 storePostings0) (mt 0 18),
+      record { answer = transfer-answer.Done; tier = lent (hd tierLimits0 4 4 7 3 4 1000 0 11 12 13 false false (mk 8 1)) tierSlots2 tierPostings0; store = lent (hd storeLimits0 8 2 5 0 4 1000 1000 11 12 13 false false (mk 4 2)) storeSlots2 storePostings0; meter = mt 18 18; ticks = 18; took = row (7 ∷ []) (150 ∷ []) ∷ []; evicts = false },
+    )
+    -- account 16 and 19 ticks, both used up: Done, 1 taken
+    ∷ (
+      deliver (lent (hd tierLimits0 4 4 7 3 4 1000 16 11 12 13 false false (mk 8 1)) tierSlots0 tierPostings0) (lent (hd storeLimits0 8 2 5 0 4 1000 1000 11 12 13 false false (mk 4 2)) storeSlots0 storePostings0) (mt 0 19),
+      record { answer = transfer-answer.Done; tier = lent (hd tierLimits0 4 4 7 3 4 1000 0 11 12 13 false false (mk 8 1)) tierSlots2 tierPostings0; store = lent (hd storeLimits0 8 2 5 0 4 1000 1000 11 12 13 false false (mk 4 2)) storeSlots2 storePostings0; meter = mt 19 19; ticks = 19; took = row (7 ∷ []) (150 ∷ []) ∷ []; evicts = false },
+    )
+    -- account 17 and 20 ticks, both used up: Done, 1 taken
+    ∷ (
+      deliver (lent (hd tierLimits0 4 4 7 3 4 1000 17 11 12 13 false false (mk 8 1)) tierSlots0 tierPostings0) (lent (hd storeLimits0 8 2 5 0 4 1000 1000 11 12 13 false false (mk 4 2)) storeSlots0 storePostings0) (mt 0 20),
+      record { answer = transfer-answer.Done; tier = lent (hd tierLimits0 4 4 7 3 4 1000 0 11 12 13 false false (mk 8 1)) tierSlots2 tierPostings0; store = lent (hd storeLimits0 8 2 5 0 4 1000 1000 11 12 13 false false (mk 4 2)) storeSlots2 storePostings0; meter = mt 20 20; ticks = 20; took = row (7 ∷ []) (150 ∷ []) ∷ []; evicts = false },
+    )
+    -- account 18 and 21 ticks, both used up: Done, 1 taken
+    ∷ (
+      deliver (lent (hd tierLimits0 4 4 7 3 4 1000 18 11 12 13 false false (mk 8 1)) tierSlots0 tierPostings0) (lent (hd storeLimits0 8 2 5 0 4 1000 1000 11 12 13 false false (mk 4 2)) storeSlots0 storePostings0) (mt 0 21),
+      record { answer = transfer-answer.Done; tier = lent (hd tierLimits0 4 4 7 3 4 1000 0 11 12 13 false false (mk 8 1)) tierSlots2 tierPostings0; store = lent (hd storeLimits0 8 2 5 0 4 1000 1000 11 12 13 false false (mk 4 2)) storeSlots2 storePostings0; meter = mt 21 21; ticks = 21; took = row (7 ∷ []) (150 ∷ []) ∷ []; evicts = false },
+    )
+    -- account 19 and 22 ticks, both used up: Done, 1 taken
+    ∷ (
+      deliver (lent (hd tierLimits0 4 4 7 3 4 1000 19 11 12 13 false false (mk 8 1)) tierSlots0 tierPostings0) (lent (hd storeLimits0 8 2 5 0 4 1000 1000 11 12 13 false false (mk 4 2)) storeSlots0 storePostings0) (mt 0 22),
+      record { answer = transfer-answer.Done; tier = lent (hd tierLimits0 4 4 7 3 4 1000 0 11 12 13 false false (mk 8 1)) tierSlots2 tierPostings0; store = lent (hd storeLimits0 8 2 5 0 4 1000 1000 11 12 13 false false (mk 4 2)) storeSlots2 storePostings0; meter = mt 22 22; ticks = 22; took = row (7 ∷ []) (150 ∷ []) ∷ []; evicts = false },
+    )
+    -- account 20 and 23 ticks, both used up: Done, 1 taken
+    ∷ (
+      deliver (lent (hd tierLimits0 4 4 7 3 4 1000 20 11 12 13 false false (mk 8 1)) tierSlots0 tierPostings0) (lent (hd storeLimits0 8 2 5 0 4 1000 1000 11 12 13 false false (mk 4 2)) storeSlots0 storePostings0) (mt 0 23),
+      record { answer = transfer-answer.Done; tier = lent (hd tierLimits0 4 4 7 3 4 1000 0 11 12 13 false false (mk 8 1)) tierSlots2 tierPostings0; store = lent (hd storeLimits0 8 2 5 0 4 1000 1000 11 12 13 false false (mk 4 2)) storeSlots2 storePostings0; meter = mt 23 23; ticks = 23; took = row (7 ∷ []) (150 ∷ []) ∷ []; evicts = false },
+    )
+    -- account 21 and 24 ticks, both used up: Done, 1 taken
+    ∷ (
+      deliver (lent (hd tierLimits0 4 4 7 3 4 1000 21 11 12 13 false false (mk 8 1)) tierSlots0 tierPostings0) (lent (hd storeLimits0 8 2 5 0 4 1000 1000 11 12 13 false false (mk 4 2)) storeSlots0 storePostings0) (mt 0 24),
+      record { answer = transfer-answer.Done; tier = lent (hd tierLimits0 4 4 7 3 4 1000 0 11 12 13 false false (mk 8 1)) tierSlots2 tierPostings0; store = lent (hd storeLimits0 8 2 5 0 4 1000 1000 11 12 13 false false (mk 4 2)) storeSlots2 storePostings0; meter = mt 24 24; ticks = 24; took = row (7 ∷ []) (150 ∷ []) ∷ []; evicts = false },
+    )
+    -- account 22 and 25 ticks, both used up: Done, 1 taken
+    ∷ (
+      deliver (lent (hd tierLimits0 4 4 7 3 4 1000 22 11 12 13 false false (mk 8 1)) tierSlots0 tierPostings0) (lent (hd storeLimits0 8 2 5 0 4 1000 1000 11 12 13 false false (mk 4 2)) storeSlots0 storePostings0) (mt 0 25),
+      record { answer = transfer-answer.Done; tier = lent (hd tierLimits0 4 4 7 3 4 1000 0 11 12 13 false false (mk 8 1)) tierSlots2 tierPostings0; store = lent (hd storeLimits0 8 2 5 0 4 1000 1000 11 12 13 false false (mk 4 2)) storeSlots2 storePostings0; meter = mt 25 25; ticks = 25; took = row (7 ∷ []) (150 ∷ []) ∷ []; evicts = false },
+    )
+    -- account 23 and 26 ticks, both used up: Done, 1 taken
+    ∷ (
+      deliver (lent (hd tierLimits0 4 4 7 3 4 1000 23 11 12 13 false false (mk 8 1)) tierSlots0 tierPostings0) (lent (hd storeLimits0 8 2 5 0 4 1000 1000 11 12 13 false false (mk 4 2)) storeSlots0 storePostings0) (mt 0 26),
+      record { answer = transfer-answer.Done; tier = lent (hd tierLimits0 4 4 7 3 4 1000 0 11 12 13 false false (mk 8 1)) tierSlots2 tierPostings0; store = lent (hd storeLimits0 8 2 5 0 4 1000 1000 11 12 13 false false (mk 4 2)) storeSlots2 storePostings0; meter = mt 26 26; ticks = 26; took = row (7 ∷ []) (150 ∷ []) ∷ []; evicts = false },
+    )
+    -- account 24 and 27 ticks, both used up: Done, 1 taken
+    ∷ (
+      deliver (lent (hd tierLimits0 4 4 7 3 4 1000 24 11 12 13 false false (mk 8 1)) tierSlots0 tierPostings0) (lent (hd storeLimits0 8 2 5 0 4 1000 1000 11 12 13 false false (mk 4 2)) storeSlots0 storePostings0) (mt 0 27),
+      record { answer = transfer-answer.Done; tier = lent (hd tierLimits0 4 4 7 3 4 1000 0 11 12 13 false false (mk 8 1)) tierSlots2 tierPostings0; store = lent (hd storeLimits0 8 2 5 0 4 1000 1000 11 12 13 false false (mk 4 2)) storeSlots2 storePostings0; meter = mt 27 27; ticks = 27; took = row (7 ∷ []) (150 ∷ []) ∷ []; evicts = false },
+    )
+    -- account 25 and 28 ticks, both used up: Done, 1 taken
+    ∷ (
+      deliver (lent (hd tierLimits0 4 4 7 3 4 1000 25 11 12 13 false false (mk 8 1)) tierSlots0 tierPostings0) (lent (hd storeLimits0 8 2 5 0 4 1000 1000 11 12 13 false false (mk 4 2)) storeSlots0 storePostings0) (mt 0 28),
+      record { answer = transfer-answer.Done; tier = lent (hd tierLimits0 4 4 7 3 4 1000 0 11 12 13 false false (mk 8 1)) tierSlots2 tierPostings0; store = lent (hd storeLimits0 8 2 5 0 4 1000 1000 11 12 13 false false (mk 4 2)) storeSlots2 storePostings0; meter = mt 28 28; ticks = 28; took = row (7 ∷ []) (150 ∷ []) ∷ []; evicts = false },
+    )
+    -- account 26 and 29 ticks, both used up: Done, 1 taken
+    ∷ (
+      deliver (lent (hd tierLimits0 4 4 7 3 4 1000 26 11 12 13 false false (mk 8 1)) tierSlots0 tierPostings0) (lent (hd storeLimits0 8 2 5 0 4 1000 1000 11 12 13 false false (mk 4 2)) storeSlots0 storePostings0) (mt 0 29),
+      record { answer = transfer-answer.Done; tier = lent (hd tierLimits0 4 4 7 3 4 1000 0 11 12 13 false false (mk 8 1)) tierSlots2 tierPostings0; store = lent (hd storeLimits0 8 2 5 0 4 1000 1000 11 12 13 false false (mk 4 2)) storeSlots2 storePostings0; meter = mt 29 29; ticks = 29; took = row (7 ∷ []) (150 ∷ []) ∷ []; evicts = false },
+    )
+    -- account 27 and 30 ticks, both used up: Done, 1 taken
+    ∷ (
+      deliver (lent (hd tierLimits0 4 4 7 3 4 1000 27 11 12 13 false false (mk 8 1)) tierSlots0 tierPostings0) (lent (hd storeLimits0 8 2 5 0 4 1000 1000 11 12 13 false false (mk 4 2)) storeSlots0 storePostings0) (mt 0 30),
+      record { answer = transfer-answer.Done; tier = lent (hd tierLimits0 4 4 7 3 4 1000 0 11 12 13 false false (mk 8 1)) tierSlots2 tierPostings0; store = lent (hd storeLimits0 8 2 5 0 4 1000 1000 11 12 13 false false (mk 4 2)) storeSlots2 storePostings0; meter = mt 30 30; ticks = 30; took = row (7 ∷ []) (150 ∷ []) ∷ []; evicts = false },
+    )
+    -- account 28 and 31 ticks, both used up: Done, 1 taken
+    ∷ (
+      deliver (lent (hd tierLimits0 4 4 7 3 4 1000 28 11 12 13 false false (mk 8 1)) tierSlots0 tierPostings0) (lent (hd storeLimits0 8 2 5 0 4 1000 1000 11 12 13 false false (mk 4 2)) storeSlots0 storePostings0) (mt 0 31),
+      record { answer = transfer-answer.Done; tier = lent (hd tierLimits0 4 4 7 3 4 1000 0 11 12 13 false false (mk 8 1)) tierSlots2 tierPostings0; store = lent (hd storeLimits0 8 2 5 0 4 1000 1000 11 12 13 false false (mk 4 2)) storeSlots2 storePostings0; meter = mt 31 31; ticks = 31; took = row (7 ∷ []) (150 ∷ []) ∷ []; evicts = false },
+    )
+    -- account 29 and 32 ticks, both used up: Done, 1 taken
+    ∷ (
+      deliver (lent (hd tierLimits0 4 4 7 3 4 1000 29 11 12 13 false false (mk 8 1)) tierSlots0 tierPostings0) (lent (hd storeLimits0 8 2 5 0 4 1000 1000 11 12 13 false false (mk 4 2)) storeSlots0 storePostings0) (mt 0 32),
+      record { answer = transfer-answer.Done; tier = lent (hd tierLimits0 4 4 7 3 4 1000 0 11 12 13 false false (mk 8 1)) tierSlots2 tierPostings0; store = lent (hd storeLimits0 8 2 5 0 4 1000 1000 11 12 13 false false (mk 4 2)) storeSlots2 storePostings0; meter = mt 32 32; ticks = 32; took = row (7 ∷ []) (150 ∷ []) ∷ []; evicts = false },
+    )
+    -- account 30 and 33 ticks, both used up: Done, 1 taken
+    ∷ (
+      deliver (lent (hd tierLimits0 4 4 7 3 4 1000 30 11 12 13 false false (mk 8 1)) tierSlots0 tierPostings0) (lent (hd storeLimits0 8 2 5 0 4 1000 1000 11 12 13 false false (mk 4 2)) storeSlots0 storePostings0) (mt 0 33),
+      record { answer = transfer-answer.Done; tier = lent (hd tierLimits0 4 4 7 3 4 1000 0 11 12 13 false false (mk 8 1)) tierSlots2 tierPostings0; store = lent (hd storeLimits0 8 2 5 0 4 1000 1000 11 12 13 false false (mk 4 2)) storeSlots2 storePostings0; meter = mt 33 33; ticks = 33; took = row (7 ∷ []) (150 ∷ []) ∷ []; evicts = false },
+    )
+    -- account 31 and 34 ticks, both used up: Done, 1 taken
+    ∷ (
+      deliver (lent (hd tierLimits0 4 4 7 3 4 1000 31 11 12 13 false false (mk 8 1)) tierSlots0 tierPostings0) (lent (hd storeLimits0 8 2 5 0 4 1000 1000 11 12 13 false false (mk 4 2)) storeSlots0 storePostings0) (mt 0 34),
+      record { answer = transfer-answer.Done; tier = lent (hd tierLimits0 4 4 7 3 4 1000 0 11 12 13 false false (mk 8 1)) tierSlots2 tierPostings0; store = lent (hd storeLimits0 8 2 5 0 4 1000 1000 11 12 13 false false (mk 4 2)) storeSlots2 storePostings0; meter = mt 34 34; ticks = 34; took = row (7 ∷ []) (150 ∷ []) ∷ []; evicts = false },
+    )
+    -- account 32 and 35 ticks, both used up: Done, 1 taken
+    ∷ (
+      deliver (lent (hd tierLimits0 4 4 7 3 4 1000 32 11 12 13 false false (mk 8 1)) tierSlots0 tierPostings0) (lent (hd storeLimits0 8 2 5 0 4 1000 1000 11 12 13 false false (mk 4 2)) storeSlots0 storePostings0) (mt 0 35),
+      record { answer = transfer-answer.Done; tier = lent (hd tierLimits0 4 4 7 3 4 1000 0 11 12 13 false false (mk 8 1)) tierSlots2 tierPostings0; store = lent (hd storeLimits0 8 2 5 0 4 1000 1000 11 12 13 false false (mk 4 2)) storeSlots2 storePostings0; meter = mt 35 35; ticks = 35; took = row (7 ∷ []) (150 ∷ []) ∷ []; evicts = false },
+    )
+    -- account 33 and 36 ticks, both used up: Done, 1 taken
+    ∷ (
+      deliver (lent (hd tierLimits0 4 4 7 3 4 1000 33 11 12 13 false false (mk 8 1)) tierSlots0 tierPostings0) (lent (hd storeLimits0 8 2 5 0 4 1000 1000 11 12 13 false false (mk 4 2)) storeSlots0 storePostings0) (mt 0 36),
+      record { answer = transfer-answer.Done; tier = lent (hd tierLimits0 4 4 7 3 4 1000 0 11 12 13 false false (mk 8 1)) tierSlots2 tierPostings0; store = lent (hd storeLimits0 8 2 5 0 4 1000 1000 11 12 13 false false (mk 4 2)) storeSlots2 storePostings0; meter = mt 36 36; ticks = 36; took = row (7 ∷ []) (150 ∷ []) ∷ []; evicts = false },
+    )
+    -- account 34 and 37 ticks, both used up: Done, 1 taken
+    ∷ (
+      deliver (lent (hd tierLimits0 4 4 7 3 4 1000 34 11 12 13 false false (mk 8 1)) tierSlots0 tierPostings0) (lent (hd storeLimits0 8 2 5 0 4 1000 1000 11 12 13 false false (mk 4 2)) storeSlots0 storePostings0) (mt 0 37),
+      record { answer = transfer-answer.Done; tier = lent (hd tierLimits0 4 4 7 3 4 1000 0 11 12 13 false false (mk 8 1)) tierSlots2 tierPostings0; store = lent (hd storeLimits0 8 2 5 0 4 1000 1000 11 12 13 false false (mk 4 2)) storeSlots2 storePostings0; meter = mt 37 37; ticks = 37; took = row (7 ∷ []) (150 ∷ []) ∷ []; evicts = false },
+    )
+    -- account 35 and 38 ticks, both used up: Done, 1 taken
+    ∷ (
+      deliver (lent (hd tierLimits0 4 4 7 3 4 1000 35 11 12 13 false false (mk 8 1)) tierSlots0 tierPostings0) (lent (hd storeLimits0 8 2 5 0 4 1000 1000 11 12 13 false false (mk 4 2)) storeSlots0 storePostings0) (mt 0 38),
+      record { answer = transfer-answer.Done; tier = lent (hd tierLimits0 4 4 7 3 4 1000 0 11 12 13 false false (mk 8 1)) tierSlots2 tierPostings0; store = lent (hd storeLimits0 8 2 5 0 4 1000 1000 11 12 13 false false (mk 4 2)) storeSlots2 storePostings0; meter = mt 38 38; ticks = 38; took = row (7 ∷ []) (150 ∷ []) ∷ []; evicts = false },
+    )
+    -- account 36 and 39 ticks, both used up: Done, 1 taken
+    ∷ (
+      deliver (lent (hd tierLimits0 4 4 7 3 4 1000 36 11 12 13 false false (mk 8 1)) tierSlots0 tierPostings0) (lent (hd storeLimits0 8 2 5 0 4 1000 1000 11 12 13 false false (mk 4 2)) storeSlots0 storePostings0) (mt 0 39),
+      record { answer = transfer-answer.Done; tier = lent (hd tierLimits0 4 4 7 3 4 1000 0 11 12 13 false false (mk 8 1)) tierSlots2 tierPostings0; store = lent (hd storeLimits0 8 2 5 0 4 1000 1000 11 12 13 false false (mk 4 2)) storeSlots2 storePostings0; meter = mt 39 39; ticks = 39; took = row (7 ∷ []) (150 ∷ []) ∷ []; evicts = false },
+    )
+    -- account 37 and 40 ticks, both used up: Done, 1 taken
+    ∷ (
+      deliver (lent (hd tierLimits0 4 4 7 3 4 1000 37 11 12 13 false false (mk 8 1)) tierSlots0 tierPostings0) (lent (hd storeLimits0 8 2 5 0 4 1000 1000 11 12 13 false false (mk 4 2)) storeSlots0 storePostings0) (mt 0 40),
+      record { answer = transfer-answer.Done; tier = lent (hd tierLimits0 4 4 7 3 4 1000 0 11 12 13 false false (mk 8 1)) tierSlots2 tierPostings0; store = lent (hd storeLimits0 8 2 5 0 4 1000 1000 11 12 13 false false (mk 4 2)) storeSlots2 storePostings0; meter = mt 40 40; ticks = 40; took = row (7 ∷ []) (150 ∷ []) ∷ []; evicts = false },
+    )
+    -- account 38 and 41 ticks, both used up: Done, 1 taken
+    ∷ (
+      deliver (lent (hd tierLimits0 4 4 7 3 4 1000 38 11 12 13 false false (mk 8 1)) tierSlots0 tierPostings0) (lent (hd storeLimits0 8 2 5 0 4 1000 1000 11 12 13 false false (mk 4 2)) storeSlots0 storePostings0) (mt 0 41),
+      record { answer = transfer-answer.Done; tier = lent (hd tierLimits0 4 4 7 3 4 1000 0 11 12 13 false false (mk 8 1)) tierSlots2 tierPostings0; store = lent (hd storeLimits0 8 2 5 0 4 1000 1000 11 12 13 false false (mk 4 2)) storeSlots2 storePostings0; meter = mt 41 41; ticks = 41; took = row (7 ∷ []) (150 ∷ []) ∷ []; evicts = false },
+    )
+    -- account 39 and 42 ticks, both used up: Stopped, 2 taken
+    ∷ (
+      deliver (lent (hd tierLimits0 4 4 7 3 4 1000 39 11 12 13 false false (mk 8 1)) tierSlots0 tierPostings0) (lent (hd storeLimits0 8 2 5 0 4 1000 1000 11 12 13 false false (mk 4 2)) storeSlots0 storePostings0) (mt 0 42),
+      record { answer = transfer-answer.Stopped; tier = lent (hd tierLimits0 4 4 7 3 4 1000 0 11 12 13 false false (mk 8 1)) tierSlots3 tierPostings0; store = lent (hd storeLimits0 8 2 6 1 4 1000 1000 11 13 13 true true (mk 4 2)) storeSlots3 (zs 160 []); meter = mt 42 42; ticks = 42; took = row (11 ∷ []) (158 ∷ []) ∷ row (7 ∷ []) (150 ∷ []) ∷ []; evicts = false },
+    )
+    -- account 39 and 43 ticks, both used up: Done, 2 taken
+    ∷ (
+      deliver (lent (hd tierLimits0 4 4 7 3 4 1000 39 11 12 13 false false (mk 8 1)) tierSlots0 tierPostings0) (lent (hd storeLimits0 8 2 5 0 4 1000 1000 11 12 13 false false (mk 4 2)) storeSlots0 storePostings0) (mt 0 43),
+      record { answer = transfer-answer.Done; tier = lent (hd tierLimits0 4 4 7 3 4 1000 0 11 12 13 false false (mk 8 1)) tierSlots3 tierPostings0; store = lent (hd storeLimits0 8 2 6 1 4 1000 1000 11 13 13 true true (mk 4 2)) storeSlots3 (zs 160 []); meter = mt 43 43; ticks = 43; took = row (11 ∷ []) (158 ∷ []) ∷ row (7 ∷ []) (150 ∷ []) ∷ []; evicts = false },
+    )
+    -- account 40 and 44 ticks, both used up: Done, 2 taken
+    ∷ (
+      deliver (lent (hd tierLimits0 4 4 7 3 4 1000 40 11 12 13 false false (mk 8 1)) tierSlots0 tierPostings0) (lent (hd storeLimits0 8 2 5 0 4 1000 1000 11 12 13 false false (mk 4 2)) storeSlots0 storePostings0) (mt 0 44),
+      record { answer = transfer-answer.Done; tier = lent (hd tierLimits0 4 4 7 3 4 1000 0 11 12 13 false false (mk 8 1)) tierSlots3 tierPostings0; store = lent (hd storeLimits0 8 2 6 1 4 1000 1000 11 13 13 true true (mk 4 2)) storeSlots3 (zs 160 []); meter = mt 44 44; ticks = 44; took = row (11 ∷ []) (158 ∷ []) ∷ row (7 ∷ []) (150 ∷ []) ∷ []; evicts = false },
+    )
+    -- account 41 and 45 ticks, both used up: Done, 2 taken
+    ∷ (
+      deliver (lent (hd tierLimits0 4 4 7 3 4 1000 41 11 12 13 false false (mk 8 1)) tierSlots0 tierPostings0) (lent (hd storeLimits0 8 2 5 0 4 1000 1000 11 12 13 false false (mk 4 2)) storeSlots0 storePostings0) (mt 0 45),
+      record { answer = transfer-answer.Done; tier = lent (hd tierLimits0 4 4 7 3 4 1000 0 11 12 13 false false (mk 8 1)) tierSlots3 tierPostings0; store = lent (hd storeLimits0 8 2 6 1 4 1000 1000 11 13 13 true true (mk 4 2)) storeSlots3 (zs 160 []); meter = mt 45 45; ticks = 45; took = row (11 ∷ []) (158 ∷ []) ∷ row (7 ∷ []) (150 ∷ []) ∷ []; evicts = false },
+    )
+    -- account 42 and 46 ticks, both used up: Done, 2 taken
+    ∷ (
+      deliver (lent (hd tierLimits0 4 4 7 3 4 1000 42 11 12 13 false false (mk 8 1)) tierSlots0 tierPostings0) (lent (hd storeLimits0 8 2 5 0 4 1000 1000 11 12 13 false false (mk 4 2)) storeSlots0 storePostings0) (mt 0 46),
+      record { answer = transfer-answer.Done; tier = lent (hd tierLimits0 4 4 7 3 4 1000 0 11 12 13 false false (mk 8 1)) tierSlots3 tierPostings0; store = lent (hd storeLimits0 8 2 6 1 4 1000 1000 11 13 13 true true (mk 4 2)) storeSlots3 (zs 160 []); meter = mt 46 46; ticks = 46; took = row (11 ∷ []) (158 ∷ []) ∷ row (7 ∷ []) (150 ∷ []) ∷ []; evicts = false },
+    )
+    -- account 43 and 47 ticks, both used up: Done, 2 taken
+    ∷ (
+      deliver (lent (hd tierLimits0 4 4 7 3 4 1000 43 11 12 13 false false (mk 8 1)) tierSlots0 tierPostings0) (lent (hd storeLimits0 8 2 5 0 4 1000 1000 11 12 13 false false (mk 4 2)) storeSlots0 storePostings0) (mt 0 47),
+      record { answer = transfer-answer.Done; tier = lent (hd tierLimits0 4 4 7 3 4 1000 0 11 12 13 false false (mk 8 1)) tierSlots3 tierPostings0; store = lent (hd storeLimits0 8 2 6 1 4 1000 1000 11 13 13 true true (mk 4 2)) storeSlots3 (zs 160 []); meter = mt 47 47; ticks = 47; took = row (11 ∷ []) (158 ∷ []) ∷ row (7 ∷ []) (150 ∷ []) ∷ []; evicts = false },
+    )
+    -- account 44 and 48 ticks, both used up: Done, 2 taken
+    ∷ (
+      deliver (lent (hd tierLimits0 4 4 7 3 4 1000 44 11 12 13 false false (mk 8 1)) tierSlots0 tierPostings0) (lent (hd storeLimits0 8 2 5 0 4 1000 1000 11 12 13 false false (mk 4 2)) storeSlots0 storePostings0) (mt 0 48),
+      record { answer = transfer-answer.Done; tier = lent (hd tierLimits0 4 4 7 3 4 1000 0 11 12 13 false false (mk 8 1)) tierSlots3 tierPostings0; store = lent (hd storeLimits0 8 2 6 1 4 1000 1000 11 13 13 true true (mk 4 2)) storeSlots3 (zs 160 []); meter = mt 48 48; ticks = 48; took = row (11 ∷ []) (158 ∷ []) ∷ row (7 ∷ []) (150 ∷ []) ∷ []; evicts = false },
+    )
+    -- account 45 and 49 ticks, both used up: Done, 2 taken
+    ∷ (
+      deliver (lent (hd tierLimits0 4 4 7 3 4 1000 45 11 12 13 false false (mk 8 1)) tierSlots0 tierPostings0) (lent (hd storeLimits0 8 2 5 0 4 1000 1000 11 12 13 false false (mk 4 2)) storeSlots0 storePostings0) (mt 0 49),
+      record { answer = transfer-answer.Done; tier = lent (hd tierLimits0 4 4 7 3 4 1000 0 11 12 13 false false (mk 8 1)) tierSlots3 tierPostings0; store = lent (hd storeLimits0 8 2 6 1 4 1000 1000 11 13 13 true true (mk 4 2)) storeSlots3 (zs 160 []); meter = mt 49 49; ticks = 49; took = row (11 ∷ []) (158 ∷ []) ∷ row (7 ∷ []) (150 ∷ []) ∷ []; evicts = false },
+    )
+    -- account 46 and 50 ticks, both used up: Done, 2 taken
+    ∷ (
+      deliver (lent (hd tierLimits0 4 4 7 3 4 1000 46 11 12 13 false false (mk 8 1)) tierSlots0 tierPostings0) (lent (hd storeLimits0 8 2 5 0 4 1000 1000 11 12 13 false false (mk 4 2)) storeSlots0 storePostings0) (mt 0 50),
+      record { answer = transfer-answer.Done; tier = lent (hd tierLimits0 4 4 7 3 4 1000 0 11 12 13 false false (mk 8 1)) tierSlots3 tierPostings0; store = lent (hd storeLimits0 8 2 6 1 4 1000 1000 11 13 13 true true (mk 4 2)) storeSlots3 (zs 160 []); meter = mt 50 50; ticks = 50; took = row (11 ∷ []) (158 ∷ []) ∷ row (7 ∷ []) (150 ∷ []) ∷ []; evicts = false },
+    )
+    -- account 47 and 51 ticks, both used up: Done, 2 taken
+    ∷ (
+      deliver (lent (hd tierLimits0 4 4 7 3 4 1000 47 11 12 13 false false (mk 8 1)) tierSlots0 tierPostings0) (lent (hd storeLimits0 8 2 5 0 4 1000 1000 11 12 13 false false (mk 4 2)) storeSlots0 storePostings0) (mt 0 51),
+      record { answer = transfer-answer.Done; tier = lent (hd tierLimits0 4 4 7 3 4 1000 0 11 12 13 false false (mk 8 1)) tierSlots3 tierPostings0; store = lent (hd storeLimits0 8 2 6 1 4 1000 1000 11 13 13 true true (mk 4 2)) storeSlots3 (zs 160 []); meter = mt 51 51; ticks = 51; took = row (11 ∷ []) (158 ∷ []) ∷ row (7 ∷ []) (150 ∷ []) ∷ []; evicts = false },
+    )
+    -- account 48 and 52 ticks, both used up: Done, 2 taken
+    ∷ (
+      deliver (lent (hd tierLimits0 4 4 7 3 4 1000 48 11 12 13 false false (mk 8 1)) tierSlots0 tierPostings0) (lent (hd storeLimits0 8 2 5 0 4 1000 1000 11 12 13 false false (mk 4 2)) storeSlots0 storePostings0) (mt 0 52),
+      record { answer = transfer-answer.Done; tier = lent (hd tierLimits0 4 4 7 3 4 1000 0 11 12 13 false false (mk 8 1)) tierSlots3 tierPostings0; store = lent (hd storeLimits0 8 2 6 1 4 1000 1000 11 13 13 true true (mk 4 2)) storeSlots3 (zs 160 []); meter = mt 52 52; ticks = 52; took = row (11 ∷ []) (158 ∷ []) ∷ row (7 ∷ []) (150 ∷ []) ∷ []; evicts = false },
+    )
+    -- account 49 and 53 ticks, both used up: Done, 2 taken
+    ∷ (
+      deliver (lent (hd tierLimits0 4 4 7 3 4 1000 49 11 12 13 false false (mk 8 1)) tierSlots0 tierPostings0) (lent (hd storeLimits0 8 2 5 0 4 1000 1000 11 12 13 false false (mk 4 2)) storeSlots0 storePostings0) (mt 0 53),
+      record { answer = transfer-answer.Done; tier = lent (hd tierLimits0 4 4 7 3 4 1000 0 11 12 13 false false (mk 8 1)) tierSlots3 tierPostings0; store = lent (hd storeLimits0 8 2 6 1 4 1000 1000 11 13 13 true true (mk 4 2)) storeSlots3 (zs 160 []); meter = mt 53 53; ticks = 53; took = row (11 ∷ []) (158 ∷ []) ∷ row (7 ∷ []) (150 ∷ []) ∷ []; evicts = false },
+    )
+    -- account 50 and 54 ticks, both used up: Done, 2 taken
+    ∷ (
+      deliver (lent (hd tierLimits0 4 4 7 3 4 1000 50 11 12 13 false false (mk 8 1)) tierSlots0 tierPostings0) (lent (hd storeLimits0 8 2 5 0 4 1000 1000 11 12 13 false false (mk 4 2)) storeSlots0 storePostings0) (mt 0 54),
+      record { answer = transfer-answer.Done; tier = lent (hd tierLimits0 4 4 7 3 4 1000 0 11 12 13 false false (mk 8 1)) tierSlots3 tierPostings0; store = lent (hd storeLimits0 8 2 6 1 4 1000 1000 11 13 13 true true (mk 4 2)) storeSlots3 (zs 160 []); meter = mt 54 54; ticks = 54; took = row (11 ∷ []) (158 ∷ []) ∷ row (7 ∷ []) (150 ∷ []) ∷ []; evicts = false },
+    )
+    -- account 51 and 55 ticks, both used up: Done, 2 taken
+    ∷ (
+      deliver (lent (hd tierLimits0 4 4 7 3 4 1000 51 11 12 13 false false (mk 8 1)) tierSlots0 tierPostings0) (lent (hd storeLimits0 8 2 5 0 4 1000 1000 11 12 13 false false (mk 4 2)) storeSlots0 storePostings0) (mt 0 55),
+      record { answer = transfer-answer.Done; tier = lent (hd tierLimits0 4 4 7 3 4 1000 0 11 12 13 false false (mk 8 1)) tierSlots3 tierPostings0; store = lent (hd storeLimits0 8 2 6 1 4 1000 1000 11 13 13 true true (mk 4 2)) storeSlots3 (zs 160 []); meter = mt 55 55; ticks = 55; took = row (11 ∷ []) (158 ∷ []) ∷ row (7 ∷ []) (150 ∷ []) ∷ []; evicts = false },
+    )
+    -- account 52 and 56 ticks, both used up: Done, 2 taken
+    ∷ (
+      deliver (lent (hd tierLimits0 4 4 7 3 4 1000 52 11 12 13 false false (mk 8 1)) tierSlots0 tierPostings0) (lent (hd storeLimits0 8 2 5 0 4 1000 1000 11 12 13 false false (mk 4 2)) storeSlots0 storePostings0) (mt 0 56),
+      record { answer = transfer-answer.Done; tier = lent (hd tierLimits0 4 4 7 3 4 1000 0 11 12 13 false false (mk 8 1)) tierSlots3 tierPostings0; store = lent (hd storeLimits0 8 2 6 1 4 1000 1000 11 13 13 true true (mk 4 2)) storeSlots3 (zs 160 []); meter = mt 56 56; ticks = 56; took = row (11 ∷ []) (158 ∷ []) ∷ row (7 ∷ []) (150 ∷ []) ∷ []; evicts = false },
+    )
+    -- account 53 and 57 ticks, both used up: Done, 2 taken
+    ∷ (
+      deliver (lent (hd tierLimits0 4 4 7 3 4 1000 53 11 12 13 false false (mk 8 1)) tierSlots0 tierPostings0) (lent (hd storeLimits0 8 2 5 0 4 1000 1000 11 12 13 false false (mk 4 2)) storeSlots0 storePostings0) (mt 0 57),
+      record { answer = transfer-answer.Done; tier = lent (hd tierLimits0 4 4 7 3 4 1000 0 11 12 13 false false (mk 8 1)) tierSlots3 tierPostings0; store = lent (hd storeLimits0 8 2 6 1 4 1000 1000 11 13 13 true true (mk 4 2)) storeSlots3 (zs 160 []); meter = mt 57 57; ticks = 57; took = row (11 ∷ []) (158 ∷ []) ∷ row (7 ∷ []) (150 ∷ []) ∷ []; evicts = false },
+    )
+    -- account 54 and 58 ticks, both used up: Done, 3 taken
+    ∷ (
+      deliver (lent (hd tierLimits0 4 4 7 3 4 1000 54 11 12 13 false false (mk 8 1)) tierSlots0 tierPostings0) (lent (hd storeLimits0 8 2 5 0 4 1000 1000 11 12 13 false false (mk 4 2)) storeSlots0 storePostings0) (mt 0 58),
+      record { answer = transfer-answer.Done; tier = lent (hd tierLimits0 4 4 7 3 4 1000 0 11 12 13 false false (mk 8 1)) tierSlots1 tierPostings0; store = lent (hd storeLimits0 8 2 7 0 4 1000 1000 12 14 13 true true (mk 4 2)) storeSlots1 (zs 160 []); meter = mt 58 58; ticks = 58; took = row (13 ∷ []) (20 ∷ []) ∷ row (11 ∷ []) (158 ∷ []) ∷ row (7 ∷ []) (150 ∷ []) ∷ []; evicts = true },
+    )
+    ∷ [])
+unfolding opened
+both = refl
 
 -- a meter past its limit: Stopped, 0 taken
 past : deliver (lent (hd tierLimits0 4 4 7 3 4 1000 1000 11 12 13 false false (mk 8 1)) tierSlots0 tierPostings0) (lent (hd storeLimits0 8 2 5 0 4 1000 1000 11 12 13 false false (mk 4 2)) storeSlots0 storePostings0) (mt 9 5)

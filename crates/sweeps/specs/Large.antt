@@ -8,9 +8,9 @@ use Rattle.model.specs.declared.LearningLimits.{LearningLimits}
 use Rattle.model.specs.declared.OfferAnswer.the-variants as offer-answer
 use Rattle.model.specs.declared.CandidatesAnswer.the-variants as candidates-answer
 use Rattle.model.specs.declared.CloseAnswer.the-variants as close-answer
-use Rattle.model.specs.Operations.{offer, candidates, close}
+use Rattle.model.specs.Operations.{CloseEnd, offer, candidates, close}
 use Rattle.model.specs.Opened.{opened}
-use Rattle.checks.specs.Helpers.{lim, mt, hd, un, lent, rg, zs}
+use Rattle.checks.specs.Helpers.{lim, mt, hd, un, lent, rg, zs, Agree}
 
 -- the slots of n rows from position i on, none of them hit: atom i + 1 held → atom i held, born i + 1
 chain : ℕ → ℕ → List ℕ → List ℕ
@@ -72,32 +72,32 @@ protected : offer (lent (hd limits1 7 64 64 0 4 1000 1000 11 12 13 true false un
 unfolding opened chain
 protected = refl
 
--- rebuilt in the second round, read in the third and fourth: Closed
-closed : close (lent (hd limits0 7 66 66 0 4 1000 1000 11 12 13 true false un) slots3 (zs 5280 [])) (8 ∷ 0 ∷ []) (0 ∷ 1 ∷ []) (replicate 66 4) (replicate 68 4) (mt 0 1000)
-    ≡ record { answer = close-answer.Closed; ledger = lent (hd limits0 7 66 66 0 4 1000 1000 11 12 13 false false un) slots4 postings1; region = rg (15 ∷ 0 ∷ []) (0 ∷ 15 ∷ []); rowScratch = zs 66 []; atomScratch = zs 68 []; meter = mt 375 1000; ticks = 375 }
+closings : Agree CloseEnd (
+    -- rebuilt in the second round, read in the third and fourth: Closed
+    (
+      close (lent (hd limits0 7 66 66 0 4 1000 1000 11 12 13 true false un) slots3 (zs 5280 [])) (8 ∷ 0 ∷ []) (0 ∷ 1 ∷ []) (replicate 66 4) (replicate 68 4) (mt 0 1000),
+      record { answer = close-answer.Closed; ledger = lent (hd limits0 7 66 66 0 4 1000 1000 11 12 13 false false un) slots4 postings1; region = rg (15 ∷ 0 ∷ []) (0 ∷ 15 ∷ []); rowScratch = zs 66 []; atomScratch = zs 68 []; meter = mt 375 1000; ticks = 375 },
+    )
+    -- 67 held, which the last row cuts: Conflict
+    ∷ (
+      close (lent (hd limits0 7 66 66 0 4 1000 1000 11 12 13 true false un) slots3 (zs 5280 [])) (8 ∷ 8 ∷ []) (0 ∷ 0 ∷ []) (replicate 66 4) (replicate 68 4) (mt 0 1000),
+      record { answer = close-answer.Conflict; ledger = lent (hd limits0 7 66 66 0 4 1000 1000 11 12 13 false false un) slots5 postings1; region = rg (15 ∷ 8 ∷ []) (0 ∷ 4 ∷ []); rowScratch = zs 66 []; atomScratch = zs 68 []; meter = mt 358 1000; ticks = 358 },
+    )
+    -- after a closing, with its postings: Closed
+    ∷ (
+      close (lent (hd limits0 7 66 66 0 4 1000 1000 11 12 13 false false un) slots4 postings1) (4 ∷ 0 ∷ []) (0 ∷ 0 ∷ []) (replicate 66 4) (replicate 68 4) (mt 0 1000),
+      record { answer = close-answer.Closed; ledger = lent (hd limits0 7 66 66 0 4 1000 1000 11 12 13 false false un) slots6 postings1; region = rg (7 ∷ 0 ∷ []) (0 ∷ 12 ∷ []); rowScratch = zs 66 []; atomScratch = zs 68 []; meter = mt 230 1000; ticks = 230 },
+    )
+    -- stopped at the last posting of the rebuild: Stopped
+    ∷ (
+      close (lent (hd limits0 7 66 66 0 4 1000 1000 11 12 13 true false un) slots3 (zs 5280 [])) (8 ∷ 0 ∷ []) (0 ∷ 1 ∷ []) (replicate 66 4) (replicate 68 4) (mt 3 333),
+      record { answer = close-answer.Stopped; ledger = lent (hd limits0 7 66 66 0 4 1000 1000 11 12 13 true false un) slots7 (zs 5280 []); region = rg (12 ∷ 0 ∷ []) (0 ∷ 3 ∷ []); rowScratch = zs 66 []; atomScratch = zs 68 []; meter = mt 333 333; ticks = 330 },
+    )
+    -- stopped at the first atom after the rebuild: Stopped
+    ∷ (
+      close (lent (hd limits0 7 66 66 0 4 1000 1000 11 12 13 true false un) slots3 (zs 5280 [])) (8 ∷ 0 ∷ []) (0 ∷ 1 ∷ []) (replicate 66 4) (replicate 68 4) (mt 3 334),
+      record { answer = close-answer.Stopped; ledger = lent (hd limits0 7 66 66 0 4 1000 1000 11 12 13 false false un) slots7 postings1; region = rg (12 ∷ 0 ∷ []) (0 ∷ 3 ∷ []); rowScratch = zs 66 []; atomScratch = zs 68 []; meter = mt 334 334; ticks = 331 },
+    )
+    ∷ [])
 unfolding opened chain
-closed = refl
-
--- 67 held, which the last row cuts: Conflict
-conflict : close (lent (hd limits0 7 66 66 0 4 1000 1000 11 12 13 true false un) slots3 (zs 5280 [])) (8 ∷ 8 ∷ []) (0 ∷ 0 ∷ []) (replicate 66 4) (replicate 68 4) (mt 0 1000)
-    ≡ record { answer = close-answer.Conflict; ledger = lent (hd limits0 7 66 66 0 4 1000 1000 11 12 13 false false un) slots5 postings1; region = rg (15 ∷ 8 ∷ []) (0 ∷ 4 ∷ []); rowScratch = zs 66 []; atomScratch = zs 68 []; meter = mt 358 1000; ticks = 358 }
-unfolding opened chain
-conflict = refl
-
--- after a closing, with its postings: Closed
-again : close (lent (hd limits0 7 66 66 0 4 1000 1000 11 12 13 false false un) slots4 postings1) (4 ∷ 0 ∷ []) (0 ∷ 0 ∷ []) (replicate 66 4) (replicate 68 4) (mt 0 1000)
-    ≡ record { answer = close-answer.Closed; ledger = lent (hd limits0 7 66 66 0 4 1000 1000 11 12 13 false false un) slots6 postings1; region = rg (7 ∷ 0 ∷ []) (0 ∷ 12 ∷ []); rowScratch = zs 66 []; atomScratch = zs 68 []; meter = mt 230 1000; ticks = 230 }
-unfolding opened chain
-again = refl
-
--- stopped at the last posting of the rebuild: Stopped
-unbuilt : close (lent (hd limits0 7 66 66 0 4 1000 1000 11 12 13 true false un) slots3 (zs 5280 [])) (8 ∷ 0 ∷ []) (0 ∷ 1 ∷ []) (replicate 66 4) (replicate 68 4) (mt 3 333)
-    ≡ record { answer = close-answer.Stopped; ledger = lent (hd limits0 7 66 66 0 4 1000 1000 11 12 13 true false un) slots7 (zs 5280 []); region = rg (12 ∷ 0 ∷ []) (0 ∷ 3 ∷ []); rowScratch = zs 66 []; atomScratch = zs 68 []; meter = mt 333 333; ticks = 330 }
-unfolding opened chain
-unbuilt = refl
-
--- stopped at the first atom after the rebuild: Stopped
-built : close (lent (hd limits0 7 66 66 0 4 1000 1000 11 12 13 true false un) slots3 (zs 5280 [])) (8 ∷ 0 ∷ []) (0 ∷ 1 ∷ []) (replicate 66 4) (replicate 68 4) (mt 3 334)
-    ≡ record { answer = close-answer.Stopped; ledger = lent (hd limits0 7 66 66 0 4 1000 1000 11 12 13 false false un) slots7 postings1; region = rg (12 ∷ 0 ∷ []) (0 ∷ 3 ∷ []); rowScratch = zs 66 []; atomScratch = zs 68 []; meter = mt 334 334; ticks = 331 }
-unfolding opened chain
-built = refl
+closings = refl

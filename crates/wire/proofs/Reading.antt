@@ -1,15 +1,17 @@
 -- Words written and read again: the header, the meter, the cursor are what they were. Assumes nothing.
 use mathlib.Core.Path.{_≡_, refl, sym, ap}
 use mathlib.Core.Bool.{Bool, true, false}
-use mathlib.Core.List.{[], _∷_}
+use mathlib.Core.List.{List, [], _∷_}
 use Prim.Native.Nat.{ℕ}
 use lib.ListN.{getD}
 use borrow.Author.Tests.{ne-eqb}
 use Rattle.meter.specs.declared.Meter.{Meter}
+use Rattle.model.specs.declared.LearningLimits.{LearningLimits}
 use Rattle.model.specs.declared.Mark.{Mark}
 use Rattle.model.specs.declared.Mark.the-variants.{Unmarked, Marked}
 use Rattle.model.specs.declared.Header.{Header}
 use Rattle.model.specs.declared.OutputCursor.{OutputCursor}
+use Rattle.model.specs.Records.{header}
 use Rattle.wire.specs.Words.{flagWord, flagIn, limitsIn, markWords, markIn, headerWords, headerIn, meterWords, meterIn, cursorWords, cursorIn}
 
 flag-read : (b : Bool) → flagIn (flagWord b) ≡ b
@@ -29,6 +31,12 @@ mark-three (Marked n b) = refl
 mark-read : (m : Mark) → markIn (getD (markWords m) 0 0) (getD (markWords m) 1 0) (getD (markWords m) 2 0) ≡ m
 mark-read Unmarked = refl
 mark-read (Marked n b) = refl
+
+-- a header of limits and a mark that were read, and of the words between
+pub header-parts : (ws : List ℕ) {l : LearningLimits} {m : Mark} → l ≡ limitsIn ws → m ≡ markIn (getD ws 22 0) (getD ws 23 0) (getD ws 24 0) →
+    header l (getD ws 10 0) (getD ws 11 0) (getD ws 12 0) (getD ws 13 0) (getD ws 14 0) (record { 0 = getD ws 15 0 }) (record { 0 = getD ws 16 0 }) (getD ws 17 0) (getD ws 18 0) (getD ws 19 0) (flagIn (getD ws 20 0)) (flagIn (getD ws 21 0)) m ≡ headerIn ws
+unfolding headerIn
+header-parts ws e f = rw (e, f)
 
 pub header-read : (h : Header) → headerIn (headerWords h) ≡ h
 unfolding headerIn headerWords limitsIn

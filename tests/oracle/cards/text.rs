@@ -21,14 +21,16 @@ use Rattle.model.specs.declared.HitAnswer.the-variants as hit-answer
 use Rattle.model.specs.declared.CandidatesAnswer.the-variants as candidates-answer
 use Rattle.model.specs.declared.CloseAnswer.the-variants as close-answer
 use Rattle.model.specs.declared.TransferAnswer.the-variants as transfer-answer
-use Rattle.model.specs.Operations.{offer, hit, candidates, close, seed, deliver}
+use Rattle.model.specs.Operations.{OfferEnd, HitEnd, CandidatesEnd, CloseEnd, TransferEnd, offer, hit, candidates, close, seed, deliver}
 use Rattle.model.specs.Opened.{opened}
-use Rattle.checks.specs.Helpers.{lim, mt, hd, un, mk, lent, row, rg, zs}
+use Rattle.checks.specs.Helpers.{lim, mt, hd, un, mk, lent, row, rg, zs, Agree}
 ";
 
 /// The lines of `USES` that a text needs, with the names that it has.
 fn uses(body: &str) -> String {
-    let code = body.lines().filter(|line| !line.starts_with("--"));
+    let code = body
+        .lines()
+        .filter(|line| !line.trim_start().starts_with("--"));
     let words: HashSet<&str> = code
         .flat_map(|line| line.split([' ', '(', ')', ';', '.']))
         .collect();
@@ -102,6 +104,53 @@ fn named(role: &str, part: &str) -> String {
     format!("{role}{}{rest}", first.to_uppercase())
 }
 
+/// A card: its name, what it is about, a call, and the whole end.
+struct Card {
+    name: String,
+    comment: String,
+    call: String,
+    end: String,
+}
+
+/// The type of a call's end.
+fn end_type(call: &str) -> &'static str {
+    match call.split(' ').next() {
+        Some("offer") => "OfferEnd",
+        Some("hit") => "HitEnd",
+        Some("candidates") => "CandidatesEnd",
+        Some("close") => "CloseEnd",
+        Some("seed" | "deliver") => "TransferEnd",
+        _ => panic!("no operation is called: {call}"),
+    }
+}
+
+/// What cards of one name say, as one theorem: what the calls have in common is computed once.
+fn statement(cards: &[Card]) -> String {
+    let name = &cards[0].name;
+    if let [card] = cards {
+        let Card {
+            comment, call, end, ..
+        } = card;
+        return format!("-- {comment}\n{name} : {call}\n    ≡ {end}\n");
+    }
+    let pair = |card: &Card| {
+        let join = if std::ptr::eq(card, &cards[0]) {
+            ""
+        } else {
+            "∷ "
+        };
+        let Card {
+            comment, call, end, ..
+        } = card;
+        format!("    -- {comment}\n    {join}(\n      {call},\n      {end},\n    )\n")
+    };
+    let pairs: String = cards.iter().map(pair).collect();
+    format!(
+        "{name} : Agree {} (\n{pairs}    ∷ [])\n",
+        end_type(&cards[0].call)
+    )
+}
+
 /// A file of cards. The limits and lists that its ledgers have are named once, in front.
 pub struct File {
     sentence: &'static str,
@@ -109,7 +158,7 @@ pub struct File {
     unfolding: &'static str,
     names: HashMap<(String, Vec<u64>), String>,
     front: String,
-    cards: String,
+    cards: Vec<Card>,
 }
 
 impl File {
@@ -120,7 +169,7 @@ impl File {
             unfolding: "opened",
             names: HashMap::new(),
             front: String::new(),
-            cards: String::new(),
+            cards: Vec::new(),
         }
     }
 
@@ -135,7 +184,11 @@ impl File {
     }
 
     pub fn text(&self) -> String {
-        let body = format!("{}{}", self.front, self.cards);
+        let mut body = self.front.clone();
+        for cards in self.cards.chunk_by(|one, next| one.name == next.name) {
+            let (name, opened) = (&cards[0].name, self.unfolding);
+            body += &format!("{}unfolding {opened}\n{name} = refl\n\n", statement(cards));
+        }
         let uses = uses(&body);
         format!(
             "-- {} Assumes nothing.\n{uses}\n{}\n",
@@ -150,11 +203,12 @@ impl File {
             .iter()
             .map(|(name, value)| format!("{name} = {value}"))
             .collect();
-        let end = fields.join("; ");
-        let opened = self.unfolding;
-        self.cards += &format!(
-            "-- {comment}\n{name} : {call}\n    ≡ record {{ {end} }}\nunfolding {opened}\n{name} = refl\n\n"
-        );
+        self.cards.push(Card {
+            name: name.to_string(),
+            comment: comment.to_string(),
+            call: call.to_string(),
+            end: format!("record {{ {} }}", fields.join("; ")),
+        });
     }
 
     /// A ledger, whose lists are named by its role.

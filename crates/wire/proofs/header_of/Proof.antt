@@ -1,12 +1,13 @@
 -- `wire::header_of`. The words in order. Assumes nothing.
-use Rattle.wire.specs.Words.{limitsIn, headerIn}
+use Rattle.wire.specs.Words.{limitsIn}
+use Rattle.wire.proofs.Reading.{header-parts}
 use borrow.Author.Needs.{needs}
 use Rattle.wire.proofs.header_of.Statement.{statement}
 use Rattle.wire.proofs.header_of.Tie as tie
 
 returns : tie.Need-returns
-unfolding limitsIn headerIn
-returns c = rw (c .before .before .before .before .before .before .before .before .before .before .before .before .before .before .before .before .limits-of .ensures, c .before .before .before .before .before .before .before .before .before .before .before .before .mark-of .ensures)
+unfolding limitsIn
+returns c = header-parts _ (c .before .before .before .before .before .before .before .before .before .before .before .before .before .before .before .before .limits-of .ensures) (c .before .before .before .before .before .before .before .before .before .before .before .before .mark-of .ensures)
 
 pub header-of-spec : {M : Type 1} → statement M
 header-of-spec =
