@@ -270,21 +270,6 @@ fn try_all(w: &[u64], out: &mut [u8], at: usize) -> usize
 }
 
 // ---- The input.
-// The numbers of a ledger; the place after them, or the end of the text where one is missing.
-fn read_words(s: &[u8], at: usize, w: &mut [u64]) -> usize {
-    let mut next = at;
-    let mut i: usize = 0;
-    while i < w.len() {
-        let Parsed::Number(n, after) = text::number(s, next) else {
-            return s.len();
-        };
-        w[i] = n;
-        next = after;
-        i += 1;
-    }
-    next
-}
-
 fn store(w: &mut [u64], index: u64, value: u64) {
     if index < w.len() as u64 {
         w[index as usize] = value;
@@ -348,11 +333,11 @@ fn run(s: &[u8], out: &mut [u8]) {
     let mut turns = s.len();
     while 0 < turns {
         let mut good = [0u64; 1000];
-        let first = read_words(s, at, &mut good);
-        if s.len() <= first {
+        let l = text::numbers(s, at, &mut good);
+        if !l.ok {
             return;
         }
-        at = copies(s, first, &good, out);
+        at = copies(s, l.at, &good, out);
         turns -= 1;
     }
 }

@@ -23,6 +23,12 @@ pub enum Call {
     Unknown,
 }
 
+// The place after an answer line, whose end is yet to be put; or a line that is no call, for which nothing was put.
+pub enum Said {
+    Line(usize),
+    Error,
+}
+
 // A call on one ledger: the ledger's number, the place after it in the line, and the place for the answer.
 pub struct Asked {
     pub call: Call,

@@ -3,7 +3,7 @@
 // name that is another atom's, an atom of 32,768 or more, a bad name, and the first name after 1,024. `reset` leaves the names.
 ghost use Prim.Native.Nat.{_+_, _≤_};
 ghost use lib.ListN.{length};
-use crate::answers::Said;
+use crate::calls::Said;
 use text::Parsed;
 use text::pack;
 use text::put;

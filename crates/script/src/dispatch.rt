@@ -1,15 +1,10 @@
 // The call of a line, by its first word.
 ghost use lib.ListN.{length};
 ghost use Rattle.notation.specs.Placing.{Within};
-use calls::act;
-use calls::candidates;
-use calls::decide;
-use calls::make;
-use calls::next;
-use calls::transfer;
-use notation::answers::Said;
+use answers::dump;
 use notation::calls::Asked;
 use notation::calls::Call;
+use notation::calls::Said;
 use notation::calls::call_of;
 use notation::places::Place;
 use notation::places::head_in;
@@ -17,7 +12,12 @@ use notation::places::keep;
 use notation::places::room;
 use notation::points;
 use notation::rooms::NAMES;
-use notation::rows::dump;
+use several::decide;
+use several::make;
+use several::transfer;
+use single::act;
+use single::candidates;
+use single::next;
 use text::Parsed;
 use text::put_text;
 

@@ -3,7 +3,7 @@ ghost use mathlib.Core.Path.{_≡_};
 ghost use Prim.Native.Nat.{_-_, _≤_};
 ghost use lib.ListN.{length};
 use crate::dispatch;
-use notation::answers::Said;
+use notation::calls::Said;
 use std::num::wrapping_add_u64;
 use text::find;
 use text::flush;

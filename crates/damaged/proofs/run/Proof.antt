@@ -14,11 +14,11 @@ abbrev μ-loop : tie.MeasureT-loop
 loop-holds : tie.Need-loop-holds Inv-loop μ-loop
 loop-holds c = search needs
 
-slice-aggregate-read-words : tie.Need-slice-aggregate-read-words Inv-loop μ-loop
-slice-aggregate-read-words c = search needs
+slice-aggregate-numbers : tie.Need-slice-aggregate-numbers Inv-loop μ-loop
+slice-aggregate-numbers c = search needs
 
-read-words-requires : tie.Need-read-words-requires Inv-loop μ-loop
-read-words-requires c κs = search needs
+numbers-requires : tie.Need-numbers-requires Inv-loop μ-loop
+numbers-requires c κs = search needs
 
 same-length : tie.Need-same-length Inv-loop μ-loop
 same-length c = search needs
@@ -54,8 +54,8 @@ run-spec =
     Inv-loop
     μ-loop
     loop-holds
-    slice-aggregate-read-words
-    read-words-requires
+    slice-aggregate-numbers
+    numbers-requires
     same-length
     returns
     slice-aggregate-copies

@@ -2,12 +2,12 @@
 // `make` leaves the ledger's number unmade; a ledger that the program has no room for is an error, and stays as it was.
 ghost use lib.ListN.{length};
 ghost use Rattle.notation.specs.Placing.{Within};
+use answers::put_call;
+use answers::put_head;
+use answers::put_refused;
 use boundary::ledger_make;
 use contents::limits_ok;
-use notation::answers::Said;
-use notation::answers::put_call;
-use notation::answers::put_head;
-use notation::answers::put_refused;
+use notation::calls::Said;
 use notation::places::Place;
 use notation::places::keep;
 use notation::places::room;

@@ -1,10 +1,10 @@
--- `notation::decoding::push_group`. The list keeps its length, and the count is within it; the bits left fall. Assumes nothing.
+-- `answers::decoding::push_group`. The list keeps its length, and the count is within it; the bits left fall. Assumes nothing.
 use mathlib.Core.Path.{_≡_}
 use Prim.Native.Nat.{_-_, _≤_}
 use lib.ListN.{length}
 use borrow.Author.Needs.{needs}
-use Rattle.notation.proofs.decoding.push_group.Statement.{statement}
-use Rattle.notation.proofs.decoding.push_group.Tie as tie
+use Rattle.answers.proofs.decoding.push_group.Statement.{statement}
+use Rattle.answers.proofs.decoding.push_group.Tie as tie
 
 abbrev Inv-loop : tie.InvT-loop
 Inv-loop list₀ n index present absent count₀ bit₀ list count bit = (length list ≡ length list₀) × (count ≤ length list₀) × (bit ≤ 64)

@@ -2,16 +2,16 @@
 // - `candidates I M ATOMS`: `candidates I COUNT LIST charge=N HEAD`, or `candidates I Stopped charge=N HEAD`
 // - `next I M P NEXT,WORD,PRESENT,ABSENT HELD CUT`: `next I ANSWER charge=N cursor=NEXT,WORD,PRESENT,ABSENT HEAD`, ANSWER one of `Output CODE`,
 //   `End`, `Stopped`
+use answers::put_call;
+use answers::put_case;
+use answers::put_charge;
+use answers::put_end;
+use answers::put_head;
+use answers::put_refused;
 use boundary::ledger_candidates;
 use boundary::ledger_next_output;
-use notation::answers::Said;
-use notation::answers::put_call;
-use notation::answers::put_case;
-use notation::answers::put_charge;
-use notation::answers::put_end;
-use notation::answers::put_head;
-use notation::answers::put_refused;
 use notation::calls::Asked;
+use notation::calls::Said;
 use notation::regions::read_region;
 use notation::rooms;
 use text::ended;

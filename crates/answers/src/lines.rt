@@ -1,18 +1,12 @@
 // What answer lines share: the call and a ledger's number, a refusal, the answer's case, the charge and the header. Each part but the first begins
 // with a space.
-use crate::rooms::HEAD_WORDS;
+use notation::rooms::HEAD_WORDS;
 use text::nth;
 use text::put;
 use text::put_field;
 use text::put_fields;
 use text::put_text;
 use text::word;
-
-// The place after an answer line, whose end is yet to be put; or a line that is no call, for which nothing was put.
-pub enum Said {
-    Line(usize),
-    Error,
-}
 
 // The beginning of a line: the call, as it stands in the line that is answered, and a ledger's number.
 pub fn put_call(out: &mut [u8], at: usize, s: &[u8], index: u64) -> usize {

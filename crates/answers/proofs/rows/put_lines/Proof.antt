@@ -1,10 +1,10 @@
--- `notation::rows::put_lines`. The buffer keeps its length, and the place is within the slots; the rows left fall. Assumes nothing.
+-- `answers::rows::put_lines`. The buffer keeps its length, and the place is within the slots; the rows left fall. Assumes nothing.
 use mathlib.Core.Path.{_≡_}
 use Prim.Native.Nat.{_-_, _≤_}
 use lib.ListN.{length}
 use borrow.Author.Needs.{needs}
-use Rattle.notation.proofs.rows.put_lines.Statement.{statement}
-use Rattle.notation.proofs.rows.put_lines.Tie as tie
+use Rattle.answers.proofs.rows.put_lines.Statement.{statement}
+use Rattle.answers.proofs.rows.put_lines.Tie as tie
 
 abbrev Inv-loop : tie.InvT-loop
 Inv-loop out₀ at rows slots d₀ a₀ position₀ out d a position = (length out ≡ length out₀) × (a ≤ length slots)

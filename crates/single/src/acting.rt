@@ -6,23 +6,23 @@
 // - `close I M HELD CUT`: `close I ANSWER charge=N held=LIST cut=LIST HEAD`, ANSWER one of `Closed`, `Conflict`, `Stopped`
 // - `plan I M ITEMS`: a closing by items, and an atom stands in the lists by its name where it has one
 ghost use Prim.Native.Nat.{_≤_};
+use answers::put_call;
+use answers::put_case;
+use answers::put_charge;
+use answers::put_head;
+use answers::put_refused;
+use answers::put_row;
 use boundary::ledger_begin;
 use boundary::ledger_close;
 use boundary::ledger_deduce;
 use boundary::ledger_hit;
 use boundary::ledger_offer;
-use notation::answers::Said;
-use notation::answers::put_call;
-use notation::answers::put_case;
-use notation::answers::put_charge;
-use notation::answers::put_head;
-use notation::answers::put_refused;
 use notation::arguments::read_lists;
 use notation::calls::Asked;
 use notation::calls::Call;
+use notation::calls::Said;
 use notation::regions::put_region;
 use notation::rooms;
-use notation::rows::put_row;
 use text::kept;
 use text::put_text;
 

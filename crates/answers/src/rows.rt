@@ -1,17 +1,17 @@
 // The rows in the slots of a ledger: one by its items, and the lines of `dump`.
 ghost use Prim.Native.Nat.{_≤_};
 ghost use lib.ListN.{length};
-use crate::answers::Said;
-use crate::answers::put_call;
-use crate::calls::Asked;
 use crate::decoding::BODY;
 use crate::decoding::GROUP_WORDS;
 use crate::decoding::condition_codes;
 use crate::decoding::output_codes;
 use crate::decoding::span;
-use crate::literals::put_items;
-use crate::rooms;
+use crate::lines::put_call;
 use model::SLOT_WORDS;
+use notation::calls::Asked;
+use notation::calls::Said;
+use notation::literals::put_items;
+use notation::rooms;
 use slotcheck::run_count;
 use std::num::wrapping_add_usize;
 use text::ended;

@@ -1,8 +1,8 @@
 // `decide A ATOM VALUE HELD CUT`, VALUE 0 or 1: `decide ANSWER held=LIST cut=LIST`, ANSWER `True` or `False`.
+use answers::put_case;
+use answers::put_refused;
 use boundary::ledger_decide;
-use notation::answers::Said;
-use notation::answers::put_case;
-use notation::answers::put_refused;
+use notation::calls::Said;
 use notation::regions::put_region;
 use notation::regions::read_region;
 use notation::rooms;

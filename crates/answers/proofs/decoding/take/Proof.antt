@@ -1,10 +1,10 @@
--- `notation::decoding::take`. The list keeps its length, and the count is within it; the codes left fall. Assumes nothing.
+-- `answers::decoding::take`. The list keeps its length, and the count is within it; the codes left fall. Assumes nothing.
 use mathlib.Core.Path.{_≡_}
 use Prim.Native.Nat.{_-_, _≤_}
 use lib.ListN.{length}
 use borrow.Author.Needs.{needs}
-use Rattle.notation.proofs.decoding.take.Statement.{statement}
-use Rattle.notation.proofs.decoding.take.Tie as tie
+use Rattle.answers.proofs.decoding.take.Statement.{statement}
+use Rattle.answers.proofs.decoding.take.Tie as tie
 
 abbrev Inv-loop : tie.InvT-loop
 Inv-loop codes list₀ count₀ i₀ list count i = (length list ≡ length list₀) × (count ≤ length list₀) × (i ≤ length codes)

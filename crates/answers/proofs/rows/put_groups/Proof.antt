@@ -1,10 +1,10 @@
--- `notation::rows::put_groups`. The buffer keeps its length; the words left fall. Assumes nothing.
+-- `answers::rows::put_groups`. The buffer keeps its length; the words left fall. Assumes nothing.
 use mathlib.Core.Path.{_≡_}
 use Prim.Native.Nat.{_-_, _≤_}
 use lib.ListN.{length}
 use borrow.Author.Needs.{needs}
-use Rattle.notation.proofs.rows.put_groups.Statement.{statement}
-use Rattle.notation.proofs.rows.put_groups.Tie as tie
+use Rattle.answers.proofs.rows.put_groups.Statement.{statement}
+use Rattle.answers.proofs.rows.put_groups.Tie as tie
 
 abbrev Inv-loop : tie.InvT-loop
 Inv-loop out₀ at groups to₀ i₀ out to i = (length out ≡ length out₀) × (i ≤ length groups)
