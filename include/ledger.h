@@ -84,7 +84,8 @@ enum { LEDGER_FALSE = 0, LEDGER_TRUE = 1 };                                  /* 
  * Back: `head` is the fresh header, every word of `slots` and `postings` is 0, `answer` is 0, 0, 0. What they held before does not matter.
  * Refused: 1, 2.
  */
-uint64_t ledger_make(const uint64_t limits[10], uint64_t number, uint64_t head[25], uint64_t answer[3],
+uint64_t ledger_make(const uint64_t limits[LEDGER_LIMIT_WORDS], uint64_t number,
+                     uint64_t head[LEDGER_HEAD_WORDS], uint64_t answer[LEDGER_ANSWER_WORDS],
                      uint64_t *slots, size_t slots_len, uint64_t *postings, size_t postings_len);
 
 /*
@@ -92,7 +93,7 @@ uint64_t ledger_make(const uint64_t limits[10], uint64_t number, uint64_t head[2
  * Back: `head` with full 1: the next search takes all rows; `answer` is 0, 0, 0.
  * Refused: 1, 2, 3.
  */
-uint64_t ledger_begin(uint64_t head[25], uint64_t answer[3],
+uint64_t ledger_begin(uint64_t head[LEDGER_HEAD_WORDS], uint64_t answer[LEDGER_ANSWER_WORDS],
                       const uint64_t *slots, size_t slots_len, const uint64_t *postings, size_t postings_len);
 
 /*
@@ -101,7 +102,7 @@ uint64_t ledger_begin(uint64_t head[25], uint64_t answer[3],
  * `answer` is 0, 0, 0.
  * Refused: 1, 2, 3, 5.
  */
-uint64_t ledger_hit(uint64_t head[25], uint64_t answer[3],
+uint64_t ledger_hit(uint64_t head[LEDGER_HEAD_WORDS], uint64_t answer[LEDGER_ANSWER_WORDS],
                     uint64_t *slots, size_t slots_len, const uint64_t *postings, size_t postings_len, uint64_t position);
 
 /*
@@ -110,7 +111,7 @@ uint64_t ledger_hit(uint64_t head[25], uint64_t answer[3],
  * required as its value. `meter` has the ticks charged.
  * Refused: 1, 2, 3, 5, 6.
  */
-uint64_t ledger_deduce(const uint64_t head[25], uint64_t answer[3], uint64_t meter[2],
+uint64_t ledger_deduce(const uint64_t head[LEDGER_HEAD_WORDS], uint64_t answer[LEDGER_ANSWER_WORDS], uint64_t meter[LEDGER_METER_WORDS],
                        const uint64_t *slots, size_t slots_len, const uint64_t *postings, size_t postings_len, uint64_t position,
                        const uint64_t *held, size_t held_len, const uint64_t *cut, size_t cut_len);
 
@@ -119,7 +120,8 @@ uint64_t ledger_deduce(const uint64_t head[25], uint64_t answer[3], uint64_t met
  * Back: `answer` is 0 End; 1 Output, with the output's code as its value; 2 Stopped. `cursor` stands past it, `meter` has the ticks charged.
  * Refused: 1, 2, 3, 5, 6, 8.
  */
-uint64_t ledger_next_output(const uint64_t head[25], uint64_t answer[3], uint64_t meter[2], uint64_t cursor[4],
+uint64_t ledger_next_output(const uint64_t head[LEDGER_HEAD_WORDS], uint64_t answer[LEDGER_ANSWER_WORDS],
+                            uint64_t meter[LEDGER_METER_WORDS], uint64_t cursor[LEDGER_CURSOR_WORDS],
                             const uint64_t *slots, size_t slots_len, const uint64_t *postings, size_t postings_len, uint64_t position,
                             const uint64_t *held, size_t held_len, const uint64_t *cut, size_t cut_len);
 
@@ -129,7 +131,7 @@ uint64_t ledger_next_output(const uint64_t head[25], uint64_t answer[3], uint64_
  * opposite is marked.
  * Refused: 6, also for `atoms` outside 1 to 32,768.
  */
-uint64_t ledger_decide(uint64_t answer[3], uint64_t atoms, uint64_t *held, size_t held_len, uint64_t *cut, size_t cut_len,
+uint64_t ledger_decide(uint64_t answer[LEDGER_ANSWER_WORDS], uint64_t atoms, uint64_t *held, size_t held_len, uint64_t *cut, size_t cut_len,
                        uint64_t atom, uint64_t value);
 
 /*
@@ -139,7 +141,7 @@ uint64_t ledger_decide(uint64_t answer[3], uint64_t atoms, uint64_t *held, size_
  * it, `meter` has the ticks charged.
  * Refused: 1, 2, 3, 4.
  */
-uint64_t ledger_offer(uint64_t head[25], uint64_t answer[3], uint64_t meter[2],
+uint64_t ledger_offer(uint64_t head[LEDGER_HEAD_WORDS], uint64_t answer[LEDGER_ANSWER_WORDS], uint64_t meter[LEDGER_METER_WORDS],
                       uint64_t *slots, size_t slots_len, uint64_t *postings, size_t postings_len,
                       const uint64_t *conditions, size_t conditions_len, const uint64_t *outputs, size_t outputs_len);
 
@@ -150,7 +152,7 @@ uint64_t ledger_offer(uint64_t head[25], uint64_t answer[3], uint64_t meter[2],
  * `meter` has the ticks charged.
  * Refused: 1, 2, 3.
  */
-uint64_t ledger_candidates(uint64_t head[25], uint64_t answer[3], uint64_t meter[2],
+uint64_t ledger_candidates(uint64_t head[LEDGER_HEAD_WORDS], uint64_t answer[LEDGER_ANSWER_WORDS], uint64_t meter[LEDGER_METER_WORDS],
                            const uint64_t *slots, size_t slots_len, uint64_t *postings, size_t postings_len,
                            const uint64_t *atoms, size_t atoms_len, uint64_t *found, size_t found_len);
 
@@ -161,7 +163,7 @@ uint64_t ledger_candidates(uint64_t head[25], uint64_t answer[3], uint64_t meter
  * (hits) and `postings` are the ledger after it, `meter` has the ticks charged.
  * Refused: 1, 2, 3, 6.
  */
-uint64_t ledger_close(uint64_t head[25], uint64_t answer[3], uint64_t meter[2],
+uint64_t ledger_close(uint64_t head[LEDGER_HEAD_WORDS], uint64_t answer[LEDGER_ANSWER_WORDS], uint64_t meter[LEDGER_METER_WORDS],
                       uint64_t *slots, size_t slots_len, uint64_t *postings, size_t postings_len,
                       uint64_t *held, size_t held_len, uint64_t *cut, size_t cut_len,
                       uint64_t *rows, size_t rows_len, uint64_t *atoms, size_t atoms_len);
@@ -174,7 +176,8 @@ uint64_t ledger_close(uint64_t head[25], uint64_t answer[3], uint64_t meter[2],
  * number and born if it came to the end. `store` has the rows added counted under seeded. `meter` has the ticks charged.
  * Refused: the tier's 1, 2, 3; the store's 1, 2, 3; 7.
  */
-uint64_t ledger_seed(uint64_t tier[25], uint64_t store[25], uint64_t answer[3], uint64_t meter[2],
+uint64_t ledger_seed(uint64_t tier[LEDGER_HEAD_WORDS], uint64_t store[LEDGER_HEAD_WORDS],
+                     uint64_t answer[LEDGER_ANSWER_WORDS], uint64_t meter[LEDGER_METER_WORDS],
                      uint64_t *tier_slots, size_t tier_slots_len, uint64_t *tier_postings, size_t tier_postings_len,
                      const uint64_t *store_slots, size_t store_slots_len, const uint64_t *store_postings, size_t store_postings_len);
 
@@ -186,7 +189,8 @@ uint64_t ledger_seed(uint64_t tier[25], uint64_t store[25], uint64_t answer[3], 
  * `store_slots` and `store_postings` are the store after it, with the rows added counted under deliveries. `meter` has the ticks charged.
  * Refused: as Seed.
  */
-uint64_t ledger_deliver(uint64_t tier[25], uint64_t store[25], uint64_t answer[3], uint64_t meter[2],
+uint64_t ledger_deliver(uint64_t tier[LEDGER_HEAD_WORDS], uint64_t store[LEDGER_HEAD_WORDS],
+                        uint64_t answer[LEDGER_ANSWER_WORDS], uint64_t meter[LEDGER_METER_WORDS],
                         uint64_t *tier_slots, size_t tier_slots_len, const uint64_t *tier_postings, size_t tier_postings_len,
                         uint64_t *store_slots, size_t store_slots_len, uint64_t *store_postings, size_t store_postings_len);
 

@@ -1,21 +1,29 @@
-/* What the acceptance of a lent ledger costs: Begin, which is the acceptance and one flag, on 256 rows of 12 literals over 4,096 atoms with
- * their postings built, beside one read of the same buffers, a plain sum over all their words. Two kinds of ledger: rows whose atoms lie
- * anywhere, which are laid out code by code, and rows whose atoms lie close together, which are packed. Each time is the least of many
- * calls on one ledger; the time of a first call is the middle one of 200 ledgers, each met once, since a processor learns the branches that
- * a ledger takes when it meets it again. The rows and their words are made here, by document 01 alone.
+/* What the acceptance of a lent ledger costs: Begin, which is the acceptance and one flag, on 256 rows with their postings built, beside one
+ * read of the same buffers, a plain sum over all their words. Of each size of rows and number of atoms two kinds of ledger: rows whose atoms
+ * lie anywhere, laid out code by code where they are few, and rows whose atoms lie close together, which are packed. Each time is the
+ * least of many calls on one ledger; the time of a first call is the middle one of 200 ledgers, each met once, since a processor learns
+ * the branches that a ledger takes when it meets it again. The rows and their words are made here, by document 01 alone.
  *     accept [calls]            prints the figures
- *     accept calls KIND         makes that many calls on one ledger (0 or 1) and prints nothing: for a profiler */
+ *     accept calls KIND         makes that many calls on one ledger of `kinds` and prints nothing: for a profiler */
 #include "ledger.h"
 #include <stdio.h>
 #include <stdlib.h>
 #include <string.h>
 #include <time.h>
 
-enum { ATOMS = 4096, ROWS = 256, CONDITIONS = 4, OUTPUTS = 8, MOST_POSITIONS = 4096, LEDGERS = 200 };
+enum { ROWS = 256, MOST_CONDITIONS = 16, MOST_OUTPUTS = 64, MOST_POSITIONS = 4096, LEDGERS = 200 };
 enum { SLOTS = ROWS * LEDGER_SLOT_WORDS, POSTINGS = ROWS * LEDGER_POSTING_WORDS };
 
 static uint64_t head[LEDGER_HEAD_WORDS], answer[LEDGER_ANSWER_WORDS], slots[SLOTS], postings[POSTINGS];
 static int packed_rows;
+
+/* Over 4,096 atoms at most each atom has a place of its own in the check of the postings; over more, each row has one. */
+struct kind { uint64_t atoms; int conditions, outputs, close; };
+static const struct kind kinds[] = {
+    { 4096, 4, 8, 0 }, { 4096, 4, 8, 1 }, { 32768, 4, 8, 0 }, { 32768, 4, 8, 1 },
+    { 4096, 16, 64, 0 }, { 4096, 16, 64, 1 }, { 32768, 16, 64, 0 }, { 32768, 16, 64, 1 },
+};
+enum { KINDS = sizeof kinds / sizeof *kinds };
 
 /* xorshift64*: the same rows in every run. */
 static uint64_t state;
@@ -63,30 +71,31 @@ static int grouped(const uint64_t *c, int n, uint64_t *body)
 }
 
 /* One row in its slot, and its postings from `at` on; the place after them. */
-static int lay(int position, uint64_t *c, int at)
+static int lay(const struct kind *k, int position, uint64_t *c, int at)
 {
-    uint64_t *slot = slots + (size_t)position * LEDGER_SLOT_WORDS, groups[3 * (CONDITIONS + OUTPUTS)];
-    int g = grouped(c, CONDITIONS, groups), w = g + grouped(c + CONDITIONS, OUTPUTS, groups + 3 * g);
-    slot[0] = CONDITIONS;
-    slot[1] = OUTPUTS;
+    uint64_t *slot = slots + (size_t)position * LEDGER_SLOT_WORDS, groups[3 * (MOST_CONDITIONS + MOST_OUTPUTS)];
+    int n = k->conditions + k->outputs;
+    int g = grouped(c, k->conditions, groups), w = g + grouped(c + k->conditions, k->outputs, groups + 3 * g);
+    slot[0] = k->conditions;
+    slot[1] = k->outputs;
     slot[6] = position + 1;
-    if (3 * w < 2 * (CONDITIONS + OUTPUTS)) {
+    if (3 * w < 2 * n) {
         packed_rows++;
         slot[2] = w;
         slot[3] = g;
         memcpy(slot + 8, groups, sizeof(uint64_t) * 3 * w);
     } else {
-        memcpy(slot + 8, c, sizeof(uint64_t) * (CONDITIONS + OUTPUTS));
+        memcpy(slot + 8, c, sizeof(uint64_t) * n);
     }
-    for (int i = 0; i < CONDITIONS + OUTPUTS; i++)
+    for (int i = 0; i < n; i++)
         postings[at++] = c[i] / 2 * MOST_POSITIONS + position;
     return at;
 }
 
 /* A ledger: the conditions of `close` rows lie within a word, their outputs within two. */
-static void build(int close, int seed)
+static void build(const struct kind *k, int seed)
 {
-    static const uint64_t limits[LEDGER_LIMIT_WORDS] = { ATOMS, ROWS, 16, 64, 64, 256, 131072, 131072, 8, 2 };
+    const uint64_t limits[LEDGER_LIMIT_WORDS] = { k->atoms, ROWS, 16, 64, 64, 256, 131072, 131072, 8, 2 };
     memset(head, 0, sizeof head);
     memset(slots, 0, sizeof slots);
     memset(postings, 0, sizeof postings);
@@ -96,10 +105,10 @@ static void build(int close, int seed)
     packed_rows = 0;
     int at = 0;
     for (int p = 0; p < ROWS; p++) {
-        uint64_t c[CONDITIONS + OUTPUTS];
-        codes(c, CONDITIONS, close ? 64 * below(ATOMS / 64) : 0, close ? 64 : ATOMS);
-        codes(c + CONDITIONS, OUTPUTS, close ? 64 * below(ATOMS / 64 - 1) : 0, close ? 128 : ATOMS);
-        at = lay(p, c, at);
+        uint64_t c[MOST_CONDITIONS + MOST_OUTPUTS];
+        codes(c, k->conditions, k->close ? 64 * below(k->atoms / 64) : 0, k->close ? 64 : k->atoms);
+        codes(c + k->conditions, k->outputs, k->close ? 64 * below(k->atoms / 64 - 1) : 0, k->close ? 128 : k->atoms);
+        at = lay(k, p, c, at);
     }
     qsort(postings, at, sizeof *postings, ascending);
 }
@@ -151,13 +160,13 @@ static int shorter(const void *a, const void *b)
     double x = *(const double *)a, y = *(const double *)b;
     return (x > y) - (x < y);
 }
-static double first(int close)
+static double first(const struct kind *k)
 {
     static double took[LEDGERS];
-    for (int k = 0; k < LEDGERS; k++) {
-        build(close, k + 1);
+    for (int i = 0; i < LEDGERS; i++) {
+        build(k, i + 1);
         kept = sums();
-        took[k] = least(begin, 1);
+        took[i] = least(begin, 1);
     }
     qsort(took, LEDGERS, sizeof *took, shorter);
     return took[LEDGERS / 2];
@@ -167,13 +176,13 @@ int main(int argc, char **argv)
 {
     int calls = argc > 1 ? atoi(argv[1]) : 20000;
     if (argc > 2) {
-        build(atoi(argv[2]), 0);
+        build(&kinds[atoi(argv[2]) % KINDS], 0);
         for (int i = 0; i < calls; i++)
             kept = begin();
         return kept != 0;
     }
-    for (int close = 0; close < 2; close++) {
-        build(close, 0);
+    for (const struct kind *k = kinds; k < kinds + KINDS; k++) {
+        build(k, 0);
         if (begin() != 0 || answer[LEDGER_CASE] != LEDGER_DONE || head[LEDGER_FULL] != 1) {
             printf("Begin did not answer Done\n");
             return 1;
@@ -186,10 +195,11 @@ int main(int argc, char **argv)
             printf("Begin did not answer Done without postings\n");
             return 1;
         }
-        double stale = least(begin, calls), once = first(close);
-        printf("%s, %d of %d rows packed. ns a row: one read %.1f, acceptance %.1f, without postings %.1f, first call %.1f. Times one read: %.2f, %.2f, %.2f\n",
-               close ? "close atoms" : "any atoms", packed, ROWS, read / ROWS, accept / ROWS, stale / ROWS, once / ROWS, accept / read,
-               stale / read, once / read);
+        double stale = least(begin, calls), once = first(k);
+        printf("%d and %d literals over %d atoms, %s, %d of %d rows packed. ns a row: one read %.1f, acceptance %.1f, without postings %.1f, "
+               "first call %.1f. Times one read: %.2f, %.2f, %.2f\n",
+               k->conditions, k->outputs, (int)k->atoms, k->close ? "close" : "any", packed, ROWS, read / ROWS, accept / ROWS,
+               stale / ROWS, once / ROWS, accept / read, stale / read, once / read);
     }
     return 0;
 }

@@ -93,7 +93,11 @@ impl Run {
     pub fn subject(&mut self, ledger: Ledger) -> Subject {
         let (rows, regions) = (ledger.rows(), regions(ledger.atoms));
         let evicted = ledger.has_evicted();
-        let packed = ledger.slots.chunks(SLOT_WORDS).any(|slot| slot[2] != 0);
+        let packed = ledger
+            .book
+            .slots
+            .chunks(SLOT_WORDS)
+            .any(|slot| slot[2] != 0);
         self.occurs("a ledger that evicted", evicted);
         self.occurs("a ledger with a packed row", packed);
         self.occurs("a ledger of more than 64 rows", rows.len() > SCAN_ROWS);
@@ -225,19 +229,19 @@ impl Subject {
 /// The ledger as a closing must leave it.
 fn after(before: &Ledger, told: &Told) -> Ledger {
     let mut ledger = before.clone();
-    for (slot, hits) in ledger.slots.chunks_mut(SLOT_WORDS).zip(&told.hits) {
+    for (slot, hits) in ledger.book.slots.chunks_mut(SLOT_WORDS).zip(&told.hits) {
         slot[HITS] += hits;
         slot[UNSHARED] += hits;
     }
-    ledger.head[FULL] = 0;
+    ledger.book.head[FULL] = 0;
     ledger
 }
 
 impl Ledger {
     /// Equal but for the postings and whether they are built: the rows say what they would be.
     fn same(&self, other: &Ledger) -> bool {
-        let mut head = self.head;
-        head[STALE] = other.head[STALE];
-        head == other.head && self.slots == other.slots
+        let mut head = self.book.head;
+        head[STALE] = other.book.head[STALE];
+        head == other.book.head && self.book.slots == other.book.slots
     }
 }

@@ -85,7 +85,7 @@ fn disturb(random: &mut Random, ledger: &mut Ledger, rows: &[Row]) {
             let region = conditions(random, ledger.atoms, decided);
             ledger.close(region, limit, random.word());
         }
-        1 if ledger.head[ROWS] > 0 => ledger.hit(random.below(ledger.head[ROWS])),
+        1 if ledger.book.head[ROWS] > 0 => ledger.hit(random.below(ledger.book.head[ROWS])),
         _ => {
             ledger.offer(random.pick(rows), random.below(4));
         }

@@ -1,9 +1,7 @@
 //! A ledger behind the C boundary (include/ledger.h), with the rows that it took.
 
-use crate::boundary::{
-    Answer, Header, POSTING_WORDS, SLOT_WORDS, ledger_close, ledger_deliver, ledger_hit,
-    ledger_make, ledger_offer, ledger_seed,
-};
+use crate::book::Book;
+use crate::boundary::{Answer, HEADER_WORDS, POSTING_WORDS, SLOT_WORDS};
 use crate::rows::{Ending, Literals, Row};
 
 pub const ROWS: usize = 11;
@@ -53,9 +51,7 @@ impl Closing {
 #[derive(Clone)]
 pub struct Ledger {
     pub atoms: u64,
-    pub head: Header,
-    pub slots: Vec<u64>,
-    postings: Vec<u64>,
+    pub book: Book,
     /// The rows that were offered or transferred to it, and Added or Subsumed.
     pub taken: Vec<Row>,
 }
@@ -84,72 +80,28 @@ impl Ledger {
             16,
             0,
         ];
-        let mut head = [0; 25];
-        let mut slots = vec![1; SLOT_WORDS * tier_rows as usize];
-        let mut postings = vec![1; POSTING_WORDS * tier_rows as usize];
-        // SAFETY: every pointer is to as many words as stand behind it, and no two overlap.
-        let refusal = unsafe {
-            ledger_make(
-                &words,
-                1,
-                &mut head,
-                &mut [0; 3],
-                slots.as_mut_ptr(),
-                slots.len(),
-                postings.as_mut_ptr(),
-                postings.len(),
-            )
+        let mut book = Book {
+            head: [0; HEADER_WORDS],
+            slots: vec![1; SLOT_WORDS * tier_rows as usize],
+            postings: vec![1; POSTING_WORDS * tier_rows as usize],
         };
+        let refusal = book.make(&words, 1, &mut [0; 3]);
         assert_eq!(refusal, 0, "make is refused");
         let taken = Vec::new();
-        Ledger {
-            atoms,
-            head,
-            slots,
-            postings,
-            taken,
-        }
+        Ledger { atoms, book, taken }
     }
 
     pub fn hit(&mut self, position: u64) {
-        let (slots, postings) = (&mut self.slots, &self.postings);
-        let (at, length) = (slots.as_mut_ptr(), slots.len());
-        // SAFETY: as above.
-        let refusal = unsafe {
-            ledger_hit(
-                &mut self.head,
-                &mut [0; 3],
-                at,
-                length,
-                postings.as_ptr(),
-                postings.len(),
-                position,
-            )
-        };
+        let refusal = self.book.hit(position, &mut [0; 3]);
         assert_eq!(refusal, 0, "hit is refused");
     }
 
     /// Offers a row, with a meter that allows so many ticks.
     pub fn offer(&mut self, row: Row, limit: u64) {
         let (conditions, outputs) = (row.conditions.codes(), row.outputs.codes());
-        let (slots, postings) = (&mut self.slots, &mut self.postings);
         let mut answer = [0; 3];
-        // SAFETY: as above.
-        let refusal = unsafe {
-            ledger_offer(
-                &mut self.head,
-                &mut answer,
-                &mut [0, limit],
-                slots.as_mut_ptr(),
-                slots.len(),
-                postings.as_mut_ptr(),
-                postings.len(),
-                conditions.as_ptr(),
-                conditions.len(),
-                outputs.as_ptr(),
-                outputs.len(),
-            )
-        };
+        let meter = &mut [0, limit];
+        let refusal = self.book.offer(&conditions, &outputs, &mut answer, meter);
         assert_eq!(refusal, 0, "an offer is refused");
         if answer[0] >= SUBSUMED {
             self.taken.push(row);
@@ -159,30 +111,15 @@ impl Ledger {
     /// Closes a region, with a meter that allows so many ticks. What stands in the scratch before does not matter: it is `fill`.
     pub fn close(&mut self, region: Literals, limit: u64, fill: u64) -> Closing {
         let (mut held, mut cut) = region.held_and_cut();
-        let tier_rows = self.slots.len() / SLOT_WORDS;
+        let tier_rows = self.book.slots.len() / SLOT_WORDS;
         let mut scratch = vec![fill; tier_rows + self.atoms as usize];
-        let (rows, atoms) = scratch.split_at_mut(tier_rows);
         let (mut answer, mut meter) = ([0; 3], [0, limit]);
-        // SAFETY: as above.
-        let refusal = unsafe {
-            ledger_close(
-                &mut self.head,
-                &mut answer,
-                &mut meter,
-                self.slots.as_mut_ptr(),
-                self.slots.len(),
-                self.postings.as_mut_ptr(),
-                self.postings.len(),
-                &mut held,
-                1,
-                &mut cut,
-                1,
-                rows.as_mut_ptr(),
-                rows.len(),
-                atoms.as_mut_ptr(),
-                atoms.len(),
-            )
-        };
+        let lent = (
+            std::slice::from_mut(&mut held),
+            std::slice::from_mut(&mut cut),
+        );
+        let used = scratch.split_at_mut(tier_rows);
+        let refusal = self.book.close(lent, used, &mut answer, &mut meter);
         assert_eq!(refusal, 0, "a closing is refused");
         assert_eq!(meter, [answer[2], limit], "other ticks than are charged");
         Closing::read(answer, Literals::from_words(held, cut), &scratch)
@@ -190,25 +127,9 @@ impl Ledger {
 
     /// Takes the rows of a store. The meter and the account pay for all of them, and each finds a place: all are taken.
     pub fn seed(&mut self, store: &mut Ledger) {
-        let (slots, postings) = (&mut self.slots, &mut self.postings);
         let mut answer = [0; 3];
-        // SAFETY: as above.
-        let refusal = unsafe {
-            ledger_seed(
-                &mut self.head,
-                &mut store.head,
-                &mut answer,
-                &mut [0, u64::MAX],
-                slots.as_mut_ptr(),
-                slots.len(),
-                postings.as_mut_ptr(),
-                postings.len(),
-                store.slots.as_ptr(),
-                store.slots.len(),
-                store.postings.as_ptr(),
-                store.postings.len(),
-            )
-        };
+        let meter = &mut [0, u64::MAX];
+        let refusal = self.book.seed(&mut store.book, &mut answer, meter);
         assert_eq!(
             (refusal, answer[0]),
             (0, 0),
@@ -219,25 +140,9 @@ impl Ledger {
 
     /// Gives its rows to a store, which takes all of them.
     pub fn deliver(&mut self, store: &mut Ledger) {
-        let (slots, postings) = (&mut store.slots, &mut store.postings);
         let mut answer = [0; 3];
-        // SAFETY: as above.
-        let refusal = unsafe {
-            ledger_deliver(
-                &mut self.head,
-                &mut store.head,
-                &mut answer,
-                &mut [0, u64::MAX],
-                self.slots.as_mut_ptr(),
-                self.slots.len(),
-                self.postings.as_ptr(),
-                self.postings.len(),
-                slots.as_mut_ptr(),
-                slots.len(),
-                postings.as_mut_ptr(),
-                postings.len(),
-            )
-        };
+        let meter = &mut [0, u64::MAX];
+        let refusal = self.book.deliver(&mut store.book, &mut answer, meter);
         assert_eq!(
             (refusal, answer[0]),
             (0, 0),
@@ -247,14 +152,15 @@ impl Ledger {
     }
 
     pub fn has_evicted(&self) -> bool {
-        self.head[EVICTED] != 0
+        self.book.head[EVICTED] != 0
     }
 
     /// The rows held, read from the slots by document 01's layout.
     pub fn rows(&self) -> Vec<Row> {
-        self.slots
+        let book = &self.book;
+        book.slots
             .chunks(SLOT_WORDS)
-            .take(self.head[ROWS] as usize)
+            .take(book.head[ROWS] as usize)
             .map(row_in)
             .collect()
     }

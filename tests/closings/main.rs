@@ -6,6 +6,9 @@
 //! and all that must occur did. The last word makes the comparison wrong, to show that it finds what differs.
 
 #[allow(dead_code)]
+#[path = "../book.rs"]
+mod book;
+#[allow(dead_code)]
 #[path = "../../bindings/rust/src/boundary.rs"]
 mod boundary;
 mod compare;

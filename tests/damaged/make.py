@@ -6,10 +6,10 @@ The expected numbers come from the reading of document 01 in this file alone; no
     tests/damaged/make.py          writes both files
     tests/damaged/make.py --check  exits with 1 if they are not what would be written
 
-A ledger with all that a call is given is one list of 1,000 words: the header as in include/ledger.h, then what LAYOUT below names. The input
-has such a list, then its damaged copies, each as the number of changed words, then index and value of each; 999 ends the copies of
-a ledger. The output has a line a copy: the answers of make, hit, begin, candidates, deduce, next output and decide as refusal numbers, 0
-for none, and then 1 if a refused call charged or changed a lent word: 0.
+A ledger with all that a call is lent is one list of 1,700 words, laid out as below. The input has such a list, then its damaged copies,
+each as the number of changed words, then index and value of each; 999 ends the copies of a ledger. The output has a line a copy, twelve
+digits: what each function of include/ledger.h, in its order, refuses the copy by, 0 for none, and then 1 if a refused call changed a lent
+word: 0.
 """
 import os
 import sys
@@ -17,15 +17,23 @@ import sys
 WORD = 2**64 - 1
 SLOT, POST = 168, 80
 
-# LAYOUT: the header, the lengths of the lent slices, position, cursor (4 words), the atom and value of decide, then the slices themselves;
-# ANSWER is candidates' answer buffer, GIVEN the atoms that it is given
-SLOTS_LEN, POSTINGS_LEN, HELD_LEN, CUT_LEN, POSITION, CURSOR, ATOM, VALUE, ANSWER_LEN, GIVEN_LEN = 25, 26, 27, 28, 29, 30, 34, 35, 36, 37
-ANSWER, GIVEN, SLOTS, POSTINGS, HELD, CUT, SIZE = 40, 48, 64, 600, 900, 950, 1000
+# the header of the ledger, which is the tier in seed and deliver; behind it that of the store
+(ATOMS, TIER, CONDITIONS_MOST, OUTPUTS_MOST, FLOOR, ATTEMPTS_MOST, WORK, SHARE_WORK, SHARE_CONDITIONS, SHARE_HITS, NUMBER, ROWS, BORN,
+ EPOCH, ATTEMPTS, REMAINING, SHARING, EVICTED, DELIVERIES, SEEDED, STALE, FULL, MARK, MARK_NUMBER, MARK_BORN, HEAD) = range(26)
+STORE = HEAD
+# the answer (3 words), the meter (2), the cursor (4), make's number or a position, the atom and the value of decide
+ANSWER, METER, CURSOR, POSITION, ATOM, VALUE = 50, 53, 55, 59, 60, 61
+# the lengths of the lent slices; scratch has no words here: as many words as its length says are lent, none of them 0
+(SLOTS_LEN, POSTINGS_LEN, HELD_LEN, CUT_LEN, CONDITIONS_LEN, OUTPUTS_LEN, GIVEN_LEN, FOUND_LEN, STORE_SLOTS_LEN, STORE_POSTINGS_LEN,
+ ROW_SCRATCH_LEN, ATOM_SCRATCH_LEN, LENGTHS_END) = range(62, 75)
+# the slices: GIVEN are the atoms that candidates is given, FOUND its answer buffer
+GIVEN, FOUND, CONDITIONS, OUTPUTS, HELD, CUT, SLOTS, POSTINGS, STORE_SLOTS, STORE_POSTINGS, SIZE = (
+    80, 90, 100, 120, 190, 240, 290, 830, 1140, 1500, 1700)
 # of each slice: where its length stands, and the room that it has
-ROOM = {ANSWER: (ANSWER_LEN, 8), GIVEN: (GIVEN_LEN, 8), SLOTS: (SLOTS_LEN, 536), POSTINGS: (POSTINGS_LEN, 300), HELD: (HELD_LEN, 50),
-        CUT: (CUT_LEN, 50)}
-(ATOMS, TIER, CONDITIONS, OUTPUTS, FLOOR, ATTEMPTS_MOST, WORK, SHARE_WORK, SHARE_CONDITIONS, SHARE_HITS, NUMBER, ROWS, BORN, EPOCH, ATTEMPTS,
- REMAINING, SHARING, EVICTED, DELIVERIES, SEEDED, STALE, FULL, MARK, MARK_NUMBER, MARK_BORN) = range(25)
+ROOM = {GIVEN: (GIVEN_LEN, 10), FOUND: (FOUND_LEN, 10), CONDITIONS: (CONDITIONS_LEN, 20), OUTPUTS: (OUTPUTS_LEN, 70), HELD: (HELD_LEN, 50),
+        CUT: (CUT_LEN, 50), SLOTS: (SLOTS_LEN, 540), POSTINGS: (POSTINGS_LEN, 310), STORE_SLOTS: (STORE_SLOTS_LEN, 360),
+        STORE_POSTINGS: (STORE_POSTINGS_LEN, 200)}
+SCRATCH_ROOM = {ROW_SCRATCH_LEN: 10, ATOM_SCRATCH_LEN: 3210}
 
 
 # ---- Records: row, groups, form, slot, postings
@@ -112,41 +120,60 @@ def row_in(words):
 
 
 # ---- refusals
-def limits_ok(w):
-    return (1 <= w[ATOMS] <= 32768 and 1 <= w[TIER] <= 4096 and w[CONDITIONS] <= 16 and w[OUTPUTS] <= 64)
+def part(w, at):
+    return w[at:at + w[ROOM[at][0]]]
 
 
-def rows_in(w):
+def tier_of(w):
+    """The header, slots and postings of the ledger, which is the tier in seed and deliver."""
+    return w[:HEAD], part(w, SLOTS), part(w, POSTINGS)
+
+
+def store_of(w):
+    return w[STORE:STORE + HEAD], part(w, STORE_SLOTS), part(w, STORE_POSTINGS)
+
+
+def limits_ok(head):
+    return 1 <= head[ATOMS] <= 32768 and 1 <= head[TIER] <= 4096 and head[CONDITIONS_MOST] <= 16 and head[OUTPUTS_MOST] <= 64
+
+
+def rows_in(head, slots):
     rows = []
-    for position in range(w[ROWS]):
-        words = w[SLOTS + SLOT * position:SLOTS + SLOT * position + SLOT]
+    for position in range(head[ROWS]):
+        words = slots[SLOT * position:SLOT * position + SLOT]
         row = row_in(words)
-        if row is None or not is_row(w[ATOMS], *row) or not 1 <= words[6] <= w[BORN]:
+        if row is None or not is_row(head[ATOMS], *row) or not 1 <= words[6] <= head[BORN]:
             return None
         rows.append(row)
     return rows
 
 
-def contents_ok(w):
-    if w[ROWS] > w[TIER] or w[EPOCH] >= w[TIER] or w[ATTEMPTS] > w[ATTEMPTS_MOST]:
+def contents_ok(head, slots, postings):
+    if head[ROWS] > head[TIER] or head[EPOCH] >= head[TIER] or head[ATTEMPTS] > head[ATTEMPTS_MOST]:
         return False
-    rows = rows_in(w)
-    if rows is None or any(w[SLOTS + SLOT * w[ROWS]:SLOTS + w[SLOTS_LEN]]):
+    rows = rows_in(head, slots)
+    if rows is None or any(slots[SLOT * head[ROWS]:]):
         return False
-    filed = [] if w[STALE] else postings_of(rows)
-    return w[POSTINGS:POSTINGS + w[POSTINGS_LEN]] == filed + [0] * (w[POSTINGS_LEN] - len(filed))
+    filed = [] if head[STALE] else postings_of(rows)
+    return postings == filed + [0] * (len(postings) - len(filed))
 
 
-def lengths_ok(w):
-    return w[SLOTS_LEN] == SLOT * w[TIER] and w[POSTINGS_LEN] == POST * w[TIER]
+def lengths_ok(head, slots, postings):
+    return len(slots) == SLOT * head[TIER] and len(postings) == POST * head[TIER]
 
 
-def accept(w, others=True):
-    if not limits_ok(w):
+def accept(ledger, others=True):
+    """1, 2 or 3, or 0 for none; others is whether the other buffers have their lengths."""
+    if not limits_ok(ledger[0]):
         return 1
-    if not lengths_ok(w) or not others:
+    if not lengths_ok(*ledger) or not others:
         return 2
-    return 0 if contents_ok(w) else 3
+    return 0 if contents_ok(*ledger) else 3
+
+
+def offer_ok(w):
+    conditions, outputs = part(w, CONDITIONS), part(w, OUTPUTS)
+    return (is_row(w[ATOMS], conditions, outputs) and len(conditions) <= w[CONDITIONS_MOST] and len(outputs) <= w[OUTPUTS_MOST])
 
 
 def region_ok(atoms, w):
@@ -180,36 +207,57 @@ def expected(w):
     make = 0
     if not limits_ok(w):
         make = 1
-    elif not lengths_ok(w):
+    elif not lengths_ok(*tier_of(w)):
         make = 2
-    begin = accept(w)
-    candidates = accept(w, w[ANSWER_LEN] == w[TIER])
+    begin = accept(tier_of(w))
     hit = begin or (5 if w[POSITION] >= w[ROWS] else 0)
-    deduce = hit or (0 if region_ok(w[ATOMS], w) else 6)
+    decide = 0 if region_ok(w[ATOMS], w) else 6
+    deduce = hit or decide
     step = deduce
     if step == 0:
-        step = 0 if cursor_ok(rows_in(w)[w[POSITION]], w[CURSOR:CURSOR + 4]) else 8
-    decide = 0 if region_ok(w[ATOMS], w) else 6
-    return [make, hit, begin, candidates, deduce, step, decide, 0]
+        step = 0 if cursor_ok(rows_in(w, part(w, SLOTS))[w[POSITION]], w[CURSOR:CURSOR + 4]) else 8
+    offer = begin or (0 if offer_ok(w) else 4)
+    candidates = accept(tier_of(w), w[FOUND_LEN] == w[TIER])
+    close = accept(tier_of(w), w[ROW_SCRATCH_LEN] == w[TIER] and w[ATOM_SCRATCH_LEN] == w[ATOMS]) or decide
+    transfer = begin or accept(store_of(w)) or (7 if w[ATOMS] != w[STORE + ATOMS] else 0)
+    return [make, begin, hit, deduce, step, decide, offer, candidates, close, transfer, transfer, 0]
 
 
 # ---- good ledgers
-def ledger(atoms, tier, rows, stale, position, held, cut, cursor, atom, given):
+def put_ledger(w, places, atoms, tier, number, rows, stale):
     """rows: (conditions, outputs, hits, unshared, born, delivered)."""
-    w = [0] * SIZE
-    w[:25] = [atoms, tier, 16, 64, 1, 9, 100, 100, 8, 2, 7, len(rows), 5, tier - 1, 9, 50, 60, 0, 1, 2, int(stale), 1, 1, 3, 4]
-    words = (atoms + 63) // 64
-    w[SLOTS_LEN], w[POSTINGS_LEN], w[HELD_LEN], w[CUT_LEN], w[POSITION] = SLOT * tier, POST * tier, words, words, position
-    w[CURSOR:CURSOR + 4] = cursor
-    w[ATOM], w[VALUE] = atom, 1
-    w[ANSWER_LEN], w[GIVEN_LEN] = tier, len(given)
-    w[ANSWER:ANSWER + tier] = [11] * tier
-    w[GIVEN:GIVEN + len(given)] = given
+    head, slots, postings = places
+    w[head:head + HEAD] = [
+        atoms, tier, 16, 64, 1, 9, 100, 100, 8, 2, number, len(rows), 5, tier - 1, 9, 50, 60, 0, 1, 2, int(stale), 1, 1, 3, 4
+    ]
+    w[ROOM[slots][0]], w[ROOM[postings][0]] = SLOT * tier, POST * tier
     for p, row in enumerate(rows):
-        w[SLOTS + SLOT * p:SLOTS + SLOT * p + SLOT] = slot_of(*row)
+        w[slots + SLOT * p:slots + SLOT * p + SLOT] = slot_of(*row)
     if not stale:
         filed = postings_of([row[:2] for row in rows])
-        w[POSTINGS:POSTINGS + len(filed)] = filed
+        w[postings:postings + len(filed)] = filed
+
+
+def put_part(w, at, words):
+    w[ROOM[at][0]] = len(words)
+    w[at:at + len(words)] = words
+
+
+def ledger(atoms, tier, rows, stale, position, held, cut, cursor, atom, given, offered, store):
+    """A ledger with all that a call is lent; store: its rows that may be, its rows, and whether it is stale."""
+    w = [0] * SIZE
+    put_ledger(w, (0, SLOTS, POSTINGS), atoms, tier, 7, rows, stale)
+    put_ledger(w, (STORE, STORE_SLOTS, STORE_POSTINGS), atoms, store[0], 3, store[1], store[2])
+    w[ANSWER:ANSWER + 3], w[METER:METER + 2], w[CURSOR:CURSOR + 4] = [11] * 3, [3, 100], cursor
+    w[POSITION], w[ATOM], w[VALUE] = position, atom, 1
+    w[ROW_SCRATCH_LEN], w[ATOM_SCRATCH_LEN] = tier, atoms
+    words = (atoms + 63) // 64
+    put_part(w, HELD, [0] * words)
+    put_part(w, CUT, [0] * words)
+    put_part(w, GIVEN, given)
+    put_part(w, FOUND, [11] * tier)
+    put_part(w, CONDITIONS, offered[0])
+    put_part(w, OUTPUTS, offered[1])
     for a in held:
         w[HELD + a // 64] |= 1 << (a % 64)
     for a in cut:
@@ -220,35 +268,41 @@ def ledger(atoms, tier, rows, stale, position, held, cut, cursor, atom, given):
 SCALAR = ([7, 200], [6, 7, 140], 3, 1, 2, 0)
 PACKED = ([1, 3, 8], [2, 3, 140, 142, 250], 0, 0, 5, 1)
 # 80 literals with 80 postings: in 66 groups, and in the most groups that a slot can have, 53
-LONG_SCALAR = ([128 * i + 1 for i in range(16)], [128 * i + 2 for i in range(36)] + [128 * i + 2 * j for i in range(36, 50) for j in range(2)], 0, 9, 1, 0)
-LONG_PACKED = ([128 * i + 4 for i in range(16)], [128 * i + 2 * j for i in range(27) for j in range(2)] + [128 * i + 7 for i in range(27, 37)], WORD, WORD, 5, 1)
+LONG_SCALAR = ([128 * i + 1 for i in range(16)],
+               [128 * i + 2 for i in range(36)] + [128 * i + 2 * j for i in range(36, 50) for j in range(2)], 0, 9, 1, 0)
+LONG_PACKED = ([128 * i + 4 for i in range(16)],
+               [128 * i + 2 * j for i in range(27) for j in range(2)] + [128 * i + 7 for i in range(27, 37)], WORD, WORD, 5, 1)
 assert packed(*PACKED[:2]) and not packed(*SCALAR[:2]) and not packed(*LONG_SCALAR[:2]) and packed(*LONG_PACKED[:2])
+NONE = [0, 0, 0, 0]
 LEDGERS = [
-    ledger(130, 2, [SCALAR, PACKED], False, 1, [0, 129], [70], [2, 1, 0, 1 << 6], 5, [3, 70, 3, 500]),
-    ledger(130, 3, [PACKED, SCALAR], True, 1, [0, 64], [], [3, 0, 0, 0], 129, []),
-    ledger(64, 1, [([], [], 1, 0, 1, 0)], False, 0, [], [63], [0, 0, 0, 0], 0, [0]),
-    ledger(1, 1, [], True, 0, [0], [], [0, 0, 0, 0], 0, [0, 0]),
-    ledger(3200, 2, [LONG_SCALAR, LONG_PACKED], False, 0, [3199], [0, 64], [64, 0, 0, 0], 3199, []),
+    ledger(130, 2, [SCALAR, PACKED], False, 1, [0, 129], [70], [2, 1, 0, 1 << 6], 5, [3, 70, 3, 500], ([3, 258], [4, 5, 140]),
+           (2, [PACKED, SCALAR], False)),
+    ledger(130, 3, [PACKED, SCALAR], True, 1, [0, 64], [], [3, 0, 0, 0], 129, [], ([], []), (1, [SCALAR], True)),
+    ledger(64, 1, [([], [], 1, 0, 1, 0)], False, 0, [], [63], NONE, 0, [0], ([127], list(range(64))), (2, [], True)),
+    ledger(1, 1, [], True, 0, [0], [], NONE, 0, [0, 0], ([1], [0, 1]), (1, [([0], [1], 0, 0, 5, 1)], False)),
+    ledger(3200, 2, [LONG_SCALAR, LONG_PACKED], False, 0, [3199], [0, 64], [64, 0, 0, 0], 3199, [], LONG_SCALAR[:2],
+           (2, [LONG_PACKED], False)),
 ]
 
 
 def values(i, v):
-    """What a word is changed to: neighbours, small numbers, a bit at either end, the greatest number; of a limit the ends of every range."""
+    """What a word is changed to: neighbours, small numbers, a bit at either end, the greatest number; of a limit the ends of all ranges."""
     tries = [1, 1 << 63, WORD]
     if v != 0:
         tries += [0, 2, v + 1, v - 1, v * 2, v ^ 1 << 63, v ^ 1 << 5, v + 4096, 64, 130]
-    if i < NUMBER:
+    if i < NUMBER or STORE <= i < STORE + NUMBER:
         tries += [0, 16, 17, 64, 65, 4096, 4097, 32768, 32769]
     return sorted({x & WORD for x in tries} - {v})
 
 
 def within(w):
     """A copy that the lists can hold: lengths up to the room there is."""
-    return all(w[length] <= room for length, room in ROOM.values())
+    return all(w[length] <= room for length, room in list(ROOM.values()) + list(SCRATCH_ROOM.items()))
 
 
-def single(w):
-    for span in [range(GIVEN_LEN + 1)] + [range(at, at + w[length]) for at, (length, _) in ROOM.items()]:
+def single(w, parts):
+    """One word changed: any that is no slice's, and any of these slices."""
+    for span in [range(LENGTHS_END)] + [range(at, at + w[ROOM[at][0]]) for at in parts]:
         for i in span:
             for v in values(i, w[i]):
                 yield [(i, v)]
@@ -328,10 +382,58 @@ def several(w):
     # one row less, with and without its words and postings
     yield [(ROWS, 1)]
     yield [(ROWS, 1)] + written(second, [0] * SLOT)
-    yield [(ROWS, 1), (POSITION, 0), (CURSOR, 0), (CURSOR + 1, 0), (CURSOR + 3, 0)] + written(second, [0] * SLOT) + posted(postings_of([SCALAR[:2]]))
+    first = [(ROWS, 1), (POSITION, 0), (CURSOR, 0), (CURSOR + 1, 0), (CURSOR + 3, 0)]
+    yield first + written(second, [0] * SLOT) + posted(postings_of([SCALAR[:2]]))
     # a tier of fewer rows and of more, with lengths to fit
     for tier in (0, 1, 3):
-        yield [(TIER, tier), (SLOTS_LEN, SLOT * tier), (POSTINGS_LEN, POST * tier), (ANSWER_LEN, tier)]
+        yield [(TIER, tier), (SLOTS_LEN, SLOT * tier), (POSTINGS_LEN, POST * tier), (FOUND_LEN, tier), (ROW_SCRATCH_LEN, tier)]
+
+
+def offered(w):
+    """On the first ledger: lists that are no row over 130 atoms, and some that are; also where fewer conditions or outputs may be."""
+    first, second = [2 * a for a in range(16)], list(range(64))
+    for conditions, outputs in [
+            ([], []),
+            (first, second),
+            (first + [32], []),    # one too many
+            ([], second + [64]),
+            ([258], [259]),
+            ([260], []),    # no atom of 130
+            ([], [260]),
+            ([WORD], []),
+            ([3, 2], []),    # conditions descend
+            ([2, 2], []),
+            ([2, 3], []),    # both signs of an atom
+            ([], [3, 2]),    # outputs descend
+            ([], [2, 2]),
+            ([], [2, 3])]:
+        lists = [(CONDITIONS_LEN, len(conditions)), (OUTPUTS_LEN, len(outputs))]
+        lists += written(CONDITIONS, conditions) + written(OUTPUTS, outputs)
+        yield lists
+        for most in (0, 1, 2):
+            yield [(CONDITIONS_MOST, most)] + lists
+            yield [(OUTPUTS_MOST, most)] + lists
+
+
+def faults(w):
+    """On the first ledger: one fault for every refusal, and for every lent thing that it is about."""
+    return [
+        [(ATOMS, 0)], [(ATOMS, 32769)], [(TIER, 0)], [(OUTPUTS_MOST, 65)], [(SLOTS_LEN, 335)], [(SLOTS_LEN, 0)], [(POSTINGS_LEN, 161)],
+        [(FOUND_LEN, 1)], [(FOUND_LEN, 3)], [(ROW_SCRATCH_LEN, 1)], [(ROW_SCRATCH_LEN, 3)], [(ATOM_SCRATCH_LEN, 129)],
+        [(ATOM_SCRATCH_LEN, 131)], [(SLOTS + 7, 2)], [(POSTINGS, 0)], [(EPOCH, 2)], [(ROWS, 3)], [(CONDITIONS, 259)], [(OUTPUTS_LEN, 70)],
+        [(POSITION, 2)], [(POSITION, WORD)], [(HELD_LEN, 2)], [(CUT + 2, 2)], [(CURSOR, 3)], [(CURSOR + 2, 1)], [(STORE + ATOMS, 0)],
+        [(STORE + TIER, 4097)], [(STORE_SLOTS_LEN, 337)], [(STORE_POSTINGS_LEN, 0)], [(STORE + BORN, 4)], [(STORE_SLOTS + SLOT + 1, 0)],
+        [(STORE + ATOMS, 131)], [(ATOMS, 131), (ATOM_SCRATCH_LEN, 131)]
+    ]
+
+
+def pairs(w):
+    """Every two of them at once: the order of the refusals."""
+    every = faults(w)
+    for i, one in enumerate(every):
+        for other in every[i + 1:]:
+            if not {k for k, _ in one} & {k for k, _ in other}:
+                yield one + other
 
 
 def changed(w, changes):
@@ -341,16 +443,24 @@ def changed(w, changes):
     return out
 
 
+def copies(number, w):
+    if number != 0:
+        # the store's slices are as the ledger's: their words are changed on the first ledger alone
+        return [[]] + list(single(w, [at for at in ROOM if at < STORE_SLOTS]))
+    return list(several(w)) + list(offered(w)) + list(pairs(w)) + list(single(w, ROOM))
+
+
 def write():
     lines, answers = [], []
-    for k, w in enumerate(LEDGERS):
+    for number, w in enumerate(LEDGERS):
+        assert len(w) == SIZE and expected(w)[:2] == [0, 0] and expected(w)[6:] == [0] * 6
         lines.append(' '.join(map(str, w)))
-        for changes in list(several(w) if k == 0 else [[]]) + list(single(w)):
+        for changes in copies(number, w):
             copy = changed(w, changes)
             if not within(copy):
                 continue
             lines.append(' '.join([str(len(changes))] + [f'{i} {v}' for i, v in changes]))
-            answers.append(','.join(map(str, expected(copy))))
+            answers.append(''.join(map(str, expected(copy))))
         lines.append('999')
     return '\n'.join(lines) + '\n', '\n'.join(answers) + '\n'
 

@@ -13,7 +13,7 @@ mod end;
 #[path = "../differential/ledger/generate.rs"]
 #[allow(dead_code)]
 mod generate;
-#[path = "../differential/ledger/layout.rs"]
+#[path = "../layout.rs"]
 #[allow(dead_code)]
 mod layout;
 #[path = "../differential/ledger/parts.rs"]

@@ -1,23 +1,29 @@
 //! The functions of the static library, as `include/ledger.h` declares them. A lent array is a reference; a lent slice is a
-//! pointer and a length. Nothing checks these lines against the library: tests/calls.rs calls each of them.
+//! pointer and a length. Nothing checks these lines against the library: tests/calls.rs calls each of them,
+//! and tests/boundary/layout compares the numbers with the source.
 
 #[cfg(not(target_arch = "x86_64"))]
 compile_error!("the static library of the ledger is made for x86-64");
 
-/// The words of a header: the limits, number, rows, born, epoch, attempts, remaining, sharing, evicted, deliveries, seeded,
-/// stale, full, and the three of the mark.
-pub type Header = [u64; 25];
-/// The limits in the header's order.
-pub type Limits = [u64; 10];
-/// Case, value, ticks.
-pub type Answer = [u64; 3];
-/// Charged, limit.
-pub type MeterWords = [u64; 2];
-/// Next, word, present, absent.
-pub type CursorWords = [u64; 4];
-
+pub const LIMITS_WORDS: usize = 10;
+pub const HEADER_WORDS: usize = 25;
+pub const ANSWER_WORDS: usize = 3;
+pub const METER_WORDS: usize = 2;
+pub const CURSOR_WORDS: usize = 4;
 pub const SLOT_WORDS: usize = 168;
 pub const POSTING_WORDS: usize = 80;
+
+/// The words of a header: the limits, number, rows, born, epoch, attempts, remaining, sharing, evicted, deliveries, seeded,
+/// stale, full, and the three of the mark.
+pub type Header = [u64; HEADER_WORDS];
+/// The limits in the header's order.
+pub type Limits = [u64; LIMITS_WORDS];
+/// Case, value, ticks.
+pub type Answer = [u64; ANSWER_WORDS];
+/// Charged, limit.
+pub type MeterWords = [u64; METER_WORDS];
+/// Next, word, present, absent.
+pub type CursorWords = [u64; CURSOR_WORDS];
 
 #[link(name = "boundary", kind = "static")]
 unsafe extern "C" {

@@ -4,9 +4,9 @@ use crate::answers::{
     Candidates, Charged, Closing, Deduction, NextOutput, Offer, Refusal, Transfer,
 };
 use crate::boundary::{
-    CursorWords, Header, MeterWords, POSTING_WORDS, SLOT_WORDS, ledger_begin, ledger_candidates,
-    ledger_close, ledger_deduce, ledger_deliver, ledger_hit, ledger_make, ledger_next_output,
-    ledger_offer, ledger_seed,
+    ANSWER_WORDS, CursorWords, HEADER_WORDS, Header, MeterWords, POSTING_WORDS, SLOT_WORDS,
+    ledger_begin, ledger_candidates, ledger_close, ledger_deduce, ledger_deliver, ledger_hit,
+    ledger_make, ledger_next_output, ledger_offer, ledger_seed,
 };
 use crate::limits::LearningLimits;
 use crate::region::{Literal, Region};
@@ -71,10 +71,10 @@ impl Ledger {
         } else {
             0
         };
-        let mut header = [0; 25];
+        let mut header = [0; HEADER_WORDS];
         let mut slots = vec![0; SLOT_WORDS * rows];
         let mut postings = vec![0; POSTING_WORDS * rows];
-        let mut answer = [0; 3];
+        let mut answer = [0; ANSWER_WORDS];
         // SAFETY: both lengths are those of the vectors, which are this function's own, and overlap nothing.
         let result = unsafe {
             ledger_make(
@@ -95,7 +95,7 @@ impl Ledger {
     /// The ledger of given words, as [`Ledger::header`], [`Ledger::slots`] and [`Ledger::postings`] give them. Refused by 1, 2
     /// or 3 if they are no ledger's.
     pub fn from_words(
-        header: [u64; 25],
+        header: Header,
         slots: Vec<u64>,
         postings: Vec<u64>,
     ) -> Result<Ledger, Refusal> {
@@ -125,7 +125,7 @@ impl Ledger {
         conditions: &[Literal],
         outputs: &[Literal],
     ) -> Result<Charged<Offer>, Refusal> {
-        let mut answer = [0; 3];
+        let mut answer = [0; ANSWER_WORDS];
         // SAFETY: every length is that of its slice or vector; a literal is one word; `self` and `meter` are borrowed mutably,
         // so that nothing written overlaps anything else.
         let result = unsafe {
@@ -149,7 +149,7 @@ impl Ledger {
 
     /// Counts one hit more for the row at a position, and one more that is not shared yet. Refused by 5.
     pub fn hit(&mut self, position: usize) -> Result<(), Refusal> {
-        let mut answer = [0; 3];
+        let mut answer = [0; ANSWER_WORDS];
         // SAFETY: both lengths are those of the vectors, and `self` is borrowed mutably.
         let result = unsafe {
             ledger_hit(
@@ -177,7 +177,7 @@ impl Ledger {
         meter: &mut Meter,
         atoms: &[u64],
     ) -> Result<Charged<Candidates>, Refusal> {
-        let mut answer = [0; 3];
+        let mut answer = [0; ANSWER_WORDS];
         // SAFETY: every length is that of its slice or vector; `self` and `meter` are borrowed mutably, so that nothing written
         // overlaps anything else.
         let result = unsafe {
@@ -216,7 +216,7 @@ impl Ledger {
         position: usize,
         region: &Region,
     ) -> Result<Charged<Deduction>, Refusal> {
-        let mut answer = [0; 3];
+        let mut answer = [0; ANSWER_WORDS];
         // SAFETY: every length is that of its vector; what is written is `answer` and `meter`, which is borrowed mutably.
         let result = unsafe {
             ledger_deduce(
@@ -247,7 +247,7 @@ impl Ledger {
         cursor: &mut Cursor,
         region: &Region,
     ) -> Result<Charged<NextOutput>, Refusal> {
-        let mut answer = [0; 3];
+        let mut answer = [0; ANSWER_WORDS];
         // SAFETY: every length is that of its vector; what is written is `answer`, and `meter` and `cursor`, which are borrowed
         // mutably.
         let result = unsafe {
@@ -277,7 +277,7 @@ impl Ledger {
         meter: &mut Meter,
         region: &mut Region,
     ) -> Result<Charged<Closing>, Refusal> {
-        let mut answer = [0; 3];
+        let mut answer = [0; ANSWER_WORDS];
         // SAFETY: every length is that of its vector; `self`, `meter` and `region` are borrowed mutably, so that nothing written
         // overlaps anything else.
         let result = unsafe {
@@ -310,7 +310,7 @@ impl Ledger {
         store: &mut Ledger,
         meter: &mut Meter,
     ) -> Result<Charged<Transfer>, Refusal> {
-        let mut answer = [0; 3];
+        let mut answer = [0; ANSWER_WORDS];
         // SAFETY: every length is that of its vector; `self`, `store` and `meter` are borrowed mutably, so that nothing written
         // overlaps anything else.
         let result = unsafe {
@@ -340,7 +340,7 @@ impl Ledger {
         store: &mut Ledger,
         meter: &mut Meter,
     ) -> Result<Charged<Transfer>, Refusal> {
-        let mut answer = [0; 3];
+        let mut answer = [0; ANSWER_WORDS];
         // SAFETY: every length is that of its vector; `self`, `store` and `meter` are borrowed mutably, so that nothing written
         // overlaps anything else.
         let result = unsafe {
@@ -420,7 +420,7 @@ impl Ledger {
     }
 
     /// The words of the header, in the order of include/ledger.h.
-    pub fn header(&self) -> &[u64; 25] {
+    pub fn header(&self) -> &Header {
         &self.header
     }
 
@@ -437,7 +437,7 @@ impl Ledger {
 
 /// The result of `ledger_begin`.
 fn begin(header: &mut Header, slots: &[u64], postings: &[u64]) -> u64 {
-    let mut answer = [0; 3];
+    let mut answer = [0; ANSWER_WORDS];
     // SAFETY: both lengths are those of the slices; what is written is `answer` and the header, which is borrowed mutably.
     unsafe {
         ledger_begin(

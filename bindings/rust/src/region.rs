@@ -1,7 +1,7 @@
 //! Literals, and the marks of a plan.
 
 use crate::answers::Refusal;
-use crate::boundary::ledger_decide;
+use crate::boundary::{ANSWER_WORDS, ledger_decide};
 use std::ops::Not;
 
 /// An atom with a sign: held, or cut. It is one word, the code 2 × atom, plus 1 for held.
@@ -86,7 +86,7 @@ impl Region {
 
     /// The result of `ledger_decide`, and the case answered.
     fn ask(&mut self, literal: Literal) -> (u64, u64) {
-        let mut answer = [0; 3];
+        let mut answer = [0; ANSWER_WORDS];
         // SAFETY: both lengths are those of the vectors, and `self` is borrowed mutably, so that nothing written overlaps
         // anything else.
         let result = unsafe {

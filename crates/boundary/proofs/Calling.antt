@@ -12,13 +12,14 @@ use Rattle.model.specs.declared.HitResult.{HitResult}
 use Rattle.model.specs.declared.DeduceResult.{DeduceResult}
 use Rattle.model.specs.declared.NextResult.{NextResult}
 use Rattle.model.specs.declared.DecideResult.{DecideResult}
-use Rattle.model.specs.Operations.{make, begin, hit, deduce, nextOutput, decide, region}
+use Rattle.model.specs.Operations.{make, begin, hit, deduce, nextOutput, decide}
 use Rattle.contents.specs.Lent.{lent}
 use Rattle.operations.specs.Ends.{makeEnd, beginEnd, hitEnd, deduceEnd, outputEnd, decideEnd}
 use Rattle.wire.specs.declared.Reply.{Reply}
 use Rattle.wire.specs.Words.{flagIn, limitsIn, headerIn, headerWords, meterIn, meterWords, cursorIn, cursorWords}
 use Rattle.wire.specs.Replies.{answerWords, makeReply, madeWords, beginReply, hitReply, deduceReply, nextReply, decideReply}
-use Rattle.boundary.specs.Calls.{left, makeLeft, makeCall, beginLeft, beginCall, hitLeft, hitCall, deduceLeft, deduceCall, outputLeft, outputCall, decideLeft, decideCall}
+use Rattle.boundary.specs.Calls.{left, makeLeft, makeCall, beginLeft, beginCall, hitLeft, hitCall, deduceLeft, deduceCall, outputLeft}
+use Rattle.boundary.specs.Calls.{outputCall, decideLeft, decideCall}
 use Rattle.boundary.proofs.Leaving.{refused-way, done-way}
 use Rattle.boundary.proofs.Keeping.{makeLends, hitLends, decideLends, make-keeps, hit-keeps, decide-keeps}
 
@@ -29,7 +30,8 @@ module _ (w t : Reply) (told : w ≡ t) where
   pub answered : (y : List ℕ) (ticks : ℕ) → y ≡ answerWords w ticks → y ≡ answerWords t ticks
   answered y ticks e = e ∙ ap (λ (x : Reply). answerWords x ticks) told
 
-module _ (limits : List ℕ) (n : ℕ) (head answer slots postings : List ℕ) (l : LearningLimits) (read : l ≡ limitsIn limits) (r : MakeResult) (s p : List ℕ)
+module _ (limits : List ℕ) (n : ℕ) (head answer slots postings : List ℕ) (l : LearningLimits) (read : l ≡ limitsIn limits) (r : MakeResult)
+    (s p : List ℕ)
     (ends : makeEnd r s p ≡ make l n slots postings) (w : Reply) (told : w ≡ makeReply (r .answer)) where
   make-end : makeEnd r s p ≡ make (limitsIn limits) n slots postings
   make-end = ends ∙ ap (λ (x : LearningLimits). make x n slots postings) read
@@ -63,7 +65,8 @@ module _ (head answer slots postings : List ℕ) (h : Header) (read : h ≡ head
         done-way beginLeft _ _ _ begin-end _ (number w _ told) _ z
         (ap₂ (λ (a b : List ℕ). a ∷ b ∷ []) ex (answered w _ told y (r .ticks) ey))
 
-  module _ (p : ℕ) (r : HitResult) (s : List ℕ) (ends : hitEnd r s postings ≡ hit (lent h slots postings) p) (told : w ≡ hitReply (r .answer)) where
+  module _ (p : ℕ) (r : HitResult) (s : List ℕ) (ends : hitEnd r s postings ≡ hit (lent h slots postings) p)
+      (told : w ≡ hitReply (r .answer)) where
     hit-end : hitEnd r s postings ≡ hit (lent (headerIn head) slots postings) p
     hit-end = ends ∙ ap (λ (x : Header). hit (lent x slots postings) p) read
 
@@ -81,11 +84,13 @@ module _ (head answer slots postings : List ℕ) (h : Header) (read : h ≡ head
         (ap₂ (λ (a b : List ℕ). a ∷ b ∷ s ∷ []) ex (answered w _ told y (r .ticks) ey))
 
   module _ (meter held cut : List ℕ) (p : ℕ) (m : Meter) (metered : m ≡ meterIn meter) where
-    module _ (r : DeduceResult) (ends : deduceEnd r ≡ deduce (lent h slots postings) p held cut m) (told : w ≡ deduceReply (r .answer)) where
+    module _ (r : DeduceResult) (ends : deduceEnd r ≡ deduce (lent h slots postings) p held cut m)
+        (told : w ≡ deduceReply (r .answer)) where
       deduce-end : deduceEnd r ≡ deduce (lent (headerIn head) slots postings) p held cut (meterIn meter)
       deduce-end = ends ∙ ap₂ (λ (x : Header) (y : Meter). deduce (lent x slots postings) p held cut y) read metered
 
-      pub deduce-refused : (w .refusal ≡ 0 → ⊥) → left (w .refusal) (answer ∷ meter ∷ []) ≡ deduceCall head answer meter slots postings p held cut
+      pub deduce-refused : (w .refusal ≡ 0 → ⊥)
+          → left (w .refusal) (answer ∷ meter ∷ []) ≡ deduceCall head answer meter slots postings p held cut
       unfolding deduceCall
       deduce-refused f = refused-way deduceLeft _ _ _ deduce-end _ (number w _ told) _ f (λ g. refl)
 
@@ -103,11 +108,13 @@ module _ (head answer slots postings : List ℕ) (h : Header) (read : h ≡ head
           ends ∙ ap₂ (λ (x : Header) (y : Meter). nextOutput (lent x slots postings) p k held cut y) read metered
           ∙ ap (λ (x : OutputCursor). nextOutput (lent (headerIn head) slots postings) p x held cut (meterIn meter)) placed
 
-      pub output-refused : (w .refusal ≡ 0 → ⊥) → left (w .refusal) (answer ∷ meter ∷ cursor ∷ []) ≡ outputCall head answer meter cursor slots postings p held cut
+      pub output-refused : (w .refusal ≡ 0 → ⊥)
+          → left (w .refusal) (answer ∷ meter ∷ cursor ∷ []) ≡ outputCall head answer meter cursor slots postings p held cut
       unfolding outputCall
       output-refused f = refused-way outputLeft _ _ _ output-end _ (number w _ told) _ f (λ g. refl)
 
-      pub output-done : (x y v : List ℕ) → w .refusal ≡ 0 → x ≡ answerWords w (r .ticks) → y ≡ meterWords (r .meter) → v ≡ cursorWords (r .cursor) →
+      pub output-done : (x y v : List ℕ) → w .refusal ≡ 0 → x ≡ answerWords w (r .ticks) → y ≡ meterWords (r .meter)
+          → v ≡ cursorWords (r .cursor) →
           left 0 (x ∷ y ∷ v ∷ []) ≡ outputCall head answer meter cursor slots postings p held cut
       unfolding outputCall
       output-done x y v z ex ey ev =
@@ -117,13 +124,14 @@ module _ (head answer slots postings : List ℕ) (h : Header) (read : h ≡ head
 module _ (answer : List ℕ) (n : ℕ) (held cut : List ℕ) (a value : ℕ) (r : DecideResult) (x y : List ℕ)
     (ends : decideEnd r x y ≡ decide n held cut a (flagIn value)) (w : Reply) (told : w ≡ decideReply (r .answer)) where
   pub decide-refused : (w .refusal ≡ 0 → ⊥) → left (w .refusal) (answer ∷ x ∷ y ∷ []) ≡ decideCall answer n held cut a value
-  unfolding decideCall region
+  unfolding decideCall
   decide-refused f =
       refused-way decideLeft _ _ _ ends _ (number w _ told) _ f
       (λ g. ap (λ (ws : List (List ℕ)). answer ∷ ws) (ap decideLends ends ∙ decide-keeps n held cut a _ g))
 
-  pub decide-done : (v : List ℕ) → w .refusal ≡ 0 → v ≡ answerWords w (r .ticks) → left 0 (v ∷ x ∷ y ∷ []) ≡ decideCall answer n held cut a value
-  unfolding decideCall region
+  pub decide-done : (v : List ℕ) → w .refusal ≡ 0 → v ≡ answerWords w (r .ticks)
+      → left 0 (v ∷ x ∷ y ∷ []) ≡ decideCall answer n held cut a value
+  unfolding decideCall
   decide-done v z e =
       done-way decideLeft _ _ _ ends _ (number w _ told) _ z
       (ap (λ (b : List ℕ). b ∷ x ∷ y ∷ []) (answered w _ told v (r .ticks) e))

@@ -7,11 +7,11 @@ use Rattle.model.specs.declared.Header.{Header}
 use Rattle.model.specs.declared.OfferResult.{OfferResult}
 use Rattle.model.specs.declared.CandidatesResult.{CandidatesResult}
 use Rattle.model.specs.declared.CloseResult.{CloseResult}
-use Rattle.model.specs.Operations.{offer, candidates, close, region}
+use Rattle.model.specs.Operations.{offer, candidates, close}
 use Rattle.contents.specs.Lent.{lent}
 use Rattle.offer.specs.Ends.{offerEnd}
-use Rattle.search.specs.Ends.{candidatesEnd}
-use Rattle.closing.specs.Ends.{closedEnd}
+use Rattle.postings_search.specs.Ends.{candidatesEnd}
+use Rattle.close.specs.Ends.{closedEnd}
 use Rattle.wire.specs.declared.Reply.{Reply}
 use Rattle.wire.specs.Words.{headerIn, headerWords, meterIn, meterWords}
 use Rattle.wire.specs.Replies.{answerWords, offerReply, candidatesReply, closeReply}
@@ -27,7 +27,8 @@ three a b c {x} ws ex ey ev =
     ap (λ (z : List ℕ). z ∷ b ∷ c ∷ ws) ex
     ∙ ap₂ (λ (z u : List ℕ). x ∷ z ∷ u ∷ ws) ey ev
 
-module _ (head answer meter slots postings : List ℕ) (h : Header) (read : h ≡ headerIn head) (m : Meter) (metered : m ≡ meterIn meter) (w : Reply) where
+module _ (head answer meter slots postings : List ℕ) (h : Header) (read : h ≡ headerIn head) (m : Meter) (metered : m ≡ meterIn meter)
+    (w : Reply) where
   module _ (atoms found : List ℕ) (r : CandidatesResult) (p f : List ℕ)
       (ends : candidatesEnd r slots p f ≡ candidates (lent h slots postings) atoms found m) (told : w ≡ candidatesReply (r .answer)) where
     candidates-end : candidatesEnd r slots p f ≡ candidates (lent (headerIn head) slots postings) atoms found (meterIn meter)
@@ -38,9 +39,11 @@ module _ (head answer meter slots postings : List ℕ) (h : Header) (read : h �
     unfolding candidatesCall
     candidates-refused nz =
         refused-way candidatesLeft _ _ _ candidates-end _ (number w _ told) _ nz
-        (λ g. ap (λ (ws : List (List ℕ)). head ∷ answer ∷ meter ∷ ws) (ap candidatesLends candidates-end ∙ candidates-keeps _ atoms found _ g))
+        (λ g. ap (λ (ws : List (List ℕ)). head ∷ answer ∷ meter ∷ ws)
+        (ap candidatesLends candidates-end ∙ candidates-keeps _ atoms found _ g))
 
-    pub candidates-done : (x y v : List ℕ) → w .refusal ≡ 0 → x ≡ headerWords (r .header) → y ≡ answerWords w (r .ticks) → v ≡ meterWords (r .meter) →
+    pub candidates-done : (x y v : List ℕ) → w .refusal ≡ 0 → x ≡ headerWords (r .header) → y ≡ answerWords w (r .ticks)
+        → v ≡ meterWords (r .meter) →
         left 0 (x ∷ y ∷ v ∷ p ∷ f ∷ []) ≡ candidatesCall head answer meter slots postings atoms found
     unfolding candidatesCall
     candidates-done x y v z ex ey ev =
@@ -51,7 +54,8 @@ module _ (head answer meter slots postings : List ℕ) (h : Header) (read : h �
   module _ (conditions outputs : List ℕ) (r : OfferResult) (s p : List ℕ)
       (ends : offerEnd r s p (offer (lent h slots postings) conditions outputs m) ≡ offer (lent h slots postings) conditions outputs m)
       (told : w ≡ offerReply (r .answer)) where
-    offer-end : offerEnd r s p (offer (lent h slots postings) conditions outputs m) ≡ offer (lent (headerIn head) slots postings) conditions outputs (meterIn meter)
+    offer-end : offerEnd r s p (offer (lent h slots postings) conditions outputs m)
+        ≡ offer (lent (headerIn head) slots postings) conditions outputs (meterIn meter)
     offer-end = ends ∙ ap₂ (λ (x : Header) (y : Meter). offer (lent x slots postings) conditions outputs y) read metered
 
     pub offer-refused : (w .refusal ≡ 0 → ⊥) →
@@ -61,7 +65,8 @@ module _ (head answer meter slots postings : List ℕ) (h : Header) (read : h �
         refused-way offerLeft _ _ _ offer-end _ (number w _ told) _ nz
         (λ g. ap (λ (ws : List (List ℕ)). head ∷ answer ∷ meter ∷ ws) (ap offerLends offer-end ∙ offer-keeps _ conditions outputs _ g))
 
-    pub offer-done : (x y v : List ℕ) → w .refusal ≡ 0 → x ≡ headerWords (r .header) → y ≡ answerWords w (r .ticks) → v ≡ meterWords (r .meter) →
+    pub offer-done : (x y v : List ℕ) → w .refusal ≡ 0 → x ≡ headerWords (r .header) → y ≡ answerWords w (r .ticks)
+        → v ≡ meterWords (r .meter) →
         left 0 (x ∷ y ∷ v ∷ s ∷ p ∷ []) ≡ offerCall head answer meter slots postings conditions outputs
     unfolding offerCall
     offer-done x y v z ex ey ev =
@@ -74,15 +79,17 @@ module _ (head answer meter slots postings : List ℕ) (h : Header) (read : h �
     close-end = ends ∙ ap₂ (λ (x : Header) (y : Meter). close (lent x slots postings) held cut rows atoms y) read metered
 
     pub close-refused : (w .refusal ≡ 0 → ⊥) →
-        left (w .refusal) (head ∷ answer ∷ meter ∷ s ∷ p ∷ a ∷ b ∷ i ∷ j ∷ []) ≡ closeCall head answer meter slots postings held cut rows atoms
-    unfolding closeCall region
+        left (w .refusal) (head ∷ answer ∷ meter ∷ s ∷ p ∷ a ∷ b ∷ i ∷ j ∷ [])
+        ≡ closeCall head answer meter slots postings held cut rows atoms
+    unfolding closeCall
     close-refused nz =
         refused-way closeLeft _ _ _ close-end _ (number w _ told) _ nz
         (λ g. ap (λ (ws : List (List ℕ)). head ∷ answer ∷ meter ∷ ws) (ap closeLends close-end ∙ close-keeps _ held cut rows atoms _ g))
 
-    pub close-done : (x y v : List ℕ) → w .refusal ≡ 0 → x ≡ headerWords (r .header) → y ≡ answerWords w (r .ticks) → v ≡ meterWords (r .meter) →
+    pub close-done : (x y v : List ℕ) → w .refusal ≡ 0 → x ≡ headerWords (r .header) → y ≡ answerWords w (r .ticks)
+        → v ≡ meterWords (r .meter) →
         left 0 (x ∷ y ∷ v ∷ s ∷ p ∷ a ∷ b ∷ i ∷ j ∷ []) ≡ closeCall head answer meter slots postings held cut rows atoms
-    unfolding closeCall region
+    unfolding closeCall
     close-done x y v z ex ey ev =
         done-way closeLeft _ _ _ close-end _ (number w _ told) _ z
         (three x y v (s ∷ p ∷ a ∷ b ∷ i ∷ j ∷ []) ex (answered w _ told y (r .ticks) ey) ev)

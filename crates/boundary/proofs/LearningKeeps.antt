@@ -6,11 +6,13 @@ use mathlib.Core.Option.{Option, none, some}
 use Prim.Native.Nat.{ℕ}
 use lib.Dec.{eqb}
 use lib.ListN.{length}
+use Rattle.words.specs.Region.{region}
 use Rattle.meter.specs.declared.Meter.{Meter}
 use Rattle.model.specs.Retention.{Outcome, Stops, Declines, Subsumes, Adds, canCapture}
 use Rattle.model.specs.Closing.{State, Turn, going, conflict, halted, closing}
 use Rattle.model.specs.Refusals.{Lent, refusal, accepts, ledgerIn}
-use Rattle.model.specs.Operations.{OfferEnd, CandidatesEnd, CloseEnd, offer, capture, unoffered, offerAnswer, fitsOffer, candidates, candidatesAnswer, close, closeEnd, region, regionOk}
+use Rattle.model.specs.Operations.{OfferEnd, CandidatesEnd, CloseEnd, offer, capture, unoffered, offerAnswer, fitsOffer, candidates}
+use Rattle.model.specs.Operations.{candidatesAnswer, close, closeEnd, regionOk}
 use Rattle.wire.specs.Replies.{offerReply, candidatesReply, closeReply}
 use Rattle.boundary.proofs.Leaving.{keeps}
 
@@ -41,21 +43,24 @@ unfolding candidatesAnswer
 searched none = refl
 searched (some ps) = refl
 
-turned : {E : Type 0} (result : E → ℕ) (t : Turn) (f g h : State → E) → ((s : State) → result (f s) ≡ 0) → ((s : State) → result (g s) ≡ 0) → ((s : State) → result (h s) ≡ 0) →
+turned : {E : Type 0} (result : E → ℕ) (t : Turn) (f g h : State → E) → ((s : State) → result (f s) ≡ 0) → ((s : State) → result (g s) ≡ 0)
+    → ((s : State) → result (h s) ≡ 0) →
     result (elim t [ going s ↦ f s | conflict s ↦ g s | halted s ↦ h s ]) ≡ 0
 turned result (going s) f g h p q r = p s
 turned result (conflict s) f g h p q r = q s
 turned result (halted s) f g h p q r = r s
 
 -- ---- what is refused keeps what was lent
-pub offer-keeps : (s : Lent) (c o : List ℕ) (m : Meter) → (offerReply (offer s c o m .answer) .refusal ≡ 0 → ⊥) → offerLends (offer s c o m) ≡ s .slots ∷ s .postings ∷ []
+pub offer-keeps : (s : Lent) (c o : List ℕ) (m : Meter) → (offerReply (offer s c o m .answer) .refusal ≡ 0 → ⊥)
+    → offerLends (offer s c o m) ≡ s .slots ∷ s .postings ∷ []
 unfolding offer capture unoffered
 offer-keeps s c o m =
     keeps (λ (e : OfferEnd). offerReply (e .answer) .refusal) offerLends (s .slots ∷ s .postings ∷ [])
     (refusal (accepts s true ((fitsOffer (s .header .limits) (record { conditions = c; outputs = o }), 4) ∷ []))) _ _ (λ n. refl)
     (taken (λ (e : OfferEnd). offerReply (e .answer) .refusal) (canCapture (ledgerIn s)) _ _ (offered _) refl)
 
-pub candidates-keeps : (s : Lent) (atoms buffer : List ℕ) (m : Meter) → (candidatesReply (candidates s atoms buffer m .answer) .refusal ≡ 0 → ⊥) →
+pub candidates-keeps : (s : Lent) (atoms buffer : List ℕ) (m : Meter)
+    → (candidatesReply (candidates s atoms buffer m .answer) .refusal ≡ 0 → ⊥) →
     candidatesLends (candidates s atoms buffer m) ≡ s .postings ∷ buffer ∷ []
 unfolding candidates
 candidates-keeps s atoms buffer m =
@@ -64,8 +69,11 @@ candidates-keeps s atoms buffer m =
 
 pub close-keeps : (s : Lent) (held cut x y : List ℕ) (m : Meter) → (closeReply (close s held cut x y m .answer) .refusal ≡ 0 → ⊥) →
     closeLends (close s held cut x y m) ≡ s .slots ∷ s .postings ∷ held ∷ cut ∷ x ∷ y ∷ []
-unfolding close closeEnd region
+unfolding close closeEnd
 close-keeps s held cut x y m =
     keeps (λ (e : CloseEnd). closeReply (e .answer) .refusal) closeLends (s .slots ∷ s .postings ∷ held ∷ cut ∷ x ∷ y ∷ [])
-    (refusal (accepts s (eqb (length x) (s .header .limits .«tier_rows») && eqb (length y) (s .header .limits .atoms)) ((regionOk s held cut, 6) ∷ []))) _ _ (λ n. refl)
-    (turned (λ (e : CloseEnd). closeReply (e .answer) .refusal) (closing (ledgerIn s) (region held cut) m) _ _ _ (λ t. refl) (λ t. refl) (λ t. refl))
+    (refusal
+    (accepts s (eqb (length x) (s .header .limits .«tier_rows») && eqb (length y) (s .header .limits .atoms))
+    ((regionOk s held cut, 6) ∷ []))) _ _ (λ n. refl)
+    (turned (λ (e : CloseEnd). closeReply (e .answer) .refusal) (closing (ledgerIn s) (region held cut) m) _ _ _ (λ t. refl) (λ t. refl)
+    (λ t. refl))

@@ -26,12 +26,14 @@ module _ {E : Type 0} (view : E → Left) (old : List (List ℕ)) (e d : E) (q :
       ∙ ap (λ (k : ℕ). unlessRefused old k (view d .words)) (sym z ∙ number)
 
 -- an end that a refusal decides: only a refused one has a number, and it keeps what was lent
-pub keeps : {E : Type 0} (result : E → ℕ) (lends : E → List (List ℕ)) (old : List (List ℕ)) (o : Option ℕ) (f : ℕ → E) (g : E) → ((n : ℕ) → lends (f n) ≡ old) → result g ≡ 0 →
+pub keeps : {E : Type 0} (result : E → ℕ) (lends : E → List (List ℕ)) (old : List (List ℕ)) (o : Option ℕ) (f : ℕ → E) (g : E)
+    → ((n : ℕ) → lends (f n) ≡ old) → result g ≡ 0 →
     (result (elim o [ some n ↦ f n | none ↦ g ]) ≡ 0 → ⊥) → lends (elim o [ some n ↦ f n | none ↦ g ]) ≡ old
 keeps result lends old none f g k z y = absurd (y z)
 keeps result lends old (some n) f g k z y = k n
 
 -- no refusal, either way
-pub neither : {E A : Type 0} (result : E → ℕ) (o : Option A) (f : A → E) (g : E) → ((a : A) → result (f a) ≡ 0) → result g ≡ 0 → result (elim o [ some a ↦ f a | none ↦ g ]) ≡ 0
+pub neither : {E A : Type 0} (result : E → ℕ) (o : Option A) (f : A → E) (g : E) → ((a : A) → result (f a) ≡ 0) → result g ≡ 0
+    → result (elim o [ some a ↦ f a | none ↦ g ]) ≡ 0
 neither result none f g k z = z
 neither result (some a) f g k z = k a

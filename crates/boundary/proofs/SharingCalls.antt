@@ -24,7 +24,8 @@ four a b c d {x} {y} ws ex ey ev eu =
     ∙ ap₂ (λ (z t : List ℕ). x ∷ y ∷ z ∷ t ∷ ws) ev eu
 
 -- an operation on two ledgers, of the words that they are read from
-module _ (tier store meter tierSlots tierPostings storeSlots storePostings : List ℕ) (h : Header) (readTier : h ≡ headerIn tier) (g : Header) (readStore : g ≡ headerIn store)
+module _ (tier store meter tierSlots tierPostings storeSlots storePostings : List ℕ) (h : Header) (readTier : h ≡ headerIn tier)
+    (g : Header) (readStore : g ≡ headerIn store)
     (m : Meter) (metered : m ≡ meterIn meter) where
   read-seed : seed (lent h tierSlots tierPostings) (lent g storeSlots storePostings) m
       ≡ seed (lent (headerIn tier) tierSlots tierPostings) (lent (headerIn store) storeSlots storePostings) (meterIn meter)
@@ -44,13 +45,15 @@ module _ (tier store meter tierSlots tierPostings storeSlots storePostings : Lis
         (ends : transferEnd r s p storeSlots storePostings (seed (lent h tierSlots tierPostings) (lent g storeSlots storePostings) m)
         ≡ seed (lent h tierSlots tierPostings) (lent g storeSlots storePostings) m) where
       pub seed-refused : (w .refusal ≡ 0 → ⊥) →
-          left (w .refusal) (tier ∷ store ∷ answer ∷ meter ∷ s ∷ p ∷ []) ≡ seedCall tier store answer meter tierSlots tierPostings storeSlots storePostings
+          left (w .refusal) (tier ∷ store ∷ answer ∷ meter ∷ s ∷ p ∷ [])
+          ≡ seedCall tier store answer meter tierSlots tierPostings storeSlots storePostings
       unfolding seedCall
       seed-refused nz =
           refused-way seedLeft _ _ _ (ends ∙ read-seed) _ (number w _ told) _ nz
           (λ f. ap (λ (ws : List (List ℕ)). tier ∷ store ∷ answer ∷ meter ∷ ws) (ap seedLends (ends ∙ read-seed) ∙ seed-keeps _ _ _ f))
 
-      pub seed-done : (x y v u : List ℕ) → w .refusal ≡ 0 → x ≡ headerWords (r .tier) → y ≡ headerWords (r .store) → v ≡ answerWords w (r .ticks) → u ≡ meterWords (r .meter) →
+      pub seed-done : (x y v u : List ℕ) → w .refusal ≡ 0 → x ≡ headerWords (r .tier) → y ≡ headerWords (r .store)
+          → v ≡ answerWords w (r .ticks) → u ≡ meterWords (r .meter) →
           left 0 (x ∷ y ∷ v ∷ u ∷ s ∷ p ∷ []) ≡ seedCall tier store answer meter tierSlots tierPostings storeSlots storePostings
       unfolding seedCall
       seed-done x y v u z ex ey ev eu =
@@ -61,13 +64,16 @@ module _ (tier store meter tierSlots tierPostings storeSlots storePostings : Lis
         (ends : transferEnd r s tierPostings i j (deliver (lent h tierSlots tierPostings) (lent g storeSlots storePostings) m)
         ≡ deliver (lent h tierSlots tierPostings) (lent g storeSlots storePostings) m) where
       pub deliver-refused : (w .refusal ≡ 0 → ⊥) →
-          left (w .refusal) (tier ∷ store ∷ answer ∷ meter ∷ s ∷ i ∷ j ∷ []) ≡ deliverCall tier store answer meter tierSlots tierPostings storeSlots storePostings
+          left (w .refusal) (tier ∷ store ∷ answer ∷ meter ∷ s ∷ i ∷ j ∷ [])
+          ≡ deliverCall tier store answer meter tierSlots tierPostings storeSlots storePostings
       unfolding deliverCall
       deliver-refused nz =
           refused-way deliverLeft _ _ _ (ends ∙ read-deliver) _ (number w _ told) _ nz
-          (λ f. ap (λ (ws : List (List ℕ)). tier ∷ store ∷ answer ∷ meter ∷ ws) (ap deliverLends (ends ∙ read-deliver) ∙ deliver-keeps _ _ _ f))
+          (λ f. ap (λ (ws : List (List ℕ)). tier ∷ store ∷ answer ∷ meter ∷ ws)
+          (ap deliverLends (ends ∙ read-deliver) ∙ deliver-keeps _ _ _ f))
 
-      pub deliver-done : (x y v u : List ℕ) → w .refusal ≡ 0 → x ≡ headerWords (r .tier) → y ≡ headerWords (r .store) → v ≡ answerWords w (r .ticks) → u ≡ meterWords (r .meter) →
+      pub deliver-done : (x y v u : List ℕ) → w .refusal ≡ 0 → x ≡ headerWords (r .tier) → y ≡ headerWords (r .store)
+          → v ≡ answerWords w (r .ticks) → u ≡ meterWords (r .meter) →
           left 0 (x ∷ y ∷ v ∷ u ∷ s ∷ i ∷ j ∷ []) ≡ deliverCall tier store answer meter tierSlots tierPostings storeSlots storePostings
       unfolding deliverCall
       deliver-done x y v u z ex ey ev eu =

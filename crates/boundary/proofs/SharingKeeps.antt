@@ -3,7 +3,7 @@ use mathlib.Core.Path.{_≡_, refl}
 use mathlib.Core.List.{List, [], _∷_}
 use Prim.Native.Nat.{ℕ}
 use Rattle.meter.specs.declared.Meter.{Meter}
-use Rattle.model.specs.Transfers.{Reach, whole, declined, stopped}
+use Rattle.model.specs.Transfers.{Progress, whole, declined, stopped}
 use Rattle.model.specs.Refusals.{Lent}
 use Rattle.model.specs.Operations.{TransferEnd, seed, deliver, transferRefusal, untransferred, transferEnd, transferAnswer}
 use Rattle.wire.specs.Replies.{transferReply}
@@ -17,7 +17,7 @@ abbrev pub deliverLends : TransferEnd → List (List ℕ)
 deliverLends e = e .tier .slots ∷ e .store .slots ∷ e .store .postings ∷ []
 
 -- no answer of a transfer that was not refused has a refusal's number
-transferred : (r : Reach) → transferReply (transferAnswer r) .refusal ≡ 0
+transferred : (r : Progress) → transferReply (transferAnswer r) .refusal ≡ 0
 unfolding transferAnswer
 transferred whole = refl
 transferred declined = refl
@@ -30,7 +30,8 @@ module _ (t s : Lent) (m : Meter) where
       keeps (λ (e : TransferEnd). transferReply (e .answer) .refusal) seedLends (t .slots ∷ t .postings ∷ [])
       (transferRefusal t s) _ _ (λ n. refl) (transferred _)
 
-  pub deliver-keeps : (transferReply (deliver t s m .answer) .refusal ≡ 0 → ⊥) → deliverLends (deliver t s m) ≡ t .slots ∷ s .slots ∷ s .postings ∷ []
+  pub deliver-keeps : (transferReply (deliver t s m .answer) .refusal ≡ 0 → ⊥)
+      → deliverLends (deliver t s m) ≡ t .slots ∷ s .slots ∷ s .postings ∷ []
   unfolding deliver untransferred transferEnd
   deliver-keeps =
       keeps (λ (e : TransferEnd). transferReply (e .answer) .refusal) deliverLends (t .slots ∷ s .slots ∷ s .postings ∷ [])

@@ -1,5 +1,6 @@
--- 01, Refusal numbers by operation, as seen from C, of the operations between two ledgers: seed and deliver. Each names the words that it may
--- write, in the order of the function's parameters: a seeding leaves the store's rows, a delivery the tier's postings. Assumes nothing.
+-- 01, Refusal numbers by operation, as seen from C, of the operations between two ledgers: seed and deliver.
+-- Each names the words that it may write, in the order of the function's parameters:
+-- a seeding leaves the store's rows, a delivery the tier's postings. Assumes nothing.
 use mathlib.Core.List.{List, [], _∷_}
 use Prim.Native.Nat.{ℕ}
 use Rattle.model.specs.Operations.{TransferEnd, seed, deliver}

@@ -1,11 +1,11 @@
-// The ledger for C: one function for each public operation, over lent words alone. None asks anything of its caller. Each gives back 0, or the
-// number of a refusal, and then no lent word is written. include/ledger.h says what the words are.
+// The ledger for C: one function for each public operation, over lent words alone. None asks anything of its caller.
+// Each gives back 0, or the number of a refusal, and then no lent word is written. include/ledger.h says what the words are.
 ghost use mathlib.Core.Path.{_≡_};
 ghost use mathlib.Core.List.{[], _∷_};
 ghost use Rattle.boundary.specs.Calls.{left, makeCall, beginCall, hitCall, deduceCall, outputCall, decideCall};
 ghost use Rattle.boundary.specs.Learning.{offerCall, candidatesCall, closeCall};
 ghost use Rattle.boundary.specs.Sharing.{seedCall, deliverCall};
-use closing::close;
+use close::close;
 use offer::offer;
 use operations::begin;
 use operations::decide;
@@ -13,9 +13,14 @@ use operations::deduce;
 use operations::hit;
 use operations::make;
 use operations::next_output;
-use search::candidates;
+use postings_search::candidates;
 use transfers::deliver;
 use transfers::seed;
+use wire::ANSWER_WORDS;
+use wire::CURSOR_WORDS;
+use wire::HEADER_WORDS;
+use wire::LIMITS_WORDS;
+use wire::METER_WORDS;
 use wire::begin_reply;
 use wire::candidates_reply;
 use wire::close_reply;
@@ -39,10 +44,10 @@ use wire::transfer_reply;
 // Make: the fresh header, every slot and posting 0; refused by 1 or 2.
 #[no_mangle]
 pub extern "C" fn ledger_make(
-    limits: &[u64; 10],
+    limits: &[u64; LIMITS_WORDS],
     number: u64,
-    head: &mut [u64; 25],
-    answer: &mut [u64; 3],
+    head: &mut [u64; HEADER_WORDS],
+    answer: &mut [u64; ANSWER_WORDS],
     slots: &mut [u64],
     postings: &mut [u64],
 ) -> u64
@@ -63,8 +68,8 @@ pub extern "C" fn ledger_make(
 // Begin: the header with full true; refused by 1, 2 or 3.
 #[no_mangle]
 pub extern "C" fn ledger_begin(
-    head: &mut [u64; 25],
-    answer: &mut [u64; 3],
+    head: &mut [u64; HEADER_WORDS],
+    answer: &mut [u64; ANSWER_WORDS],
     slots: &[u64],
     postings: &[u64],
 ) -> u64
@@ -86,8 +91,8 @@ pub extern "C" fn ledger_begin(
 // Hit: one hit more, not shared yet, for the row at a position; refused by 1, 2, 3 or 5.
 #[no_mangle]
 pub extern "C" fn ledger_hit(
-    head: &mut [u64; 25],
-    answer: &mut [u64; 3],
+    head: &mut [u64; HEADER_WORDS],
+    answer: &mut [u64; ANSWER_WORDS],
     slots: &mut [u64],
     postings: &[u64],
     position: u64,
@@ -110,9 +115,9 @@ pub extern "C" fn ledger_hit(
 // Deduce: what the row at a position says of a region; refused by 1, 2, 3, 5 or 6.
 #[no_mangle]
 pub extern "C" fn ledger_deduce(
-    head: &[u64; 25],
-    answer: &mut [u64; 3],
-    meter: &mut [u64; 2],
+    head: &[u64; HEADER_WORDS],
+    answer: &mut [u64; ANSWER_WORDS],
+    meter: &mut [u64; METER_WORDS],
     slots: &[u64],
     postings: &[u64],
     position: u64,
@@ -120,7 +125,8 @@ pub extern "C" fn ledger_deduce(
     cut: &[u64],
 ) -> u64
     ensures { λ r. ⌜ left r (now (answer .exit) ∷ now (meter .exit) ∷ [])
-        ≡ deduceCall (now (head .entry)) (now (answer .entry)) (now (meter .entry)) (now (slots .entry)) (now (postings .entry)) position (now (held .entry)) (now (cut .entry)) ⌝ }
+        ≡ deduceCall (now (head .entry)) (now (answer .entry)) (now (meter .entry)) (now (slots .entry)) (now (postings .entry)) position
+        (now (held .entry)) (now (cut .entry)) ⌝ }
 {
     let deduced = deduce(
         header_of(head),
@@ -145,10 +151,10 @@ pub extern "C" fn ledger_deduce(
 // Next output: the next output of the row at a position, and the cursor past it; refused by 1, 2, 3, 5, 6 or 8.
 #[no_mangle]
 pub extern "C" fn ledger_next_output(
-    head: &[u64; 25],
-    answer: &mut [u64; 3],
-    meter: &mut [u64; 2],
-    cursor: &mut [u64; 4],
+    head: &[u64; HEADER_WORDS],
+    answer: &mut [u64; ANSWER_WORDS],
+    meter: &mut [u64; METER_WORDS],
+    cursor: &mut [u64; CURSOR_WORDS],
     slots: &[u64],
     postings: &[u64],
     position: u64,
@@ -156,7 +162,8 @@ pub extern "C" fn ledger_next_output(
     cut: &[u64],
 ) -> u64
     ensures { λ r. ⌜ left r (now (answer .exit) ∷ now (meter .exit) ∷ now (cursor .exit) ∷ [])
-        ≡ outputCall (now (head .entry)) (now (answer .entry)) (now (meter .entry)) (now (cursor .entry)) (now (slots .entry)) (now (postings .entry)) position (now (held .entry)) (now (cut .entry)) ⌝ }
+        ≡ outputCall (now (head .entry)) (now (answer .entry)) (now (meter .entry)) (now (cursor .entry)) (now (slots .entry))
+        (now (postings .entry)) position (now (held .entry)) (now (cut .entry)) ⌝ }
 {
     let next = next_output(
         header_of(head),
@@ -184,7 +191,7 @@ pub extern "C" fn ledger_next_output(
 // Decide: holds an atom of a region, or cuts it if `value` is 0; refused by 6.
 #[no_mangle]
 pub extern "C" fn ledger_decide(
-    answer: &mut [u64; 3],
+    answer: &mut [u64; ANSWER_WORDS],
     atoms: u64,
     held: &mut [u64],
     cut: &mut [u64],
@@ -207,16 +214,17 @@ pub extern "C" fn ledger_decide(
 // Offer: a row given to the ledger; refused by 1, 2, 3 or 4.
 #[no_mangle]
 pub extern "C" fn ledger_offer(
-    head: &mut [u64; 25],
-    answer: &mut [u64; 3],
-    meter: &mut [u64; 2],
+    head: &mut [u64; HEADER_WORDS],
+    answer: &mut [u64; ANSWER_WORDS],
+    meter: &mut [u64; METER_WORDS],
     slots: &mut [u64],
     postings: &mut [u64],
     conditions: &[u64],
     outputs: &[u64],
 ) -> u64
     ensures { λ r. ⌜ left r (now (head .exit) ∷ now (answer .exit) ∷ now (meter .exit) ∷ now (slots .exit) ∷ now (postings .exit) ∷ [])
-        ≡ offerCall (now (head .entry)) (now (answer .entry)) (now (meter .entry)) (now (slots .entry)) (now (postings .entry)) (now (conditions .entry)) (now (outputs .entry)) ⌝ }
+        ≡ offerCall (now (head .entry)) (now (answer .entry)) (now (meter .entry)) (now (slots .entry)) (now (postings .entry))
+        (now (conditions .entry)) (now (outputs .entry)) ⌝ }
 {
     let offered = offer(
         header_of(head),
@@ -242,16 +250,17 @@ pub extern "C" fn ledger_offer(
 // Candidates: the rows to be looked at after atoms were decided, in `found`; refused by 1, 2 or 3.
 #[no_mangle]
 pub extern "C" fn ledger_candidates(
-    head: &mut [u64; 25],
-    answer: &mut [u64; 3],
-    meter: &mut [u64; 2],
+    head: &mut [u64; HEADER_WORDS],
+    answer: &mut [u64; ANSWER_WORDS],
+    meter: &mut [u64; METER_WORDS],
     slots: &[u64],
     postings: &mut [u64],
     atoms: &[u64],
     found: &mut [u64],
 ) -> u64
     ensures { λ r. ⌜ left r (now (head .exit) ∷ now (answer .exit) ∷ now (meter .exit) ∷ now (postings .exit) ∷ now (found .exit) ∷ [])
-        ≡ candidatesCall (now (head .entry)) (now (answer .entry)) (now (meter .entry)) (now (slots .entry)) (now (postings .entry)) (now (atoms .entry)) (now (found .entry)) ⌝ }
+        ≡ candidatesCall (now (head .entry)) (now (answer .entry)) (now (meter .entry)) (now (slots .entry)) (now (postings .entry))
+        (now (atoms .entry)) (now (found .entry)) ⌝ }
 {
     let searched = candidates(
         header_of(head),
@@ -277,9 +286,9 @@ pub extern "C" fn ledger_candidates(
 // Close: a region closed under the rows; both scratches end as zeros; refused by 1, 2, 3 or 6.
 #[no_mangle]
 pub extern "C" fn ledger_close(
-    head: &mut [u64; 25],
-    answer: &mut [u64; 3],
-    meter: &mut [u64; 2],
+    head: &mut [u64; HEADER_WORDS],
+    answer: &mut [u64; ANSWER_WORDS],
+    meter: &mut [u64; METER_WORDS],
     slots: &mut [u64],
     postings: &mut [u64],
     held: &mut [u64],
@@ -287,8 +296,11 @@ pub extern "C" fn ledger_close(
     rows: &mut [u64],
     atoms: &mut [u64],
 ) -> u64
-    ensures { λ r. ⌜ left r (now (head .exit) ∷ now (answer .exit) ∷ now (meter .exit) ∷ now (slots .exit) ∷ now (postings .exit) ∷ now (held .exit) ∷ now (cut .exit) ∷ now (rows .exit) ∷ now (atoms .exit) ∷ [])
-        ≡ closeCall (now (head .entry)) (now (answer .entry)) (now (meter .entry)) (now (slots .entry)) (now (postings .entry)) (now (held .entry)) (now (cut .entry)) (now (rows .entry)) (now (atoms .entry)) ⌝ }
+    ensures { λ r. ⌜ left r
+        (now (head .exit) ∷ now (answer .exit) ∷ now (meter .exit) ∷ now (slots .exit) ∷ now (postings .exit) ∷ now (held .exit)
+        ∷ now (cut .exit) ∷ now (rows .exit) ∷ now (atoms .exit) ∷ [])
+        ≡ closeCall (now (head .entry)) (now (answer .entry)) (now (meter .entry)) (now (slots .entry)) (now (postings .entry))
+        (now (held .entry)) (now (cut .entry)) (now (rows .entry)) (now (atoms .entry)) ⌝ }
 {
     let closed = close(
         header_of(head),
@@ -316,17 +328,20 @@ pub extern "C" fn ledger_close(
 // Seed: a tier takes the rows of a store; refused by the tier's 1, 2 or 3, the store's 1, 2 or 3, or 7.
 #[no_mangle]
 pub extern "C" fn ledger_seed(
-    tier: &mut [u64; 25],
-    store: &mut [u64; 25],
-    answer: &mut [u64; 3],
-    meter: &mut [u64; 2],
+    tier: &mut [u64; HEADER_WORDS],
+    store: &mut [u64; HEADER_WORDS],
+    answer: &mut [u64; ANSWER_WORDS],
+    meter: &mut [u64; METER_WORDS],
     tier_slots: &mut [u64],
     tier_postings: &mut [u64],
     store_slots: &[u64],
     store_postings: &[u64],
 ) -> u64
-    ensures { λ r. ⌜ left r (now (tier .exit) ∷ now (store .exit) ∷ now (answer .exit) ∷ now (meter .exit) ∷ now («tier_slots» .exit) ∷ now («tier_postings» .exit) ∷ [])
-        ≡ seedCall (now (tier .entry)) (now (store .entry)) (now (answer .entry)) (now (meter .entry)) (now («tier_slots» .entry)) (now («tier_postings» .entry)) (now («store_slots» .entry)) (now («store_postings» .entry)) ⌝ }
+    ensures { λ r. ⌜ left r
+        (now (tier .exit) ∷ now (store .exit) ∷ now (answer .exit) ∷ now (meter .exit) ∷ now («tier_slots» .exit)
+        ∷ now («tier_postings» .exit) ∷ [])
+        ≡ seedCall (now (tier .entry)) (now (store .entry)) (now (answer .entry)) (now (meter .entry)) (now («tier_slots» .entry))
+        (now («tier_postings» .entry)) (now («store_slots» .entry)) (now («store_postings» .entry)) ⌝ }
 {
     let seeded = seed(
         header_of(tier),
@@ -355,17 +370,20 @@ pub extern "C" fn ledger_seed(
 // Deliver: a store takes the rows of a tier; refused as Seed is.
 #[no_mangle]
 pub extern "C" fn ledger_deliver(
-    tier: &mut [u64; 25],
-    store: &mut [u64; 25],
-    answer: &mut [u64; 3],
-    meter: &mut [u64; 2],
+    tier: &mut [u64; HEADER_WORDS],
+    store: &mut [u64; HEADER_WORDS],
+    answer: &mut [u64; ANSWER_WORDS],
+    meter: &mut [u64; METER_WORDS],
     tier_slots: &mut [u64],
     tier_postings: &[u64],
     store_slots: &mut [u64],
     store_postings: &mut [u64],
 ) -> u64
-    ensures { λ r. ⌜ left r (now (tier .exit) ∷ now (store .exit) ∷ now (answer .exit) ∷ now (meter .exit) ∷ now («tier_slots» .exit) ∷ now («store_slots» .exit) ∷ now («store_postings» .exit) ∷ [])
-        ≡ deliverCall (now (tier .entry)) (now (store .entry)) (now (answer .entry)) (now (meter .entry)) (now («tier_slots» .entry)) (now («tier_postings» .entry)) (now («store_slots» .entry)) (now («store_postings» .entry)) ⌝ }
+    ensures { λ r. ⌜ left r
+        (now (tier .exit) ∷ now (store .exit) ∷ now (answer .exit) ∷ now (meter .exit) ∷ now («tier_slots» .exit)
+        ∷ now («store_slots» .exit) ∷ now («store_postings» .exit) ∷ [])
+        ≡ deliverCall (now (tier .entry)) (now (store .entry)) (now (answer .entry)) (now (meter .entry)) (now («tier_slots» .entry))
+        (now («tier_postings» .entry)) (now («store_slots» .entry)) (now («store_postings» .entry)) ⌝ }
 {
     let delivered = deliver(
         header_of(tier),

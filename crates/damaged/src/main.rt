@@ -1,271 +1,268 @@
-// Damaged copies of good ledgers: what each operation refuses them by. The input is good ledgers with their damaged copies, the output a line a
-// copy; tests/damaged/make.py writes both from document 01 and says how they are laid out.
+// Damaged copies of good ledgers: what each function for C refuses them by. The input is good ledgers with all that a call is lent and
+// their damaged copies, the output a line a copy; tests/damaged/make.py writes both from document 01 and says how they are laid out.
 ghost use mathlib.Core.Path.{_≡_};
 ghost use Prim.Native.Nat.{_+_, _≤_};
 ghost use lib.ListN.{length};
 use lists::copy;
 use lists::equal;
-use meter::Meter;
-use model::CandidatesResult;
-use model::Header;
-use model::OutputCursor;
 use text::Parsed;
+use text::kept;
 
 // Ends the copies of a ledger.
 const LAST: u64 = 999;
 
-// What a call was refused by, 0 for none; and 1 if it charged or changed a lent word although it refused, else 0.
+// Which words of a copy are lent as a slice: from, and up to.
+struct Bounds {
+    from: usize,
+    to: usize,
+}
+
+// What a call was refused by, 0 for none; and 1 if it changed a lent word although it refused, else 0.
 struct Tried {
     refused: u64,
     wrong: u64,
 }
 
-fn judged(refused: u64, ticks: u64, kept: bool) -> Tried {
+// What a call was refused by, and whether its scratch is as it was.
+struct Passed {
+    refused: u64,
+    scratch: bool,
+}
+
+fn judged(refused: u64, same: bool) -> Tried {
     if refused == 0 {
         return Tried { refused, wrong: 0 };
     }
-    if ticks != 0 {
-        return Tried { refused, wrong: 1 };
-    }
-    if kept {
+    if same {
         return Tried { refused, wrong: 0 };
     }
     Tried { refused, wrong: 1 }
 }
 
-// ---- What a call is given, out of the words of a copy.
-fn header_of(w: &[u64]) -> Header
-    requires { ⌜ length (now w) ≡ 1000 ⌝ }
-{
-    let mut words = [0u64; 25];
-    copy(&w[0..25], &mut words);
-    wire::header_of(&words)
-}
-
-fn cursor_of(w: &[u64]) -> OutputCursor
-    requires { ⌜ length (now w) ≡ 1000 ⌝ }
-{
-    OutputCursor {
-        next: w[30],
-        word: w[31],
-        present: w[32],
-        absent: w[33],
-    }
-}
-
-fn work() -> Meter {
-    Meter {
-        charged: 0,
-        limit: 100,
-    }
-}
-
-// Where a part that starts at `at` ends: after so many words, or with the room there is.
-fn end(length: u64, at: usize, room: usize) -> usize
-    requires { ⌜ at + room ≤ 1000 ⌝ }
-    ensures { λ r. ⌜ (at ≤ r) × (r ≤ at + room) ⌝ }
+// ---- What a call is lent, out of the words of a copy.
+// The part that starts at `at`: so many words, or as many as there is room for.
+fn part(length: u64, at: usize, room: usize) -> Bounds
+    requires { ⌜ at + room ≤ 1700 ⌝ }
+    ensures { λ r. ⌜ (r .from ≤ r .to) × (r .to ≤ 1700) ⌝ }
 {
     if room as u64 <= length {
-        return at + room;
+        return Bounds {
+            from: at,
+            to: at + room,
+        };
     }
-    at + length as usize
+    Bounds {
+        from: at,
+        to: at + length as usize,
+    }
 }
 
-// ---- Make.
-fn make_on(w: &[u64], slots: &mut [u64], postings: &mut [u64]) -> Tried
-    requires { ⌜ length (now w) ≡ 1000 ⌝ }
+// Conditions, the atoms to search for, the store's slots, or held.
+fn first_part(operation: u64, w: &[u64]) -> Bounds
+    requires { ⌜ length (now w) ≡ 1700 ⌝ }
+    ensures { λ r. ⌜ (r .from ≤ r .to) × (r .to ≤ 1700) ⌝ }
 {
-    let header = header_of(w);
-    let limits = header.limits;
-    let r = operations::make(limits, header.number, slots, postings);
-    let answer = r.answer;
-    let reply = wire::make_reply(answer);
-    let n = end(w[25], 64, 536);
-    let m = end(w[26], 600, 300);
-    let first = equal(&w[64..n], slots);
-    let second = equal(&w[600..m], postings);
-    judged(reply.refusal, r.ticks, first & second)
+    match operation {
+        6 => part(w[66], 100, 20),
+        7 => part(w[68], 80, 10),
+        9 | 10 => part(w[70], 1140, 360),
+        _ => part(w[64], 190, 50),
+    }
 }
 
-fn try_make(w: &[u64]) -> Tried
-    requires { ⌜ length (now w) ≡ 1000 ⌝ }
+// Outputs, the rows found, the store's postings, or cut.
+fn second_part(operation: u64, w: &[u64]) -> Bounds
+    requires { ⌜ length (now w) ≡ 1700 ⌝ }
+    ensures { λ r. ⌜ (r .from ≤ r .to) × (r .to ≤ 1700) ⌝ }
 {
-    let mut slots = [0u64; 536];
-    let mut postings = [0u64; 300];
-    copy(&w[64..600], &mut slots);
-    copy(&w[600..900], &mut postings);
-    let n = end(w[25], 0, 536);
-    let m = end(w[26], 0, 300);
-    make_on(w, &mut slots[0..n], &mut postings[0..m])
+    match operation {
+        6 => part(w[67], 120, 70),
+        7 => part(w[69], 90, 10),
+        9 | 10 => part(w[71], 1500, 200),
+        _ => part(w[65], 240, 50),
+    }
 }
 
-// ---- Hit.
-fn hit_on(w: &[u64], slots: &mut [u64]) -> Tried
-    requires { ⌜ length (now w) ≡ 1000 ⌝ }
+// ---- A call on the words of a copy.
+// Whether a part of a copy is still what was lent of it.
+fn is_kept(w: &[u64], p: Bounds, lent: &[u64]) -> bool
+    requires { ⌜ (p .from ≤ p .to) × (p .to ≤ length (now w)) ⌝ }
 {
-    let n = end(w[25], 64, 536);
-    let m = end(w[26], 600, 300);
-    let r = operations::hit(header_of(w), slots, &w[600..m], w[29]);
-    let answer = r.answer;
-    let reply = wire::hit_reply(answer);
-    judged(reply.refusal, r.ticks, equal(&w[64..n], slots))
+    let from = p.from;
+    let to = p.to;
+    equal(&w[from..to], lent)
 }
 
-fn try_hit(w: &[u64]) -> Tried
-    requires { ⌜ length (now w) ≡ 1000 ⌝ }
+fn ledger_kept(w: &[u64], words: &[u64], slots: &[u64], postings: &[u64]) -> bool
+    requires { ⌜ length (now w) ≡ 1700 ⌝ }
 {
-    let mut slots = [0u64; 536];
-    copy(&w[64..600], &mut slots);
-    let n = end(w[25], 0, 536);
-    hit_on(w, &mut slots[0..n])
+    let a = equal(&w[0..62], words);
+    let b = is_kept(w, part(w[62], 290, 540), slots);
+    let c = is_kept(w, part(w[63], 830, 310), postings);
+    a & b & c
 }
 
-// ---- Begin.
-fn try_begin(w: &[u64]) -> Tried
-    requires { ⌜ length (now w) ≡ 1000 ⌝ }
+fn pair_kept(operation: u64, w: &[u64], first: &[u64], second: &[u64]) -> bool
+    requires { ⌜ length (now w) ≡ 1700 ⌝ }
 {
-    let n = end(w[25], 64, 536);
-    let m = end(w[26], 600, 300);
-    let r = operations::begin(header_of(w), &w[64..n], &w[600..m]);
-    let answer = r.answer;
-    let reply = wire::begin_reply(answer);
-    judged(reply.refusal, r.ticks, true)
+    let a = is_kept(w, first_part(operation, w), first);
+    let b = is_kept(w, second_part(operation, w), second);
+    a & b
 }
 
-// ---- Candidates.
-fn candidates_of(w: &[u64], postings: &mut [u64], found: &mut [u64]) -> CandidatesResult
-    requires { ⌜ length (now w) ≡ 1000 ⌝ }
-{
-    let n = end(w[25], 64, 536);
-    let g = end(w[37], 48, 8);
-    search::candidates(header_of(w), &w[64..n], postings, &w[48..g], found, work())
+// Whether scratch is as it was lent.
+fn is_used(rows: &[u64], atoms: &[u64]) -> bool {
+    let lent_rows = used_rows();
+    let lent_atoms = used_atoms();
+    let n = kept(&lent_rows, rows.len());
+    let m = kept(&lent_atoms, atoms.len());
+    let a = equal(&lent_rows[0..n], rows);
+    let b = equal(&lent_atoms[0..m], atoms);
+    a & b
 }
 
-fn candidates_on(w: &[u64], postings: &mut [u64], found: &mut [u64]) -> Tried
-    requires { ⌜ length (now w) ≡ 1000 ⌝ }
-{
-    let r = candidates_of(w, postings, found);
-    let answer = r.answer;
-    let reply = wire::candidates_reply(answer);
-    let m = end(w[26], 600, 300);
-    let f = end(w[36], 40, 8);
-    let first = equal(&w[600..m], postings);
-    let second = equal(&w[40..f], found);
-    judged(reply.refusal, r.ticks, first & second)
-}
-
-fn try_candidates(w: &[u64]) -> Tried
-    requires { ⌜ length (now w) ≡ 1000 ⌝ }
-{
-    let mut postings = [0u64; 300];
-    let mut found = [0u64; 8];
-    copy(&w[600..900], &mut postings);
-    copy(&w[40..48], &mut found);
-    let m = end(w[26], 0, 300);
-    let f = end(w[36], 0, 8);
-    candidates_on(w, &mut postings[0..m], &mut found[0..f])
-}
-
-// ---- Deduce.
-fn try_deduce(w: &[u64]) -> Tried
-    requires { ⌜ length (now w) ≡ 1000 ⌝ }
-{
-    let n = end(w[25], 64, 536);
-    let m = end(w[26], 600, 300);
-    let i = end(w[27], 900, 50);
-    let j = end(w[28], 950, 50);
-    let r = operations::deduce(
-        header_of(w),
-        &w[64..n],
-        &w[600..m],
-        w[29],
-        &w[900..i],
-        &w[950..j],
-        work(),
+fn pass(
+    operation: u64,
+    words: &mut [u64],
+    slots: &mut [u64],
+    postings: &mut [u64],
+    first: &mut [u64],
+    second: &mut [u64],
+    rows: &mut [u64],
+    atoms: &mut [u64],
+) -> Passed {
+    let refused = calls::call(
+        operation,
+        words,
+        slots,
+        postings,
+        first,
+        second,
+        rows,
+        atoms,
     );
-    let answer = r.answer;
-    let reply = wire::deduce_reply(answer);
-    judged(reply.refusal, r.ticks, true)
+    Passed {
+        refused,
+        scratch: is_used(rows, atoms),
+    }
 }
 
-// ---- Next output.
-fn try_next(w: &[u64]) -> Tried
-    requires { ⌜ length (now w) ≡ 1000 ⌝ }
+// The call, with scratch that is all used.
+fn with_scratch(
+    operation: u64,
+    w: &[u64],
+    words: &mut [u64],
+    slots: &mut [u64],
+    postings: &mut [u64],
+    first: &mut [u64],
+    second: &mut [u64],
+) -> Passed
+    requires { ⌜ length (now w) ≡ 1700 ⌝ }
 {
-    let n = end(w[25], 64, 536);
-    let m = end(w[26], 600, 300);
-    let i = end(w[27], 900, 50);
-    let j = end(w[28], 950, 50);
-    let r = operations::next_output(
-        header_of(w),
-        &w[64..n],
-        &w[600..m],
-        w[29],
-        cursor_of(w),
-        &w[900..i],
-        &w[950..j],
-        work(),
-    );
-    let answer = r.answer;
-    let reply = wire::next_reply(answer);
-    judged(reply.refusal, r.ticks, true)
+    let mut rows = used_rows();
+    let mut atoms = used_atoms();
+    let n = kept(&rows, w[72] as usize);
+    let m = kept(&atoms, w[73] as usize);
+    pass(
+        operation,
+        words,
+        slots,
+        postings,
+        first,
+        second,
+        &mut rows[0..n],
+        &mut atoms[0..m],
+    )
 }
 
-// ---- Decide.
-fn decide_on(w: &[u64], held: &mut [u64], cut: &mut [u64]) -> Tried
-    requires { ⌜ length (now w) ≡ 1000 ⌝ }
+fn compare(
+    operation: u64,
+    w: &[u64],
+    words: &mut [u64],
+    slots: &mut [u64],
+    postings: &mut [u64],
+    first: &mut [u64],
+    second: &mut [u64],
+) -> Tried
+    requires { ⌜ length (now w) ≡ 1700 ⌝ }
 {
-    let r = operations::decide(w[0], held, cut, w[34], w[35] != 0);
-    let answer = r.answer;
-    let reply = wire::decide_reply(answer);
-    let i = end(w[27], 900, 50);
-    let j = end(w[28], 950, 50);
-    let first = equal(&w[900..i], held);
-    let second = equal(&w[950..j], cut);
-    judged(reply.refusal, r.ticks, first & second)
+    let p = with_scratch(operation, w, words, slots, postings, first, second);
+    let a = ledger_kept(w, words, slots, postings);
+    let b = pair_kept(operation, w, first, second);
+    judged(p.refused, a & b & p.scratch)
 }
 
-fn try_decide(w: &[u64]) -> Tried
-    requires { ⌜ length (now w) ≡ 1000 ⌝ }
+// Copies a part, where there is room for it, and answers how many words it copied.
+fn lend(w: &[u64], p: Bounds, into: &mut [u64]) -> usize
+    requires { ⌜ (p .from ≤ p .to) × (p .to ≤ length (now w)) ⌝ }
+    ensures { λ r. ⌜ r ≤ length (now (into .entry)) ⌝ }
 {
-    let mut held = [0u64; 50];
-    let mut cut = [0u64; 50];
-    copy(&w[900..950], &mut held);
-    copy(&w[950..1000], &mut cut);
-    let i = end(w[27], 0, 50);
-    let j = end(w[28], 0, 50);
-    decide_on(w, &mut held[0..i], &mut cut[0..j])
+    let from = p.from;
+    let to = p.to;
+    let n = to - from;
+    if into.len() < n {
+        return 0;
+    }
+    copy(&w[from..to], &mut into[0..n]);
+    n
 }
 
-// The line of one copy.
+fn with_pair(
+    operation: u64,
+    w: &[u64],
+    words: &mut [u64],
+    slots: &mut [u64],
+    postings: &mut [u64],
+) -> Tried
+    requires { ⌜ length (now w) ≡ 1700 ⌝ }
+{
+    let mut first = [0u64; 360];
+    let mut second = [0u64; 200];
+    let n = lend(w, first_part(operation, w), &mut first);
+    let m = lend(w, second_part(operation, w), &mut second);
+    compare(
+        operation,
+        w,
+        words,
+        slots,
+        postings,
+        &mut first[0..n],
+        &mut second[0..m],
+    )
+}
+
+fn attempt(operation: u64, w: &[u64]) -> Tried
+    requires { ⌜ length (now w) ≡ 1700 ⌝ }
+{
+    let mut words = [0u64; 62];
+    let mut slots = [0u64; 540];
+    let mut postings = [0u64; 310];
+    copy(&w[0..62], &mut words);
+    let n = lend(w, part(w[62], 290, 540), &mut slots);
+    let m = lend(w, part(w[63], 830, 310), &mut postings);
+    with_pair(
+        operation,
+        w,
+        &mut words,
+        &mut slots[0..n],
+        &mut postings[0..m],
+    )
+}
+
+// The line of one copy: what each function in turn refuses it by, and whether one changed a word although it refused.
 fn try_all(w: &[u64], out: &mut [u8], at: usize) -> usize
-    requires { ⌜ length (now w) ≡ 1000 ⌝ }
+    requires { ⌜ length (now w) ≡ 1700 ⌝ }
 {
-    let make = try_make(w);
-    let hit = try_hit(w);
-    let begin = try_begin(w);
-    let candidates = try_candidates(w);
-    let deduce = try_deduce(w);
-    let output = try_next(w);
-    let decide = try_decide(w);
-    let wrong = make.wrong
-        | hit.wrong
-        | begin.wrong
-        | candidates.wrong
-        | deduce.wrong
-        | output.wrong
-        | decide.wrong;
-    let line = [
-        make.refused,
-        hit.refused,
-        begin.refused,
-        candidates.refused,
-        deduce.refused,
-        output.refused,
-        decide.refused,
-        wrong,
-    ];
-    let next = text::put_list(out, at, &line);
+    let mut next = at;
+    let mut wrong: u64 = 0;
+    let mut i: u64 = 0;
+    while i < 11 {
+        let t = attempt(i, w);
+        next = text::put_decimal(out, next, t.refused);
+        wrong = wrong | t.wrong;
+        i += 1;
+    }
+    next = text::put_decimal(out, next, wrong);
     text::put(out, next, b'\n')
 }
 
@@ -296,7 +293,7 @@ fn change(s: &[u8], at: usize, changes: u64, w: &mut [u64]) -> usize {
 
 // The copies of one ledger; the place after them.
 fn copies(s: &[u8], at: usize, good: &[u64], out: &mut [u8]) -> usize
-    requires { ⌜ length (now good) ≡ 1000 ⌝ }
+    requires { ⌜ length (now good) ≡ 1700 ⌝ }
 {
     let mut next = at;
     let mut filled: usize = 0;
@@ -309,7 +306,7 @@ fn copies(s: &[u8], at: usize, good: &[u64], out: &mut [u8]) -> usize
             text::flush(out, filled);
             return first;
         }
-        let mut w = [0u64; 1000];
+        let mut w = [0u64; 1700];
         copy(good, &mut w);
         next = change(s, first, changes, &mut w);
         filled = try_all(&w, out, filled);
@@ -318,21 +315,11 @@ fn copies(s: &[u8], at: usize, good: &[u64], out: &mut [u8]) -> usize
     s.len()
 }
 
-// Line ends become spaces.
-fn in_one_line(s: &mut [u8]) {
-    let mut i: usize = 0;
-    while i < s.len() {
-        let byte = s[i];
-        s[i] = if byte == b'\n' { b' ' } else { byte };
-        i += 1;
-    }
-}
-
 fn run(s: &[u8], out: &mut [u8]) {
     let mut at: usize = 0;
     let mut turns = s.len();
     while 0 < turns {
-        let mut good = [0u64; 1000];
+        let mut good = [0u64; 1700];
         let l = text::numbers(s, at, &mut good);
         if !l.ok {
             return;
@@ -346,13 +333,27 @@ fn main() {
     let mut input = room();
     let mut out = io::large_buffer();
     let n = io::read_full(0, &mut input);
-    in_one_line(&mut input);
+    text::join_lines(&mut input);
     run(&input[0..n], &mut out);
 }
 
-// Room for the input.
+// ---- Rooms, each with its length said.
+// The input.
 fn room() -> [u8; 524288]
     ensures { λ r. ⌜ 524288 ≡ length r ⌝ }
 {
     [0; 524288]
+}
+
+// Scratch for rows and for atoms, all used.
+fn used_rows() -> [u64; 10]
+    ensures { λ r. ⌜ 10 ≡ length r ⌝ }
+{
+    [11; 10]
+}
+
+fn used_atoms() -> [u64; 3210]
+    ensures { λ r. ⌜ 3210 ≡ length r ⌝ }
+{
+    [11; 3210]
 }

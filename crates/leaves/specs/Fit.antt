@@ -7,7 +7,7 @@ use Rattle.words.specs.Region.{maxAtoms}
 use Rattle.model.specs.Records.{isRow}
 use Rattle.model.specs.Slots.{rowIn}
 use Rattle.slots.specs.Layout.{proposal}
-use Rattle.proposals.specs.Offered.{rowOf}
+use Rattle.row_propose.specs.Offered.{rowOf}
 
 -- two lists that are a row over n atoms
 pub record Fit (n : ℕ) (cs os : List ℕ) : Type 0 where

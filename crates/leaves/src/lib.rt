@@ -9,10 +9,12 @@ ghost use mathlib.Core.Path.{_≡_};
 ghost use mathlib.Core.Bool.{true};
 ghost use Prim.Native.Nat.{_≤_};
 ghost use lib.ListN.{length};
-ghost use Rattle.model.specs.Records.{slotWords, maxConditions, maxOutputs};
+ghost use Rattle.words.specs.Region.{maxAtoms};
+ghost use Rattle.model.specs.Records.{isRow, slotWords, maxOutputs};
 ghost use Rattle.slots.specs.Layout.{Laid, Stored};
-ghost use Rattle.proposals.specs.Proposed.{Proposed};
-ghost use Rattle.matching.specs.Chunks.{Matched};
+ghost use Rattle.row_propose.specs.Offered.{rowOf};
+ghost use Rattle.row_propose.specs.Proposed.{Proposed};
+ghost use Rattle.row_deduce.specs.Chunks.{Matched};
 ghost use Rattle.leaves.specs.Fit.{Offered, Fit};
 use meter::Account;
 use meter::Capture;
@@ -149,7 +151,7 @@ fn is_row(atoms: u64, conditions: &[u64], outputs: &[u64]) -> bool
     if MAX_ATOMS < atoms {
         return false;
     }
-    proposals::is_row(atoms, MAX_CONDITIONS, MAX_OUTPUTS, conditions, outputs)
+    row_propose::is_row(atoms, MAX_CONDITIONS, MAX_OUTPUTS, conditions, outputs)
 }
 
 // p becomes the proposal of a row, and true; false, and nothing changed, if the lists are no row.
@@ -160,7 +162,7 @@ fn propose(atoms: u64, conditions: &[u64], outputs: &[u64], p: &mut [u64]) -> bo
     if !is_row(atoms, conditions, outputs) {
         return false;
     }
-    proposals::propose(conditions, outputs, p);
+    row_propose::propose(conditions, outputs, p);
     true
 }
 
@@ -173,7 +175,7 @@ fn store(atoms: u64, conditions: &[u64], outputs: &[u64], slot: &mut [u64]) -> b
     if !propose(atoms, conditions, outputs, &mut p) {
         return false;
     }
-    writer::write_row(slot, &p, writer::form_of(&p), 0, 0);
+    row_write::write_row(slot, &p, row_write::form_of(&p), 0, 0);
     true
 }
 
@@ -192,14 +194,14 @@ fn lay(atoms: u64, conditions: &[u64], outputs: &[u64], stored: bool, ws: &mut [
 fn prepare(p: &[u64], slot: &mut [u64], account: Account, work: Meter) -> Judged
     requires { ⌜ Proposed (now p) ⌝ ∗ ⌜ length (now slot) ≡ slotWords ⌝ }
 {
-    let prepared = writer::prepare(p, account, work);
+    let prepared = row_write::prepare(p, account, work);
     let judged = prepared.judged;
     let form = prepared.form;
     let verdict = judged.verdict;
     let Verdict::Yes = verdict else {
         return judged;
     };
-    writer::write_row(slot, p, form, 0, 0);
+    row_write::write_row(slot, p, form, 0, 0);
     judged
 }
 
@@ -229,13 +231,13 @@ fn includes_times(a: &[u64], b: &[u64], account: Account, work: Meter, times: u6
     let mut meter = work;
     let mut left = times;
     while 1 < left {
-        let j = rows::includes(a, candidates, b, wanted, account, meter);
+        let j = row_subsume::includes(a, candidates, b, wanted, account, meter);
         let paid = j.account;
         account = next_account(paid);
         meter = next_meter(work, j.meter);
         left -= 1;
     }
-    rows::includes(a, candidates, b, wanted, account, meter)
+    row_subsume::includes(a, candidates, b, wanted, account, meter)
 }
 
 fn subsumes_times(r: &[u64], s: &[u64], account: Account, work: Meter, times: u64) -> Judged
@@ -245,13 +247,13 @@ fn subsumes_times(r: &[u64], s: &[u64], account: Account, work: Meter, times: u6
     let mut meter = work;
     let mut left = times;
     while 1 < left {
-        let j = rows::subsumes(r, s, account, meter);
+        let j = row_subsume::subsumes(r, s, account, meter);
         let paid = j.account;
         account = next_account(paid);
         meter = next_meter(work, j.meter);
         left -= 1;
     }
-    rows::subsumes(r, s, account, meter)
+    row_subsume::subsumes(r, s, account, meter)
 }
 
 // p becomes the proposal of the lists, and then the union.
@@ -264,11 +266,11 @@ fn unite(
     account: Account,
     work: Meter,
 ) -> Judged
-    requires { ⌜ Laid (now r) ⌝ ∗ ⌜ length (now conditions) ≤ maxConditions ⌝ ∗ ⌜ length (now outputs) ≤ maxOutputs ⌝
-        ∗ ⌜ length (now p) ≡ slotWords ⌝ ∗ ⌜ most ≤ maxOutputs ⌝ }
+    requires { ⌜ Laid (now r) ⌝ ∗ ⌜ isRow maxAtoms (rowOf (now conditions) (now outputs)) ≡ true ⌝ ∗ ⌜ length (now p) ≡ slotWords ⌝
+        ∗ ⌜ most ≤ maxOutputs ⌝ }
 {
-    proposals::propose(conditions, outputs, p);
-    merge::union_outputs(r, p, most, account, work)
+    row_propose::propose(conditions, outputs, p);
+    row_merge::union_outputs(r, p, most, account, work)
 }
 
 fn union_times(
@@ -281,8 +283,8 @@ fn union_times(
     work: Meter,
     times: u64,
 ) -> Judged
-    requires { ⌜ Laid (now r) ⌝ ∗ ⌜ length (now conditions) ≤ maxConditions ⌝ ∗ ⌜ length (now outputs) ≤ maxOutputs ⌝
-        ∗ ⌜ length (now p) ≡ slotWords ⌝ ∗ ⌜ most ≤ maxOutputs ⌝ }
+    requires { ⌜ Laid (now r) ⌝ ∗ ⌜ isRow maxAtoms (rowOf (now conditions) (now outputs)) ≡ true ⌝ ∗ ⌜ length (now p) ≡ slotWords ⌝
+        ∗ ⌜ most ≤ maxOutputs ⌝ }
 {
     let mut account = account;
     let mut meter = work;
@@ -303,15 +305,15 @@ fn deduction_times(slot: &[u64], held: &[u64], cut: &[u64], work: Meter, times: 
     let mut meter = work;
     let mut left = times;
     while 1 < left {
-        let d = matching::deduction(slot, held, cut, meter);
+        let d = row_deduce::deduction(slot, held, cut, meter);
         meter = next_meter(work, d.meter);
         left -= 1;
     }
-    matching::deduction(slot, held, cut, meter)
+    row_deduce::deduction(slot, held, cut, meter)
 }
 
 // The next output of a stored row, and the cursor past it; or NO_REGION or NO_CURSOR.
-fn publish(
+fn publish_all(
     atoms: u64,
     slot: &[u64],
     held: &[u64],
@@ -331,10 +333,10 @@ fn publish(
         present: cursor[2],
         absent: cursor[3],
     };
-    if !matching::cursor_ok(slot, k) {
+    if !row_deduce::cursor_ok(slot, k) {
         return NO_CURSOR;
     }
-    let d = matching::next_publication_output(slot, k, held, cut, meter_of(paying));
+    let d = row_deduce::next_publication_output(slot, k, held, cut, meter_of(paying));
     let given = d.answer;
     *cursor = [
         d.cursor.next,
@@ -508,7 +510,7 @@ pub extern "C" fn leaf_next_output(
     if !store(atoms, conditions, outputs, &mut slot) {
         return NO_ROW;
     }
-    publish(atoms, &slot, held, cut, cursor, paying, answer)
+    publish_all(atoms, &slot, held, cut, cursor, paying, answer)
 }
 
 // Whether the atom was decided: 1, or 0.

@@ -1,6 +1,6 @@
 // The ledger: everything there is to call, and every type that a call takes or gives. Each operation's contract is one equation over its
 // definition in the crate model (specs/Operations.antt) and asks nothing of the caller.
-pub use closing::close;
+pub use close::close;
 pub use meter::Account;
 pub use meter::Capture;
 pub use meter::Meter;
@@ -38,6 +38,6 @@ pub use operations::deduce;
 pub use operations::hit;
 pub use operations::make;
 pub use operations::next_output;
-pub use search::candidates;
+pub use postings_search::candidates;
 pub use transfers::deliver;
 pub use transfers::seed;

@@ -1,7 +1,8 @@
--- The laws of `concat` and `sum`, and of lists made of blocks of one length. Assumes nothing.
+-- The laws of `concat` and `sum`, of lists made of blocks of one length, and of the words from a place on. Assumes nothing.
 use mathlib.Core.List.{List, [], _∷_, _++_, map, append-assoc, append-nil}
 use mathlib.Core.Path.{_≡_, refl, sym, ap, _∙_}
 use Prim.Native.Nat.{ℕ, zero, suc, _+_, _*_, _≤_, _<_}
+use native.Mathlib.Numerals.{add-one}
 use native.Mathlib.Omega.{arith}
 use lib.ListN.{length, getD, set, take, drop, length-append}
 use lib.Seq.{take-at, drop-at, drop-cons, set-split, take-append-add, drop-append-add}
@@ -117,3 +118,17 @@ module _ {A B : Type 0} (f : A → List B) (w : ℕ) where
       concat-map-append f es (e ∷ []) ∙ ap (λ (r : List B). concat (map f es) ++ r) (concat-map-one f e) in
       rw (take-at (concat (map f es)) zs (w * length es) n, drop-at (concat (map f es)) zs (w * length es) n, m)
       (sym (append-assoc (concat (map f es)) (f e) (drop w zs)))
+
+-- ---- the words from a place on
+pub drop-next : (ws : List ℕ) (i : ℕ) → i < length ws → drop i ws ≡ getD ws i 0 ∷ drop (i + 1) ws
+drop-next ws i l = drop-cons ws i 0 l ∙ ap (λ (k : ℕ). getD ws i 0 ∷ drop k ws) (sym (add-one i))
+
+pub drop-three : (ws : List ℕ) (i : ℕ) → i + 3 ≤ length ws
+    → drop i ws ≡ getD ws i 0 ∷ getD ws (i + 1) 0 ∷ getD ws (i + 2) 0 ∷ drop (i + 3) ws
+drop-three ws i h =
+    drop-one i (i + 1) (omega arith) (omega arith)
+    ∙ ap (λ (l : List ℕ). getD ws i 0 ∷ l) (drop-one (i + 1) (i + 2) (omega arith) (omega arith))
+    ∙ ap (λ (l : List ℕ). getD ws i 0 ∷ getD ws (i + 1) 0 ∷ l) (drop-one (i + 2) (i + 3) (omega arith) (omega arith))
+  where
+    drop-one : (i j : ℕ) → i < length ws → suc i ≡ j → drop i ws ≡ getD ws i 0 ∷ drop j ws
+    drop-one i j l e = drop-cons ws i 0 l ∙ ap (λ (k : ℕ). getD ws i 0 ∷ drop k ws) e

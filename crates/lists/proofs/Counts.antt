@@ -123,7 +123,8 @@ module _ (f : ℕ → Bool) where
       go : (b : Bool) → f x ≡ b → times v (select f xs) ≡ 0 →
           times v (elim b as (λ k. List ℕ) [ true ↦ x ∷ select f xs | false ↦ select f xs ]) ≡ 0
       go true d ih =
-          let n : v ≡ x → ⊥ = λ p. let z : true ≡ false = sym d ∙ ap f (sym p) ∙ e in absurd (let w : _≡_ {A = ℕ} 0 1 = cc in omega arith) in
+          let n : v ≡ x → ⊥ = λ p. let z : true ≡ false = sym d ∙ ap f (sym p) ∙ e in
+          absurd (let w : _≡_ {A = ℕ} 0 1 = cc in omega arith) in
           omega (arith, ih, is-other v x n)
       go false d ih = ih
 

@@ -1,7 +1,9 @@
+pub mod Bools
 pub mod Concats
 pub mod Counts
 pub mod Marks
 pub mod Pads
+pub mod Puts
 pub mod Selects
 pub mod Sorts
 pub mod Tests

@@ -11,11 +11,12 @@ use lib.ListN.{length, getD, set, take, drop, length-set, length-take, take-appe
 use lib.Seq.{getD-set-same, getD-set-other, getD-take}
 use borrow.Author.Tests.{eq-eqb, ne-eqb, lt-ltb, le-ltb}
 use Rattle.lists.specs.Counts.{is, times, Each, Sorted}
-use Rattle.lists.specs.Lists.{select, count, upTo, sortOf, distinct, zeroed}
+use Rattle.lists.specs.Lists.{select, range, upTo, sortOf, distinct, zeroed}
 use Rattle.lists.specs.Marks.{lowerBound, markAll, isMarked, marked}
 use Rattle.lists.proofs.Counts.{same-or, lt-or-ge, is-equal, is-other, times-at, times-select-yes, times-select-no, each-none}
 use Rattle.lists.proofs.Pads.{getD-zeroed, length-zeroed}
-use Rattle.lists.proofs.Selects.{select-yes, select-no, select-append, select-none, select-nothing, each-select, select-short, count-from}
+use Rattle.lists.proofs.Selects.{select-yes, select-no, select-append, select-none, select-nothing, each-select, select-short}
+use Rattle.lists.proofs.Selects.{range-from}
 use Rattle.lists.proofs.Sorts.{Once, distinct-sorted, sorted-unique, sorted-after, sort-perm, sort-sorted}
 
 -- ---- selections and runs of numbers ascend
@@ -29,20 +30,21 @@ sorted-select f (x ∷ xs) a = go (f x) (sorted-select f xs (a .1))
     go true s = (each-select (λ v. x ≤ v) f xs (a .0), s)
     go false s = s
 
-pub sorted-count : (i n : ℕ) → Sorted (count i n)
-unfolding count
-sorted-count i zero = tt
-sorted-count i (suc n) = ((λ v h. let k = count-from (suc i) n v h in omega arith), sorted-count (suc i) n)
+pub sorted-range : (i n : ℕ) → Sorted (range i n)
+unfolding range
+sorted-range i zero = tt
+sorted-range i (suc n) = ((λ v h. let k = range-from (suc i) n v h in omega arith), sorted-range (suc i) n)
 
-pub times-count : (v i n : ℕ) → i ≤ v → v < i + n → times v (count i n) ≡ 1
-unfolding count
-times-count v i zero l h = absurd (omega arith)
-times-count v i (suc n) l h = go (same-or v i) (times-count v (suc i) n)
+pub times-range : (v i n : ℕ) → i ≤ v → v < i + n → times v (range i n) ≡ 1
+unfolding range
+times-range v i zero l h = absurd (omega arith)
+times-range v i (suc n) l h = go (same-or v i) (times-range v (suc i) n)
   where
-    go : (v ≡ i) ⊎ (v ≡ i → ⊥) → (suc i ≤ v → v < suc i + n → times v (count (suc i) n) ≡ 1) →
-        is v i + times v (count (suc i) n) ≡ 1
+    go : (v ≡ i) ⊎ (v ≡ i → ⊥) → (suc i ≤ v → v < suc i + n → times v (range (suc i) n) ≡ 1) →
+        is v i + times v (range (suc i) n) ≡ 1
     go (inl e) ih =
-        let z : times v (count (suc i) n) ≡ 0 = each-none (λ u. (suc i ≤ u) × (u < suc i + n)) v (count (suc i) n) (count-from (suc i) n) (λ k. omega arith) in
+        let z : times v (range (suc i) n)
+        ≡ 0 = each-none (λ u. (suc i ≤ u) × (u < suc i + n)) v (range (suc i) n) (range-from (suc i) n) (λ k. omega arith) in
         omega (arith, is-equal v i e)
     go (inr m) ih = omega (arith, is-other v i m, ih (omega (arith, m)) (omega arith))
 
@@ -112,7 +114,8 @@ pub select-lower : (f : ℕ → Bool) (b : ℕ) (xs : List ℕ) → Sorted xs �
 select-lower f b xs a n =
     let r = lowerBound b xs in
     let none : select f (take r xs) ≡ [] = select-none f (take r xs) 0 (λ i l.
-    let h : i < r = omega (arith, length-take r xs) in n (getD (take r xs) i 0) (rw (getD-take r xs i 0 h) (lower-of b xs a .before i h))) in
+    let h : i < r = omega (arith, length-take r xs) in
+    n (getD (take r xs) i 0) (rw (getD-take r xs i 0 h) (lower-of b xs a .before i h))) in
     ap (select f) (sym (take-append-drop r xs)) ∙ select-append f (take r xs) (drop r xs)
     ∙ ap (λ (l : List ℕ). l ++ select f (drop r xs)) none
 
@@ -153,7 +156,7 @@ unfolding marked isMarked upTo
 marked-times ms v = go (lt-or-ge v (length ms)) (same-or (getD ms v 0) 0)
   where
     here : v < length ms → times v (upTo (length ms)) ≡ 1
-    here l = times-count v 0 (length ms) (omega arith) (omega arith)
+    here l = times-range v 0 (length ms) (omega arith) (omega arith)
 
     go : (v < length ms) ⊎ (length ms ≤ v) → (getD ms v 0 ≡ 0) ⊎ (getD ms v 0 ≡ 0 → ⊥) →
         times v (select (isMarked ms) (upTo (length ms))) ≡ min 1 (getD ms v 0)
@@ -166,7 +169,7 @@ marked-times ms v = go (lt-or-ge v (length ms)) (same-or (getD ms v 0) 0)
 
 pub marked-sorted : (ms : List ℕ) → Sorted (marked ms)
 unfolding marked upTo
-marked-sorted ms = sorted-select (isMarked ms) (upTo (length ms)) (sorted-count 0 (length ms))
+marked-sorted ms = sorted-select (isMarked ms) (upTo (length ms)) (sorted-range 0 (length ms))
 
 pub marked-positions : (out ps : List ℕ) → Each (λ v. v < length out) ps →
     marked (markAll (zeroed out) ps) ≡ distinct (sortOf ps)

@@ -5,7 +5,8 @@ use mathlib.Core.Path.{_≡_, refl, sym, ap, ap₂, _∙_}
 use Prim.Native.Nat.{ℕ, zero, suc, _+_, _-_, _≤_, _<_}
 use native.Mathlib.Numerals.{add-one}
 use native.Mathlib.Omega.{arith}
-use lib.ListN.{length, getD, set, take, drop, replicate, length-set, length-append, length-replicate, length-drop, take-append-drop, drop-of-length-le, replicate-append-replicate}
+use lib.ListN.{length, getD, set, take, drop, replicate, length-set, length-append, length-replicate, length-drop, take-append-drop}
+use lib.ListN.{drop-of-length-le, replicate-append-replicate}
 use lib.Seq.{take-at, drop-at, take-all, take-suc, drop-cons, length-take-le, set-at, set-append-left, append-snoc, sets, sets-eq, ext-getD}
 use borrow.Rule.Slice.PartMut.{putMid, post-is}
 use Rattle.lists.specs.Lists.{pad, zeroed, same}

@@ -9,7 +9,7 @@ use native.Mathlib.Omega.{arith}
 use lib.ListN.{length, getD, set, drop}
 use lib.Seq.{drop-cons}
 use Rattle.lists.specs.Counts.{Each}
-use Rattle.lists.specs.Lists.{select, first, adjust, count, upTo}
+use Rattle.lists.specs.Lists.{select, first, adjust, range, upTo}
 use Rattle.lists.proofs.Counts.{times-select-yes, times-select-no, each-at, each-cons, each-head, each-tail}
 
 -- ---- `select`
@@ -100,55 +100,55 @@ each-select P f xs h v k = go (f v) refl
     go false e = absurd (omega (arith, times-select-no f v xs e))
 
 -- ---- `count` and `upTo`
-pub length-count : (i n : ℕ) → length (count i n) ≡ n
-unfolding count
-length-count i zero = refl
-length-count i (suc n) = ap suc (length-count (suc i) n)
+pub length-range : (i n : ℕ) → length (range i n) ≡ n
+unfolding range
+length-range i zero = refl
+length-range i (suc n) = ap suc (length-range (suc i) n)
 
 pub length-upTo : (n : ℕ) → length (upTo n) ≡ n
 unfolding upTo
-length-upTo n = length-count 0 n
+length-upTo n = length-range 0 n
 
-pub getD-count : (i n j d : ℕ) → j < n → getD (count i n) j d ≡ i + j
-unfolding count
-getD-count i zero j d l = absurd (omega arith)
-getD-count i (suc n) zero d l = omega arith
-getD-count i (suc n) (suc j) d l = getD-count (suc i) n j d (omega arith) ∙ omega arith
+pub getD-range : (i n j d : ℕ) → j < n → getD (range i n) j d ≡ i + j
+unfolding range
+getD-range i zero j d l = absurd (omega arith)
+getD-range i (suc n) zero d l = omega arith
+getD-range i (suc n) (suc j) d l = getD-range (suc i) n j d (omega arith) ∙ omega arith
 
 pub getD-upTo : (n j d : ℕ) → j < n → getD (upTo n) j d ≡ j
 unfolding upTo
-getD-upTo n j d l = getD-count 0 n j d l ∙ omega arith
+getD-upTo n j d l = getD-range 0 n j d l ∙ omega arith
 
-pub count-append : (i m n : ℕ) → count i (m + n) ≡ count i m ++ count (i + m) n
-unfolding count
-count-append i zero n = let e : i + 0 ≡ i = omega arith in let k : 0 + n ≡ n = omega arith in rw (e, k)
-count-append i (suc m) n =
+pub range-append : (i m n : ℕ) → range i (m + n) ≡ range i m ++ range (i + m) n
+unfolding range
+range-append i zero n = let e : i + 0 ≡ i = omega arith in let k : 0 + n ≡ n = omega arith in rw (e, k)
+range-append i (suc m) n =
     let e : suc i + m ≡ i + suc m = omega arith in
     let k : suc m + n ≡ suc (m + n) = omega arith in
-    ap (count i) k ∙ ap (λ (r : List ℕ). i ∷ r) (count-append (suc i) m n ∙ ap (λ (j : ℕ). count (suc i) m ++ count j n) e)
+    ap (range i) k ∙ ap (λ (r : List ℕ). i ∷ r) (range-append (suc i) m n ∙ ap (λ (j : ℕ). range (suc i) m ++ range j n) e)
 
-pub count-cons : (i n : ℕ) → count i (n + 1) ≡ i ∷ count (i + 1) n
-unfolding count
-count-cons i n = rw (add-one n, add-one i)
+pub range-cons : (i n : ℕ) → range i (n + 1) ≡ i ∷ range (i + 1) n
+unfolding range
+range-cons i n = rw (add-one n, add-one i)
 
 -- a turn of a loop from i up to n
-pub count-turn : (i n : ℕ) → i < n → count i (n - i) ≡ i ∷ count (i + 1) (n - (i + 1))
-count-turn i n l = let e : n - i ≡ n - (i + 1) + 1 = omega arith in ap (count i) e ∙ count-cons i (n - (i + 1))
+pub range-turn : (i n : ℕ) → i < n → range i (n - i) ≡ i ∷ range (i + 1) (n - (i + 1))
+range-turn i n l = let e : n - i ≡ n - (i + 1) + 1 = omega arith in ap (range i) e ∙ range-cons i (n - (i + 1))
 
 pub upTo-none : upTo 0 ≡ []
-unfolding upTo count
+unfolding upTo range
 upTo-none = refl
 
 pub upTo-more : (n : ℕ) → upTo (n + 1) ≡ upTo n ++ (n ∷ [])
-unfolding upTo count
-upTo-more n = let e : 0 + n ≡ n = omega arith in count-append 0 n 1 ∙ ap (λ (j : ℕ). count 0 n ++ (j ∷ [])) e
+unfolding upTo range
+upTo-more n = let e : 0 + n ≡ n = omega arith in range-append 0 n 1 ∙ ap (λ (j : ℕ). range 0 n ++ (j ∷ [])) e
 
-pub count-from : (i n : ℕ) → Each (λ v. (i ≤ v) × (v < i + n)) (count i n)
-unfolding count
-count-from i zero = λ v h. absurd (omega arith)
-count-from i (suc n) =
-    each-cons (λ v. (i ≤ v) × (v < i + suc n)) i (count (suc i) n) (omega arith, omega arith)
-    (λ v h. let k = count-from (suc i) n v h in (omega arith, omega arith))
+pub range-from : (i n : ℕ) → Each (λ v. (i ≤ v) × (v < i + n)) (range i n)
+unfolding range
+range-from i zero = λ v h. absurd (omega arith)
+range-from i (suc n) =
+    each-cons (λ v. (i ≤ v) × (v < i + suc n)) i (range (suc i) n) (omega arith, omega arith)
+    (λ v h. let k = range-from (suc i) n v h in (omega arith, omega arith))
 
 -- ---- `first`
 pub first-yes : {A : Type 0} (f : A → Bool) (x : A) (xs : List A) → f x ≡ true → first (select f (x ∷ xs)) ≡ some x

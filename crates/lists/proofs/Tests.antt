@@ -12,26 +12,7 @@ use borrow.Author.Tests.{eqb-true, eq-eqb, lt-ltb, ltb-true, le-ltb}
 use Rattle.lists.specs.Counts.{is, times, Each, Sorted}
 use Rattle.lists.specs.Lists.{all, any, same, above, ascending, below}
 use Rattle.lists.proofs.Counts.{is-le, is-pos, each-at, each-index, each-cons, each-none}
-
--- ---- Bool
-pub and-both : (x y : Bool) → (x && y) ≡ true → (x ≡ true) × (y ≡ true)
-and-both true y e = (refl, e)
-and-both false y e = absurd (false≢true e)
-
-pub and-yes : (x y : Bool) → x ≡ true → y ≡ true → (x && y) ≡ true
-and-yes x y d e = rw (d, e)
-
-pub and-false : (x : Bool) → (x && false) ≡ false
-and-false true = refl
-and-false false = refl
-
-pub and-assoc : (x y z : Bool) → ((x && y) && z) ≡ (x && (y && z))
-and-assoc true y z = refl
-and-assoc false y z = refl
-
-pub or-assoc : (x y z : Bool) → ((x || y) || z) ≡ (x || (y || z))
-or-assoc true y z = refl
-or-assoc false y z = refl
+use Rattle.lists.proofs.Bools.{and-both, and-yes, and-false, and-assoc, or-assoc}
 
 -- ---- `all` and `any`
 module _ {A : Type 0} (f : A → Bool) where

@@ -1,7 +1,8 @@
 // Whole slices: zeroed, tested for zeros, copied, compared.
 ghost use mathlib.Core.Path.{_≡_};
+ghost use Prim.Native.Nat.{_≤_};
 ghost use lib.ListN.{length};
-ghost use Rattle.lists.specs.Lists.{same, zeroed};
+ghost use Rattle.lists.specs.Lists.{same, zeroed, put};
 
 // Every word becomes 0.
 pub fn fill_zero(dst: &mut [u64])
@@ -43,10 +44,10 @@ pub fn equal(a: &[u64], b: &[u64]) -> bool
     bits == 0
 }
 
-// dst becomes src, which is as long.
+// The first words of dst become those of src.
 pub fn copy(src: &[u64], dst: &mut [u64])
-    requires { ⌜ length (now dst) ≡ length (now src) ⌝ }
-    ensures { λ _. ⌜ now (dst .exit) ≡ now (src .entry) ⌝ }
+    requires { ⌜ length (now src) ≤ length (now dst) ⌝ }
+    ensures { λ _. ⌜ now (dst .exit) ≡ put 0 (now (src .entry)) (now (dst .entry)) ⌝ }
 {
     let mut i: usize = 0;
     while i < src.len() {

@@ -3,16 +3,17 @@ use mathlib.Core.Path.{_≡_, refl, sym, ap, ap₂, _∙_, subst}
 use mathlib.Core.Bool.{Bool, true, false, _&&_}
 use mathlib.Core.List.{List, [], _∷_, _++_, map}
 use mathlib.Core.Option.{Option, none, some}
-use Prim.Native.Nat.{ℕ, zero, suc, _+_, _-_, _*_, _≤_, _<_}
+use Prim.Native.Nat.{ℕ, zero, suc, _+_, _*_, _≤_, _<_}
 use native.Mathlib.Omega.{arith}
 use lib.Dec.{T, leb, ltb, leb→le, eqb}
-use lib.ListN.{length, replicate, length-append, length-replicate, length-map}
+use lib.ListN.{length, length-append, length-map}
 use borrow.Author.Tests.{eq-eqb}
-use Rattle.lists.specs.Lists.{all, concat, pad, same, sortOf, distinct}
+use Rattle.lists.specs.Lists.{all, concat, same, sortOf, distinct}
 use Rattle.lists.proofs.Tests.{same-refl, same-true}
 use Rattle.lists.proofs.Sorts.{length-sort, distinct-short}
+use Rattle.lists.proofs.Bools.{T-true, T-of}
+use Rattle.lists.proofs.Pads.{length-pad}
 use Rattle.words.specs.Literal.{atom}
-use Rattle.words.proofs.Bools.{T-true, T-of}
 use Rattle.model.specs.declared.Header.{Header}
 use Rattle.model.specs.Records.{Row, Entry, Ledger, rowsOf, isRow, limitsOk, withRows, slotWords, postingWords}
 use Rattle.model.specs.Slots.{slotOf, slotsOf, entriesIn}
@@ -32,20 +33,13 @@ entries-valid h (e ∷ es) t = (
   entries-valid h es (and-right (entryOk h e) (all (entryOk h) es) t),
 )
 
-laid-length : (es : List Entry) → AllValid es → length (concat (map slotOf es)) ≡ slotWords * length es
+pub laid-length : (es : List Entry) → AllValid es → length (concat (map slotOf es)) ≡ slotWords * length es
 unfolding concat
 laid-length [] v = refl
 laid-length (e ∷ es) v =
     let a = slot-length e (v .0) in
     let b = laid-length es (v .1) in
     let c = length-append (slotOf e) (concat (map slotOf es)) in
-    omega arith
-
-pad-length : (n : ℕ) (xs : List ℕ) → length xs ≤ n → length (pad n xs) ≡ n
-unfolding pad
-pad-length n xs h =
-    let a = length-append xs (replicate (n - length xs) 0) in
-    let b = length-replicate {A = ℕ} (n - length xs) 0 in
     omega arith
 
 row-posts : (p : ℕ) (r : Row) → Valid r → length (rowPostings p r) ≤ postingWords
@@ -69,16 +63,17 @@ posts-length p (e ∷ es) v =
     let c = length-append (rowPostings p (e .row)) (postingsFrom (suc p) (map (λ e. e .row) es)) in
     omega arith
 
-filed-length : (tier : ℕ) (stale : Bool) (es : List Entry) → AllValid es → length es ≤ tier → length (filed tier stale (map (λ e. e .row) es)) ≡ postingWords * tier
+filed-length : (tier : ℕ) (stale : Bool) (es : List Entry) → AllValid es → length es ≤ tier
+    → length (filed tier stale (map (λ e. e .row) es)) ≡ postingWords * tier
 unfolding filed postingsOf
-filed-length tier true es v h = pad-length (postingWords * tier) [] (omega arith)
+filed-length tier true es v h = length-pad (postingWords * tier) [] (omega arith)
 filed-length tier false es v h =
-    pad-length (postingWords * tier) (sortOf (postingsFrom 0 (map (λ e. e .row) es)))
+    length-pad (postingWords * tier) (sortOf (postingsFrom 0 (map (λ e. e .row) es)))
     (let a = length-sort (postingsFrom 0 (map (λ e. e .row) es)) in let b = posts-length 0 es v in omega arith)
 
-slots-length : (tier : ℕ) (es : List Entry) → AllValid es → length es ≤ tier → length (slotsOf tier es) ≡ slotWords * tier
+pub slots-length : (tier : ℕ) (es : List Entry) → AllValid es → length es ≤ tier → length (slotsOf tier es) ≡ slotWords * tier
 unfolding slotsOf
-slots-length tier es v h = pad-length (slotWords * tier) (concat (map slotOf es)) (let a = laid-length es v in omega arith)
+slots-length tier es v h = length-pad (slotWords * tier) (concat (map slotOf es)) (let a = laid-length es v in omega arith)
 
 -- ---- acceptance
 all-pass : (a b c : Bool) → T a → T b → T c → refusal ((a, 1) ∷ (b, 2) ∷ (c, 3) ∷ []) ≡ none
@@ -95,7 +90,8 @@ rows-in : (h : Header) → T (countsOk h) → h .rows ≤ h .limits .«tier_rows
 unfolding countsOk
 rows-in h t =
     leb→le (h .rows) (h .limits .«tier_rows»)
-    (and-left (leb (h .rows) (h .limits .«tier_rows»)) (ltb (h .epoch) (h .limits .«tier_rows») && leb (h .attempts) (h .limits .«founded_attempts»)) t)
+    (and-left (leb (h .rows) (h .limits .«tier_rows»))
+    (ltb (h .epoch) (h .limits .«tier_rows») && leb (h .attempts) (h .limits .«founded_attempts»)) t)
 
 pub encoded-accepted : EncodedAccepted
 unfolding accepts lengthsOk contentsOk wordsOk lentOf ledgerIn withRows rowsOf
@@ -109,22 +105,29 @@ encoded-accepted l a c e =
     let ws : List ℕ = slotsOf tier es in
     let ps : List ℕ = filed tier (l .header .stale) (map (λ e. e .row) es) in
     let long : T (eqb (length ws) (slotWords * tier) && eqb (length ps) (postingWords * tier))
-    = both (eqb (length ws) (slotWords * tier)) (eqb (length ps) (postingWords * tier)) (eq-eqb _ _ (slots-length tier es v few)) (eq-eqb _ _ (filed-length tier (l .header .stale) es v few)) in
+    = both (eqb (length ws) (slotWords * tier)) (eqb (length ps) (postingWords * tier)) (eq-eqb _ _ (slots-length tier es v few))
+    (eq-eqb _ _ (filed-length tier (l .header .stale) es v few)) in
     let words : T (same ws ws && same ps ps) = both (same ws ws) (same ps ps) (same-refl ws) (same-refl ps) in
-    let fit : T (all (entryOk h) es && (same ws ws && same ps ps)) = both (all (entryOk h) es) (same ws ws && same ps ps) (T-true (all (entryOk h) es) e) (T-true (same ws ws && same ps ps) words) in
+    let fit : T (all (entryOk h) es && (same ws ws && same ps ps)) =
+    both (all (entryOk h) es) (same ws ws && same ps ps) (T-true (all (entryOk h) es) e) (T-true (same ws ws && same ps ps) words) in
     all-pass _ _ _ a
-    (both (eqb (length ws) (slotWords * tier) && eqb (length ps) (postingWords * tier)) true (T-true (eqb (length ws) (slotWords * tier) && eqb (length ps) (postingWords * tier)) long) refl)
+    (both (eqb (length ws) (slotWords * tier) && eqb (length ps) (postingWords * tier)) true
+    (T-true (eqb (length ws) (slotWords * tier) && eqb (length ps) (postingWords * tier)) long) refl)
     (subst
-    (λ (xs : List Entry). T (countsOk h && (all (entryOk h) xs && (same ws (slotsOf tier xs) && same ps (filed tier (l .header .stale) (map (λ e. e .row) xs))))))
+    (λ (xs : List Entry). T
+    (countsOk h && (all (entryOk h) xs && (same ws (slotsOf tier xs) && same ps (filed tier (l .header .stale) (map (λ e. e .row) xs))))))
     (sym back)
-    (both (countsOk h) (all (entryOk h) es && (same ws ws && same ps ps)) (T-true (countsOk h) c) (T-true (all (entryOk h) es && (same ws ws && same ps ps)) fit)))
+    (both (countsOk h) (all (entryOk h) es && (same ws ws && same ps ps)) (T-true (countsOk h) c)
+    (T-true (all (entryOk h) es && (same ws ws && same ps ps)) fit)))
 
 -- ---- accepted words
 words-are : (s : Lent) → Accepted s → (s .slots ≡ lentOf (ledgerIn s) .slots) × (s .postings ≡ lentOf (ledgerIn s) .postings)
 unfolding contentsOk wordsOk
 words-are s a =
-    let w = and-right (all (entryOk (s .header)) (ledgerIn s .entries)) _ (and-right (countsOk (s .header)) _ (a .contents)) in
-    (same-true _ _ (T-true _ (and-left (same (s .slots) (lentOf (ledgerIn s) .slots)) _ w)), same-true _ _ (T-true _ (and-right (same (s .slots) (lentOf (ledgerIn s) .slots)) _ w)))
+    let w = and-right (all (entryOk (s .header)) (ledgerIn s .entries)) _ (and-right (countsOk (s .header)) _ (a .contents)) in (
+      same-true _ _ (T-true _ (and-left (same (s .slots) (lentOf (ledgerIn s) .slots)) _ w)),
+      same-true _ _ (T-true _ (and-right (same (s .slots) (lentOf (ledgerIn s) .slots)) _ w)),
+    )
 
 pub entries-are-all : EntriesAreAll
 unfolding ledgerIn

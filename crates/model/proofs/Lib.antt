@@ -3,5 +3,9 @@ pub mod Cards
 pub mod Instances
 pub mod Packing
 pub mod Slots
+pub mod Rows
+pub mod Union
+pub mod Entries
 pub mod Priority
 pub mod Accepting
+pub mod Headers

@@ -1,4 +1,5 @@
--- What a lent ledger may hold, 01's refusals 1 to 3, both ways: what is laid out is accepted, and nothing else lies in accepted words. Assumes nothing.
+-- What a lent ledger may hold, 01's refusals 1 to 3, both ways: what is laid out is accepted, and nothing else lies in accepted words.
+-- Assumes nothing.
 use mathlib.Core.Path.{_≡_}
 use mathlib.Core.Bool.{Bool, true}
 use mathlib.Core.List.{List, []}

@@ -4,26 +4,26 @@ use mathlib.Core.Bool.{Bool, true, false, _&&_}
 use mathlib.Core.List.{List, []}
 use Prim.Native.Nat.{ℕ, suc, _+_, _≤_, _<_}
 use native.Mathlib.Nat.{le-trans}
-use native.Mathlib.Numerals.{add-one}
 use lib.Dec.{leb, ltb}
 use lib.ListN.{length}
 use borrow.Author.Tests.{leb-true, le-leb, ltb-true}
-use Rattle.lists.proofs.Tests.{and-both, and-yes}
+use Rattle.lists.proofs.Bools.{T-true, and-both, and-yes}
 use Rattle.words.specs.Region.{atomsOk}
 use Rattle.model.specs.declared.LearningLimits.{LearningLimits}
 use Rattle.model.specs.declared.Header.{Header}
-use Rattle.model.specs.Records.{Row, header, attempted, isRow, isRowOver, within, limitsOk, maxRows, maxConditions, maxOutputs}
+use Rattle.model.specs.Records.{Row, isRow, isRowOver, within, limitsOk, maxRows, maxConditions, maxOutputs}
 use Rattle.model.specs.Slots.{rowIn}
 use Rattle.model.specs.Refusals.{Lent, refusal, accepts, entryOk}
+use Rattle.model.proofs.Headers.{setAttempts}
 use Rattle.model.proofs.Priority.Steps.{accepted}
-use Rattle.words.proofs.Bools.{T-true}
 use mathlib.Core.Option.{none}
 use Rattle.model.specs.Operations.{fitsOffer}
 use Rattle.contents.specs.Accepted.{Accepted}
 use Rattle.slots.specs.Layout.{proposal}
 use Rattle.slots.proofs.Storing.{row-proposal}
-use Rattle.proposals.specs.Proposed.{Proposed}
-use Rattle.proposals.proofs.Proposing.{proposed-row}
+use Rattle.contents.proofs.Limits.{limits-atoms}
+use Rattle.row_propose.specs.Proposed.{Proposed}
+use Rattle.row_propose.proofs.Proposing.{proposed-over}
 use Rattle.offer.specs.Ends.{mayCapture}
 
 module _ (l : LearningLimits) (ok : limitsOk l ≡ true) where
@@ -34,10 +34,14 @@ module _ (l : LearningLimits) (ok : limitsOk l ≡ true) where
       (and-both (atomsOk (l .atoms)) _ ok .1) .1
 
   most-conditions : l .«founded_conditions» ≤ maxConditions
-  most-conditions = leb-true (l .«founded_conditions») maxConditions (and-both (leb (l .«founded_conditions») maxConditions) (leb (l .«founded_outputs») maxOutputs) sizes .0)
+  most-conditions =
+      leb-true (l .«founded_conditions») maxConditions
+      (and-both (leb (l .«founded_conditions») maxConditions) (leb (l .«founded_outputs») maxOutputs) sizes .0)
 
   pub most-outputs : l .«founded_outputs» ≤ maxOutputs
-  most-outputs = leb-true (l .«founded_outputs») maxOutputs (and-both (leb (l .«founded_conditions») maxConditions) (leb (l .«founded_outputs») maxOutputs) sizes .1)
+  most-outputs =
+      leb-true (l .«founded_outputs») maxOutputs
+      (and-both (leb (l .«founded_conditions») maxConditions) (leb (l .«founded_outputs») maxOutputs) sizes .1)
 
   module _ (t : Row) (fit : fitsOffer l t ≡ true) where
     parts : (within (l .«founded_conditions») (l .«founded_outputs») t ≡ true) × (isRowOver (l .atoms) t ≡ true)
@@ -46,7 +50,8 @@ module _ (l : LearningLimits) (ok : limitsOk l ≡ true) where
 
     lengths : (leb (length (t .conditions)) (l .«founded_conditions») ≡ true) × (leb (length (t .outputs)) (l .«founded_outputs») ≡ true)
     unfolding within
-    lengths = and-both (leb (length (t .conditions)) (l .«founded_conditions»)) (leb (length (t .outputs)) (l .«founded_outputs»)) (parts .0)
+    lengths =
+        and-both (leb (length (t .conditions)) (l .«founded_conditions»)) (leb (length (t .outputs)) (l .«founded_outputs»)) (parts .0)
 
     pub fit-conditions : length (t .conditions) ≤ maxConditions
     fit-conditions = le-trans (leb-true (length (t .conditions)) (l .«founded_conditions») (lengths .0)) most-conditions
@@ -58,42 +63,38 @@ module _ (l : LearningLimits) (ok : limitsOk l ≡ true) where
     unfolding isRow within
     fit-row =
         and-yes (leb (length (t .conditions)) maxConditions && leb (length (t .outputs)) maxOutputs) (isRowOver (l .atoms) t)
-        (and-yes (leb (length (t .conditions)) maxConditions) (leb (length (t .outputs)) maxOutputs) (le-leb (length (t .conditions)) maxConditions fit-conditions) (le-leb (length (t .outputs)) maxOutputs fit-outputs)) (parts .1)
+        (and-yes (leb (length (t .conditions)) maxConditions) (leb (length (t .outputs)) maxOutputs)
+        (le-leb (length (t .conditions)) maxConditions fit-conditions) (le-leb (length (t .outputs)) maxOutputs fit-outputs)) (parts .1)
 
     pub fit-proposed : (p : List ℕ) → p ≡ proposal t → Proposed p
-    fit-proposed p e = subst Proposed (sym e) (proposed-row t fit-conditions fit-outputs)
+    fit-proposed p e = subst Proposed (sym e) (proposed-over (l .atoms) t (limits-atoms l ok) fit-row)
 
     pub fit-proposal : (p : List ℕ) → p ≡ proposal t → isRow (l .atoms) (rowIn p) ≡ true
     fit-proposal p e = subst (λ (x : Row). isRow (l .atoms) x ≡ true) (sym (ap rowIn e ∙ row-proposal t)) fit-row
 
 -- ---- one attempt more
-abbrev pub tried : Header → ℕ → Header
-tried h n =
-    header (h .limits) (h .number) (h .rows) (h .born) (h .epoch) n (h .remaining) (h .sharing) (h .evicted) (h .deliveries) (h .seeded) (h .stale) (h .full) (h .mark)
-
-pub tried-is : (h : Header) → tried h (h .attempts + 1) ≡ attempted h
-unfolding attempted
-tried-is h = ap (tried h) (add-one (h .attempts))
-
-pub tried-accepted : (h : Header) (n : ℕ) (slots postings : List ℕ) → Accepted h slots postings → Accepted (tried h n) slots postings
+pub tried-accepted : (h : Header) (n : ℕ) (slots postings : List ℕ) → Accepted h slots postings → Accepted (setAttempts h n) slots postings
 unfolding entryOk
 tried-accepted h n slots postings a = record {
+  stands = record {
+    atoms = a .stands .atoms;
+    few = a .stands .few;
+    most = a .stands .most;
+    long = a .stands .long;
+    stored = a .stands .stored;
+    filing = a .stands .filing;
+  };
   one = a .one;
-  atoms = a .atoms;
   some = a .some;
-  most = a .most;
-  few = a .few;
-  long = a .long;
   wide = a .wide;
   entries = a .entries;
-  stored = a .stored;
   laying = a .laying;
-  filing = a .filing;
 }
 
 pub may-attempts : (h : Header) → mayCapture h ≡ true → h .attempts < h .limits .«founded_attempts»
 unfolding mayCapture
-may-attempts h e = ltb-true (h .attempts) (h .limits .«founded_attempts») (and-both (ltb (h .attempts) (h .limits .«founded_attempts»)) _ e .0)
+may-attempts h e =
+    ltb-true (h .attempts) (h .limits .«founded_attempts») (and-both (ltb (h .attempts) (h .limits .«founded_attempts»)) _ e .0)
 
 pub limits-passed : (s : Lent) (o : Bool) → refusal (accepts s o []) ≡ none → limitsOk (s .header .limits) ≡ true
 limits-passed s o e = T-true (limitsOk (s .header .limits)) (accepted s o [] e .0 .limits)

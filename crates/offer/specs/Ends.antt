@@ -1,5 +1,5 @@
--- 01, Offer: its end, from what the code gives back and leaves in the lent slices. What was taken and whether it evicted is the definition's
--- to say: the code has no field for it. Assumes nothing.
+-- 01, Offer: its end, from what the code gives back and leaves in the lent slices.
+-- What was taken and whether it evicted is the definition's to say: the code has no field for it. Assumes nothing.
 use mathlib.Core.Bool.{Bool, _&&_, _||_}
 use mathlib.Core.List.{List}
 use Prim.Native.Nat.{ℕ}
@@ -13,9 +13,9 @@ use Rattle.model.specs.declared.OfferResult.{OfferResult}
 use Rattle.model.specs.Records.{withAccount}
 use Rattle.model.specs.Operations.{OfferEnd}
 use Rattle.contents.specs.Lent.{lent}
-use Rattle.retention.specs.declared.Retention.{Retention}
-use Rattle.retention.specs.declared.Retention.the-variants.{Stopped, Declined, Subsumed, Added}
-use Rattle.retention.specs.declared.Retained.{Retained}
+use Rattle.retain.specs.declared.Retained.{Retained}
+use Rattle.retain.specs.declared.Retained.the-variants.{Stopped, Declined, Subsumed, Added}
+use Rattle.retain.specs.declared.Retention.{Retention}
 
 abbrev pub offerEnd : OfferResult → List ℕ → List ℕ → OfferEnd → OfferEnd
 offerEnd r slots postings e = record
@@ -31,12 +31,12 @@ mayCapture h =
     && (ltb 0 (h .remaining .0)
     && (ltb (h .rows) (h .limits .«tier_rows») || ltb (h .limits .«founded_floor») (h .rows)))
 
-abbrev pub answerOf : Retention → OfferAnswer
+abbrev pub answerOf : Retained → OfferAnswer
 answerOf Stopped = offer-answer.Stopped
 answerOf Declined = offer-answer.Declined
 answerOf (Subsumed p) = offer-answer.Subsumed p
 answerOf (Added p) = offer-answer.Added p
 
-abbrev pub capturedBy : Retained → Meter → OfferResult
+abbrev pub capturedBy : Retention → Meter → OfferResult
 capturedBy k m = record
     { answer = answerOf (k .answer); header = withAccount (k .header) (k .account); meter = k .meter; ticks = made m (k .meter) }

@@ -4,26 +4,26 @@ ghost use mathlib.Core.Bool.{true};
 ghost use Prim.Native.Nat.{_<_, _≤_};
 ghost use Rattle.model.specs.Records.{maxOutputs, isRow, limitsOk};
 ghost use Rattle.model.specs.Slots.{rowIn};
-ghost use Rattle.proposals.specs.Proposed.{Proposed};
+ghost use Rattle.row_propose.specs.Proposed.{Proposed};
 ghost use Rattle.model.specs.Operations.{offer, capture, fitsOffer};
 ghost use Rattle.model.specs.Refusals.{ledgerIn};
 ghost use Rattle.contents.specs.Lent.{lent};
 ghost use Rattle.contents.specs.Accepted.{Accepted};
-ghost use Rattle.proposals.specs.Offered.{rowOf};
+ghost use Rattle.row_propose.specs.Offered.{rowOf};
 ghost use Rattle.offer.specs.Ends.{offerEnd, unofferedBy, answerOf, capturedBy, mayCapture};
 use contents::accept;
-use keeping::put_account;
 use meter::Account;
 use meter::Meter;
 use model::Header;
 use model::OfferAnswer;
 use model::OfferResult;
 use model::SLOT_WORDS;
-use proposals::is_row;
-use proposals::propose;
-use retention::Retained;
-use retention::Retention;
-use retention::retain;
+use retain::Retained;
+use retain::Retention;
+use retain::retain;
+use retain_keep::put_account;
+use row_propose::is_row;
+use row_propose::propose;
 
 // The result of an offer that changes nothing and costs nothing.
 fn unoffered(answer: OfferAnswer, header: Header, work: Meter) -> OfferResult
@@ -55,19 +55,19 @@ fn can_capture(header: Header) -> bool
 }
 
 // The answer of an offer whose retention is over.
-fn answer_of(kept: Retention) -> OfferAnswer
+fn answer_of(kept: Retained) -> OfferAnswer
     ensures { λ r. ⌜ r ≡ answerOf kept ⌝ }
 {
     match kept {
-        Retention::Stopped => OfferAnswer::Stopped,
-        Retention::Declined => OfferAnswer::Declined,
-        Retention::Subsumed(p) => OfferAnswer::Subsumed(p),
-        Retention::Added(p) => OfferAnswer::Added(p),
+        Retained::Stopped => OfferAnswer::Stopped,
+        Retained::Declined => OfferAnswer::Declined,
+        Retained::Subsumed(p) => OfferAnswer::Subsumed(p),
+        Retained::Added(p) => OfferAnswer::Added(p),
     }
 }
 
 // The result of an offer whose retention is over: the account goes back to its place.
-fn captured(kept: Retained, work: Meter) -> OfferResult
+fn captured(kept: Retention, work: Meter) -> OfferResult
     ensures { λ r. ⌜ r ≡ capturedBy kept work ⌝ }
 {
     let answer = kept.answer;
@@ -94,7 +94,8 @@ fn capture_row(
     p: &mut [u64],
     work: Meter,
 ) -> OfferResult
-    requires { ⌜ Accepted header (now slots) (now postings) ⌝ ∗ ⌜ Proposed (now p) ⌝ ∗ ⌜ isRow (header .limits .atoms) (rowIn (now p)) ≡ true ⌝
+    requires { ⌜ Accepted header (now slots) (now postings) ⌝ ∗ ⌜ Proposed (now p) ⌝
+        ∗ ⌜ isRow (header .limits .atoms) (rowIn (now p)) ≡ true ⌝
         ∗ ⌜ header .attempts < header .limits .«founded_attempts» ⌝ ∗ ⌜ header .limits .«founded_outputs» ≤ maxOutputs ⌝ }
     ensures { λ r. ⌜ offerEnd r (now (slots .exit)) (now (postings .exit))
         (capture (ledgerIn (lent header (now (slots .entry)) (now (postings .entry)))) (rowIn (now (p .entry))) work)
@@ -132,8 +133,10 @@ fn capture(
     requires { ⌜ Accepted header (now slots) (now postings) ⌝ ∗ ⌜ header .attempts < header .limits .«founded_attempts» ⌝
         ∗ ⌜ limitsOk (header .limits) ≡ true ⌝ ∗ ⌜ fitsOffer (header .limits) (rowOf (now conditions) (now outputs)) ≡ true ⌝ }
     ensures { λ r. ⌜ offerEnd r (now (slots .exit)) (now (postings .exit))
-        (capture (ledgerIn (lent header (now (slots .entry)) (now (postings .entry)))) (rowOf (now (conditions .entry)) (now (outputs .entry))) work)
-        ≡ capture (ledgerIn (lent header (now (slots .entry)) (now (postings .entry)))) (rowOf (now (conditions .entry)) (now (outputs .entry))) work ⌝ }
+        (capture (ledgerIn (lent header (now (slots .entry)) (now (postings .entry))))
+        (rowOf (now (conditions .entry)) (now (outputs .entry))) work)
+        ≡ capture (ledgerIn (lent header (now (slots .entry)) (now (postings .entry))))
+        (rowOf (now (conditions .entry)) (now (outputs .entry))) work ⌝ }
 {
     let mut p = [0u64; SLOT_WORDS];
     propose(conditions, outputs, &mut p);

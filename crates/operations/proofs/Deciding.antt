@@ -5,33 +5,34 @@ use mathlib.Core.List.{List}
 use mathlib.Core.Option.{Option, none, some}
 use Prim.Native.Nat.{ℕ}
 use Rattle.words.specs.Literal.{code}
-use Rattle.words.specs.Region.{Region, isRegion, Decision, decision, answered, decisionOn}
+use Rattle.words.specs.Region.{Region, isRegion, Decision, decision, decisionWith, decisionOn, region}
 use Rattle.words.specs.Region as words
 use Rattle.model.specs.declared.DecideAnswer.the-variants.{Refused, Decided}
 use Rattle.model.specs.Refusals.{refusal}
-use Rattle.model.specs.Operations.{DecideEnd, decide, region}
+use Rattle.model.specs.Operations.{DecideEnd, decide}
 use Rattle.operations.specs.Ends.{decideEnd}
 
 module _ (n : ℕ) (held cut : List ℕ) (a : ℕ) (value : Bool) where
-  pub decide-refused : isRegion n (words.region held cut) ≡ false →
+  pub decide-refused : isRegion n (region held cut) ≡ false →
       decideEnd (record { answer = Refused 6; ticks = 0 }) held cut ≡ decide n held cut a value
-  unfolding decide refusal region
-  decide-refused e = rw (e, decide, refusal, region)
+  unfolding decide refusal
+  decide-refused e = rw (e, decide, refusal)
 
   ended : Decision → DecideEnd
   ended d = record { answer = Decided (d .answer); region = d .after; ticks = 0 }
 
   by-decision : (x : Option Region) →
-      ended (decision (words.region held cut) x)
+      ended (decision (region held cut) x)
       ≡ (elim x as (λ k. DecideEnd) [
-        | none ↦ record { answer = Decided false; region = words.region held cut; ticks = 0 }
+        | none ↦ record { answer = Decided false; region = region held cut; ticks = 0 }
         | some r ↦ record { answer = Decided true; region = r; ticks = 0 }
       ])
   unfolding ended
   by-decision none = refl
   by-decision (some r) = refl
 
-  pub decide-done : (b : Bool) (held′ cut′ : List ℕ) → isRegion n (words.region held cut) ≡ true →
-      answered b held′ cut′ ≡ decisionOn n held cut (code a value) → decideEnd (record { answer = Decided b; ticks = 0 }) held′ cut′ ≡ decide n held cut a value
-  unfolding decide refusal region ended
-  decide-done b held′ cut′ e d = rw (e, decide, refusal, region) (ap ended d ∙ by-decision (words.decide n (words.region held cut) (code a value)))
+  pub decide-done : (b : Bool) (held′ cut′ : List ℕ) → isRegion n (region held cut) ≡ true →
+      decisionWith b held′ cut′ ≡ decisionOn n held cut (code a value)
+      → decideEnd (record { answer = Decided b; ticks = 0 }) held′ cut′ ≡ decide n held cut a value
+  unfolding decide refusal ended
+  decide-done b held′ cut′ e d = rw (e, decide, refusal) (ap ended d ∙ by-decision (words.decide n (region held cut) (code a value)))

@@ -7,8 +7,7 @@ use Prim.Native.Nat.{ℕ, _+_, _-_, _*_, _≤_, _<_}
 use native.Mathlib.Omega.{arith}
 use lib.Dec.{T}
 use lib.ListN.{length, take, drop}
-use Rattle.words.specs.Region.{isRegion}
-use Rattle.words.specs.Region as words
+use Rattle.words.specs.Region.{isRegion, region}
 use Rattle.meter.specs.declared.Meter.{Meter}
 use Rattle.meter.specs.declared.Tick.{Tick}
 use Rattle.meter.specs.declared.Tick.the-variants.{Ticked, Stopped}
@@ -22,16 +21,15 @@ use Rattle.model.specs.Records.{Row, rowsOf, rowAt, slotWords, maxRows}
 use Rattle.model.specs.Slots.{rowIn}
 use Rattle.model.specs.Deduction.{deduction, deductionTicks, nextOutput as publishNext}
 use Rattle.model.specs.Refusals.{Lent, refusal, accepts, ledgerIn}
-use Rattle.model.specs.Operations.{DeduceEnd, deduce, nextOutput, positionOk, region, regionOk, cursorOk}
-use Rattle.slots.specs.Layout.{Stored, slotAt, rowsIn}
-use Rattle.matching.specs.Chunks.{Kept, Matched}
-use Rattle.matching.specs.Walks.{deduced}
-use Rattle.matching.specs.Publication.{Pointed, nextEnd}
-use Rattle.matching.proofs.Cursors.{pointed-ok}
+use Rattle.model.specs.Operations.{DeduceEnd, deduce, nextOutput, positionOk, regionOk, cursorOk}
+use Rattle.slots.specs.Layout.{Stored, slotAt, rowsIn, Holds}
+use Rattle.row_deduce.specs.Chunks.{Matched}
+use Rattle.row_deduce.specs.Walks.{deduced}
+use Rattle.row_deduce.specs.Publication.{Pointed, nextEnd}
+use Rattle.row_deduce.proofs.Cursors.{pointed-ok}
 use Rattle.contents.specs.Lent.{lent}
 use Rattle.contents.specs.Accepted.{Accepted}
-use Rattle.slots.proofs.Rows.{rows-at}
-use Rattle.contents.proofs.Walks.{slot-code}
+use Rattle.slots.proofs.Rows.{rows-at, slot-code}
 use Rattle.operations.specs.Ends.{deduceEnd, outputEnd}
 
 module _ (h : Header) (slots postings : List ℕ) (p : ℕ) where
@@ -45,22 +43,22 @@ module _ (h : Header) (slots postings : List ℕ) (p : ℕ) where
   -- the slot that the code lends
   module _ (a : Accepted h slots postings) (l : p < h .rows) where
     pub slot-fits : (p < maxRows) × (slotWords * p + slotWords ≤ length slots)
-    slot-fits = let f = a .few in let m = a .most in let n = a .long in (omega arith, omega arith)
+    slot-fits = let f = a .stands .few in let m = a .stands .most in let n = a .stands .long in (omega arith, omega arith)
 
     abbrev part : List ℕ
     part = take ((slotWords * p + slotWords) - slotWords * p) (drop (slotWords * p) slots)
 
     stored-part : Stored (h .limits .atoms) part
-    stored-part = subst (Stored (h .limits .atoms)) (sym (slot-code slots p)) (a .stored p l)
+    stored-part = subst (Stored (h .limits .atoms)) (sym (slot-code slots p)) (a .stands .stored p l)
 
-    pub kept : Kept part
-    kept = record { atoms = h .limits .atoms; row = stored-part }
+    pub holds : Holds part
+    holds = record { atoms = h .limits .atoms; stored = stored-part }
 
-    pub matched : (held cut : List ℕ) → isRegion (h .limits .atoms) (words.region held cut) ≡ true → Matched part held cut
-    matched held cut e = record { atoms = h .limits .atoms; row = stored-part; region = subst T (sym e) tt }
+    pub matched : (held cut : List ℕ) → isRegion (h .limits .atoms) (region held cut) ≡ true → Matched part held cut
+    matched held cut e = record { holds = record { atoms = h .limits .atoms; stored = stored-part }; region = subst T (sym e) tt }
 
     pub pointed : (k : OutputCursor) → cursorOk (rowIn part) k ≡ true → Pointed (rowIn part) k
-    pointed k e = pointed-ok (h .limits .atoms) (rowIn part) (stored-part .row) (a .atoms) k e
+    pointed k e = pointed-ok (h .limits .atoms) (rowIn part) (stored-part .row) (a .stands .atoms) k e
 
   module _ (held cut : List ℕ) (m : Meter) where
     -- ---- Deduce
@@ -82,23 +80,26 @@ module _ (h : Header) (slots postings : List ℕ) (p : ℕ) where
     by-tick d (Ticked k) = refl
 
     pub deduce-done : refusal (accepts s true two) ≡ none → p < h .rows → (t : Row) → t ≡ rowIn (slotAt slots p) →
-        deduceEnd (deduced (deduction (words.region held cut) t) m (ticks (deductionTicks (words.region held cut) t) m)) ≡ deduce s p held cut m
-    unfolding deduce region
+        deduceEnd (deduced (deduction (region held cut) t) m (ticks (deductionTicks (region held cut) t) m)) ≡ deduce s p held cut m
+    unfolding deduce
     deduce-done e l t q =
-        ap (λ (t : Row). deduceEnd (deduced (deduction (words.region held cut) t) m (ticks (deductionTicks (words.region held cut) t) m))) (q ∙ sym (row-is l))
-        ∙ by-tick (deduction (words.region held cut) (rowAt p (ledgerIn s))) (ticks (deductionTicks (words.region held cut) (rowAt p (ledgerIn s))) m)
-        ∙ sym (rw (e, deduce, region))
+        ap (λ (t : Row). deduceEnd (deduced (deduction (region held cut) t) m (ticks (deductionTicks (region held cut) t) m)))
+        (q ∙ sym (row-is l))
+        ∙ by-tick (deduction (region held cut) (rowAt p (ledgerIn s))) (ticks (deductionTicks (region held cut) (rowAt p (ledgerIn s))) m)
+        ∙ sym (rw (e, deduce))
 
     -- ---- Next output
     module _ (k : OutputCursor) where
       abbrev three : List (Bool × ℕ)
       three = (positionOk s p, 5) ∷ (regionOk s held cut, 6) ∷ (cursorOk (rowAt p (ledgerIn s)) k, 8) ∷ []
 
-      pub cursor-no : p < h .rows → (t : Row) → t ≡ rowIn (slotAt slots p) → cursorOk t k ≡ false → refusal ((cursorOk (rowAt p (ledgerIn s)) k, 8) ∷ []) ≡ some 8
+      pub cursor-no : p < h .rows → (t : Row) → t ≡ rowIn (slotAt slots p) → cursorOk t k ≡ false
+          → refusal ((cursorOk (rowAt p (ledgerIn s)) k, 8) ∷ []) ≡ some 8
       unfolding refusal
       cursor-no l t r e = let q : cursorOk (rowAt p (ledgerIn s)) k ≡ false = ap (λ (t : Row). cursorOk t k) (row-is l ∙ sym r) ∙ e in rw q
 
-      pub cursor-yes : p < h .rows → (t : Row) → t ≡ rowIn (slotAt slots p) → cursorOk t k ≡ true → refusal ((cursorOk (rowAt p (ledgerIn s)) k, 8) ∷ []) ≡ none
+      pub cursor-yes : p < h .rows → (t : Row) → t ≡ rowIn (slotAt slots p) → cursorOk t k ≡ true
+          → refusal ((cursorOk (rowAt p (ledgerIn s)) k, 8) ∷ []) ≡ none
       unfolding refusal
       cursor-yes l t r e = let q : cursorOk (rowAt p (ledgerIn s)) k ≡ true = ap (λ (t : Row). cursorOk t k) (row-is l ∙ sym r) ∙ e in rw q
 
@@ -108,7 +109,7 @@ module _ (h : Header) (slots postings : List ℕ) (p : ℕ) where
       next-refused n e = rw (e, nextOutput)
 
       pub next-done : refusal (accepts s true three) ≡ none → p < h .rows → (t : Row) → t ≡ rowIn (slotAt slots p) →
-          outputEnd (nextEnd m (publishNext (words.region held cut) t k m)) ≡ nextOutput s p k held cut m
-      unfolding nextOutput region
+          outputEnd (nextEnd m (publishNext (region held cut) t k m)) ≡ nextOutput s p k held cut m
+      unfolding nextOutput
       next-done e l t q =
-          ap (λ (t : Row). outputEnd (nextEnd m (publishNext (words.region held cut) t k m))) (q ∙ sym (row-is l)) ∙ sym (rw (e, nextOutput, region))
+          ap (λ (t : Row). outputEnd (nextEnd m (publishNext (region held cut) t k m))) (q ∙ sym (row-is l)) ∙ sym (rw (e, nextOutput))

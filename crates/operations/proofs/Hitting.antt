@@ -22,7 +22,7 @@ use Rattle.contents.proofs.Accepting.{accepted}
 use Rattle.tier.specs.Tier.{hitWords}
 use Rattle.tier.proofs.Buffer.{hit-held}
 use Rattle.operations.specs.Ends.{hitEnd}
-use Rattle.keeping.proofs.Holding.{tier-is, held, lent-entries}
+use Rattle.retain_keep.proofs.Holding.{tier-is, held, lent-entries}
 
 module _ (h : Header) (slots postings : List ℕ) (p : ℕ) where
   pub hit-refused : (n : ℕ) → refusal (accepts (lent h slots postings) true ((positionOk (lent h slots postings) p, 5) ∷ [])) ≡ some n →
@@ -31,13 +31,15 @@ module _ (h : Header) (slots postings : List ℕ) (p : ℕ) where
   hit-refused n e = rw (e, hit)
 
   -- a hit changes two words of one slot, and no row
-  hit-lent : Accepted h slots postings → p < h .rows → lent h (hitWords p slots) postings ≡ lentOf (hitAt p (ledgerIn (lent h slots postings)))
+  hit-lent : Accepted h slots postings → p < h .rows
+      → lent h (hitWords p slots) postings ≡ lentOf (hitAt p (ledgerIn (lent h slots postings)))
   unfolding hitAt ledgerIn rowsIn hitEntry
   hit-lent a l =
       let es = entriesIn (h .rows) slots in
       ap₂ (λ (x y : List ℕ). lent h x y)
-      (hit-held (h .rows) p slots (held h slots postings a) l ∙ ap (λ (t : ℕ). slotsOf t (adjust hitEntry p es)) (tier-is h slots postings a))
-      (a .filing ∙ ap (filed (h .limits .«tier_rows») (h .stale)) (sym (map-adjust hitEntry (λ e. e .row) p es (λ e. refl))))
+      (hit-held (h .rows) p slots (held h slots postings a) l
+      ∙ ap (λ (t : ℕ). slotsOf t (adjust hitEntry p es)) (tier-is h slots postings a))
+      (a .stands .filing ∙ ap (filed (h .limits .«tier_rows») (h .stale)) (sym (map-adjust hitEntry (λ e. e .row) p es (λ e. refl))))
       ∙ lent-entries h (adjust hitEntry p es) (length-adjust hitEntry p es ∙ entries-length (h .rows) slots)
 
   pub hit-done : refusal (accepts (lent h slots postings) true ((positionOk (lent h slots postings) p, 5) ∷ [])) ≡ none → p < h .rows →

@@ -23,12 +23,27 @@ module _ (l : LearningLimits) (number : ℕ) (slots postings : List ℕ) where
   unfolding make refusal
   make-slots e f = rw (e, ne-eqb (length slots) (slotWords * l .«tier_rows») f, make, refusal)
 
-  pub make-postings : limitsOk l ≡ true → length slots ≡ slotWords * l .«tier_rows» → (length postings ≡ postingWords * l .«tier_rows» → ⊥) →
+  pub make-postings : limitsOk l ≡ true → length slots ≡ slotWords * l .«tier_rows» → (length postings ≡ postingWords * l .«tier_rows» → ⊥)
+      →
       makeEnd (record { answer = Refused 2; ticks = 0 }) slots postings ≡ make l number slots postings
   unfolding make refusal
-  make-postings e s f = rw (e, eq-eqb (length slots) (slotWords * l .«tier_rows») s, ne-eqb (length postings) (postingWords * l .«tier_rows») f, make, refusal)
+  make-postings e s f =
+      rw (
+        e,
+        eq-eqb (length slots) (slotWords * l .«tier_rows») s,
+        ne-eqb (length postings) (postingWords * l .«tier_rows») f,
+        make,
+        refusal,
+      )
 
   pub make-made : limitsOk l ≡ true → length slots ≡ slotWords * l .«tier_rows» → length postings ≡ postingWords * l .«tier_rows» →
       makeEnd (record { answer = Made (fresh l number); ticks = 0 }) (zeroed slots) (zeroed postings) ≡ make l number slots postings
   unfolding make refusal
-  make-made e s p = rw (e, eq-eqb (length slots) (slotWords * l .«tier_rows») s, eq-eqb (length postings) (postingWords * l .«tier_rows») p, make, refusal)
+  make-made e s p =
+      rw (
+        e,
+        eq-eqb (length slots) (slotWords * l .«tier_rows») s,
+        eq-eqb (length postings) (postingWords * l .«tier_rows») p,
+        make,
+        refusal,
+      )

@@ -17,7 +17,7 @@ use Rattle.contents.specs.Lent.{lent}
 use Rattle.contents.specs.Accepted.{Accepted}
 use Rattle.model.proofs.Slots.{entries-length}
 use Rattle.contents.proofs.Accepting.{accepted}
-use Rattle.keeping.proofs.Holding.{lent-entries}
+use Rattle.retain_keep.proofs.Holding.{lent-entries}
 use Rattle.operations.specs.Ends.{beginEnd}
 
 module _ (h : Header) (slots postings : List ℕ) where
@@ -25,7 +25,7 @@ module _ (h : Header) (slots postings : List ℕ) where
       lent (withFull h true) slots postings ≡ lentOf (record { header = withFull h true; entries = entriesIn (h .rows) slots })
   unfolding withFull rowsIn
   full-lent a =
-      ap₂ (λ (x y : List ℕ). lent (withFull h true) x y) (a .laying) (a .filing)
+      ap₂ (λ (x y : List ℕ). lent (withFull h true) x y) (a .laying) (a .stands .filing)
       ∙ lent-entries (withFull h true) (entriesIn (h .rows) slots) (entries-length (h .rows) slots)
 
   pub begin-refused : (n : ℕ) → refusal (accepts (lent h slots postings) true []) ≡ some n →

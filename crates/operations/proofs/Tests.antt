@@ -5,11 +5,10 @@ use mathlib.Core.List.{List, [], _∷_}
 use mathlib.Core.Option.{none, some}
 use Prim.Native.Nat.{ℕ, _≤_, _<_}
 use borrow.Author.Tests.{lt-ltb, le-ltb}
-use Rattle.words.specs.Region.{isRegion}
-use Rattle.words.specs.Region as words
+use Rattle.words.specs.Region.{isRegion, region}
 use Rattle.model.specs.declared.Header.{Header}
 use Rattle.model.specs.Refusals.{Lent, refusal}
-use Rattle.model.specs.Operations.{positionOk, region, regionOk}
+use Rattle.model.specs.Operations.{positionOk, regionOk}
 use Rattle.contents.specs.Lent.{lent}
 
 -- no test left
@@ -31,10 +30,12 @@ module _ (h : Header) (slots postings : List ℕ) where
     position-yes ts l = rw (lt-ltb p (h .rows) l)
 
   module _ (held cut : List ℕ) where
-    pub region-no : (ts : List (Bool × ℕ)) → isRegion (h .limits .atoms) (words.region held cut) ≡ false → refusal ((regionOk s held cut, 6) ∷ ts) ≡ some 6
-    unfolding refusal regionOk region
+    pub region-no : (ts : List (Bool × ℕ)) → isRegion (h .limits .atoms) (region held cut) ≡ false
+        → refusal ((regionOk s held cut, 6) ∷ ts) ≡ some 6
+    unfolding refusal regionOk
     region-no ts e = rw e
 
-    pub region-yes : (ts : List (Bool × ℕ)) → isRegion (h .limits .atoms) (words.region held cut) ≡ true → refusal ((regionOk s held cut, 6) ∷ ts) ≡ refusal ts
-    unfolding refusal regionOk region
+    pub region-yes : (ts : List (Bool × ℕ)) → isRegion (h .limits .atoms) (region held cut) ≡ true
+        → refusal ((regionOk s held cut, 6) ∷ ts) ≡ refusal ts
+    unfolding refusal regionOk
     region-yes ts e = rw e

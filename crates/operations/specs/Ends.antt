@@ -1,13 +1,15 @@
--- 01, Refusal numbers by operation: the end of each operation, from what the code gives back and leaves in the lent slices. Assumes nothing.
+-- 01, Refusal numbers by operation: the end of each operation, from what the code gives back and leaves in the lent slices.
+-- Assumes nothing.
 use mathlib.Core.List.{List}
 use Prim.Native.Nat.{ℕ}
+use Rattle.words.specs.Region.{region}
 use Rattle.model.specs.declared.MakeResult.{MakeResult}
 use Rattle.model.specs.declared.HitResult.{HitResult}
 use Rattle.model.specs.declared.DeduceResult.{DeduceResult}
 use Rattle.model.specs.declared.NextResult.{NextResult}
 use Rattle.model.specs.declared.BeginResult.{BeginResult}
 use Rattle.model.specs.declared.DecideResult.{DecideResult}
-use Rattle.model.specs.Operations.{MakeEnd, HitEnd, DeduceEnd, NextEnd, BeginEnd, DecideEnd, region}
+use Rattle.model.specs.Operations.{MakeEnd, HitEnd, DeduceEnd, NextEnd, BeginEnd, DecideEnd}
 use Rattle.contents.specs.Lent.{lent}
 
 abbrev pub makeEnd : MakeResult → List ℕ → List ℕ → MakeEnd

@@ -7,9 +7,6 @@ ghost use Rattle.operations.specs.Ends.{makeEnd, hitEnd, deduceEnd, outp
 use contents::accept;
 use contents::limits_ok;
 use lists::fill_zero;
-use matching::cursor_ok;
-use matching::deduction;
-use matching::next_publication_output;
 use meter::Capture;
 use meter::Meter;
 use meter::Sharing;
@@ -31,6 +28,9 @@ use model::NextResult;
 use model::OutputCursor;
 use model::POSTING_WORDS;
 use model::SLOT_WORDS;
+use row_deduce::cursor_ok;
+use row_deduce::deduction;
+use row_deduce::next_publication_output;
 use words::is_region;
 
 // The header of a ledger with no rows.
@@ -62,7 +62,8 @@ pub fn make(
     slots: &mut [u64],
     postings: &mut [u64],
 ) -> MakeResult
-    ensures { λ r. ⌜ makeEnd r (now (slots .exit)) (now (postings .exit)) ≡ make limits number (now (slots .entry)) (now (postings .entry)) ⌝ }
+    ensures { λ r. ⌜ makeEnd r (now (slots .exit)) (now (postings .exit))
+        ≡ make limits number (now (slots .entry)) (now (postings .entry)) ⌝ }
 {
     if !limits_ok(limits) {
         return MakeResult {
@@ -93,7 +94,8 @@ pub fn make(
 
 // Begins a search over all rows: refused by 1, 2 or 3, or the header with full true.
 pub fn begin(header: Header, slots: &[u64], postings: &[u64]) -> BeginResult
-    ensures { λ r. ⌜ beginEnd r (now (slots .entry)) (now (postings .entry)) ≡ begin (lent header (now (slots .entry)) (now (postings .entry))) ⌝ }
+    ensures { λ r. ⌜ beginEnd r (now (slots .entry)) (now (postings .entry))
+        ≡ begin (lent header (now (slots .entry)) (now (postings .entry))) ⌝ }
 {
     let n = accept(header, slots, postings, true);
     if n != 0 {
@@ -115,7 +117,8 @@ pub fn begin(header: Header, slots: &[u64], postings: &[u64]) -> BeginResult
 
 // Counts one hit, not shared yet, for the row at a position: refused by 1, 2, 3, or by 5 if there is no such row.
 pub fn hit(header: Header, slots: &mut [u64], postings: &[u64], position: u64) -> HitResult
-    ensures { λ r. ⌜ hitEnd r (now (slots .exit)) (now (postings .entry)) ≡ hit (lent header (now (slots .entry)) (now (postings .entry))) position ⌝ }
+    ensures { λ r. ⌜ hitEnd r (now (slots .exit)) (now (postings .entry))
+        ≡ hit (lent header (now (slots .entry)) (now (postings .entry))) position ⌝ }
 {
     let n = accept(header, slots, postings, true);
     if n != 0 {
@@ -194,7 +197,8 @@ pub fn next_output(
     work: Meter,
 ) -> NextResult
     ensures { λ r. ⌜ outputEnd r
-        ≡ nextOutput (lent header (now (slots .entry)) (now (postings .entry))) position cursor (now (held .entry)) (now (cut .entry)) work ⌝ }
+        ≡ nextOutput (lent header (now (slots .entry)) (now (postings .entry))) position cursor (now (held .entry)) (now (cut .entry))
+        work ⌝ }
 {
     let n = accept(header, slots, postings, true);
     if n != 0 {

@@ -47,7 +47,8 @@ module _ (h : Header) (ps atoms b : List ℕ) (work : Meter) (ms : List ℕ) whe
 
   -- nothing stopped it
   pub search-whole : (m : Meter) → Searchable (length b) ps → walked (Ticked m) ms ≡ walk look (looksAll ps atoms) (zeroed b) work →
-      _≡_ {A = SearchEnd} (record { answer = answer.Count (length (marked ms)); header = h; meter = m; found = pad (length ms) (marked ms) })
+      _≡_ {A =
+      SearchEnd} (record { answer = answer.Count (length (marked ms)); header = h; meter = m; found = pad (length ms) (marked ms) })
       (searchEnd (searched h ps atoms (ticks (searchTicks ps atoms) work)) (length b))
   unfolding searched candidatesAnswer foundWords positions
   search-whole m s q =
@@ -55,7 +56,8 @@ module _ (h : Header) (ps atoms b : List ℕ) (work : Meter) (ms : List ℕ) whe
       let long : length ms ≡ length b = ap length (all-marks q) ∙ length-mark (zeroed b) found ∙ length-zeroed b in
       let here : marked ms ≡ positions ps atoms =
       ap marked (all-marks q) ∙ marked-positions b found (found-each (λ v. v < length b) ps atoms (s .placed)) in
-      ap₂ {C = SearchEnd} (λ (k : ℕ) (xs : List ℕ). record { answer = answer.Count (length xs); header = h; meter = m; found = pad k xs }) long here
+      ap₂ {C = SearchEnd} (λ (k : ℕ) (xs : List ℕ). record { answer = answer.Count (length xs); header = h; meter = m; found = pad k xs })
+      long here
       ∙ ap (λ (t : Tick). searchEnd (searched h ps atoms t) (length b)) (search-ticks q)
 
   pub search-stopped : (m : Meter) → length ms ≡ length b → walked (Stopped m) ms ≡ walk look (looksAll ps atoms) (zeroed b) work →
@@ -71,7 +73,8 @@ module _ (h : Header) (ps atoms b : List ℕ) (work : Meter) (ms : List ℕ) whe
 pub searched-sort : (h : Header) (ps atoms : List ℕ) (m : Meter) →
     searched h (sortOf ps) atoms (ticks (searchTicks (sortOf ps) atoms) m) ≡ searched h ps atoms (ticks (searchTicks ps atoms) m)
 unfolding searched
-searched-sort h ps atoms m = ap (λ (n : ℕ). searched h (sortOf ps) atoms (ticks n m)) (ticks-sort ps atoms) ∙ go (ticks (searchTicks ps atoms) m)
+searched-sort h ps atoms m =
+    ap (λ (n : ℕ). searched h (sortOf ps) atoms (ticks n m)) (ticks-sort ps atoms) ∙ go (ticks (searchTicks ps atoms) m)
   where
     go : (t : Tick) → searched h (sortOf ps) atoms t ≡ searched h ps atoms t
     go (Ticked k) = ap {B = Search} (λ (xs : List ℕ). record { header = h; meter = k; found = some xs }) (positions-sort ps atoms)
@@ -93,7 +96,8 @@ module _ (h : Header) where
   scan-not l e = ap₂ _||_ (lt-leb (h .rows) scanRows l) e
 
 module _ (h : Header) (slots postings atoms : List ℕ) (m : Meter) where
-  pub candidates-scan : scans h ≡ true → candidates (ledgerOf h slots postings) atoms m ≡ record { header = withFull h false; meter = m; found = some (upTo (h .rows)) }
+  pub candidates-scan : scans h ≡ true
+      → candidates (ledgerOf h slots postings) atoms m ≡ record { header = withFull h false; meter = m; found = some (upTo (h .rows)) }
   unfolding candidates ledgerIn
   candidates-scan e =
       rw (entries-length (h .rows) slots, e, candidates)
@@ -111,7 +115,8 @@ module _ (h : Header) (slots postings atoms : List ℕ) (m : Meter) where
       (searchEnd (candidates (ledgerOf h slots postings) atoms m) n)
   unfolding candidatesAnswer foundWords
   end-scan n e =
-      ap {B = SearchEnd} (λ (k : ℕ). record { answer = answer.Count k; header = withFull h false; meter = m; found = pad n (upTo (h .rows)) })
+      ap {B =
+      SearchEnd} (λ (k : ℕ). record { answer = answer.Count k; header = withFull h false; meter = m; found = pad n (upTo (h .rows)) })
       (sym (length-upTo (h .rows)))
       ∙ ap (λ (x : Search). searchEnd x n) (sym (candidates-scan e))
 

@@ -30,7 +30,8 @@ unfolding filed
 filed-all tier rs = refl
 
 -- the buffer is as long as the tier asks
-pub filed-length : (tier : ℕ) (stale : Bool) (rs : List Row) → length (postingsOf rs) ≤ postingWords * tier → length (filed tier stale rs) ≡ postingWords * tier
+pub filed-length : (tier : ℕ) (stale : Bool) (rs : List Row) → length (postingsOf rs) ≤ postingWords * tier
+    → length (filed tier stale rs) ≡ postingWords * tier
 filed-length tier true rs l = ap length (filed-none tier rs) ∙ length-pad (postingWords * tier) [] (omega arith)
 filed-length tier false rs l =
     ap length (filed-all tier rs) ∙ length-pad (postingWords * tier) (sortOf (postingsOf rs)) (omega (arith, length-sort (postingsOf rs)))
@@ -49,10 +50,12 @@ module _ (rs : List Row) (b : List ℕ) (work : Meter) (r : Walk Filled) where
       ∙ put-all (postingsOf rs) 0 b
       ∙ ap (λ (k : ℕ). filledTo k (sets b 0 (postingsOf rs))) z
 
-  pub filling-count : (m : Meter) → r ≡ walk put (postingsOf rs) (filledTo 0 b) work → r .end ≡ Ticked m → r .state .next ≡ length (postingsOf rs)
+  pub filling-count : (m : Meter) → r ≡ walk put (postingsOf rs) (filledTo 0 b) work → r .end ≡ Ticked m
+      → r .state .next ≡ length (postingsOf rs)
   filling-count m q e = ap (λ (s : Filled). s .next) (filling-whole m q e)
 
-  pub filling-front : (m : Meter) → r ≡ walk put (postingsOf rs) (filledTo 0 b) work → r .end ≡ Ticked m → length (postingsOf rs) ≤ length b →
+  pub filling-front : (m : Meter) → r ≡ walk put (postingsOf rs) (filledTo 0 b) work → r .end ≡ Ticked m → length (postingsOf rs) ≤ length b
+      →
       take (r .state .next) (r .state .words) ≡ postingsOf rs
   filling-front m q e l =
       ap₂ (λ (k : ℕ) (w : List ℕ). take k w) (filling-count m q e)
@@ -63,7 +66,8 @@ module _ (rs : List Row) (b : List ℕ) (work : Meter) (r : Walk Filled) where
   pub refiled-whole : (m : Meter) (tier : ℕ) (s : List ℕ) → r ≡ walk put (postingsOf rs) (filledTo 0 b) work → r .end ≡ Ticked m →
       length (postingsOf rs) ≤ length b → length s ≡ postingWords * tier →
       s ≡ sortOf (take (r .state .next) (r .state .words)) ++ drop (r .state .next) (r .state .words) →
-      walked (Ticked m) (filledTo (r .state .next) (pad (length s) (take (r .state .next) s))) ≡ refiled tier rs (ticks (length (postingsOf rs)) work)
+      walked (Ticked m) (filledTo (r .state .next) (pad (length s) (take (r .state .next) s)))
+      ≡ refiled tier rs (ticks (length (postingsOf rs)) work)
   unfolding refiled
   refiled-whole m tier s q e l n g =
       let k = r .state .next in
@@ -77,7 +81,8 @@ module _ (rs : List Row) (b : List ℕ) (work : Meter) (r : Walk Filled) where
 
   -- stopped: zeros alone
   pub refiled-stopped : (m : Meter) (tier : ℕ) (s : List ℕ) → r ≡ walk put (postingsOf rs) (filledTo 0 b) work → r .end ≡ Stopped m →
-      length s ≡ postingWords * tier → walked (Stopped m) (filledTo 0 (pad (length s) [])) ≡ refiled tier rs (ticks (length (postingsOf rs)) work)
+      length s ≡ postingWords * tier
+      → walked (Stopped m) (filledTo 0 (pad (length s) [])) ≡ refiled tier rs (ticks (length (postingsOf rs)) work)
   unfolding refiled
   refiled-stopped m tier s q e n =
       ap (λ (w : List ℕ). walked (Stopped m) (filledTo 0 w)) (ap (λ (x : ℕ). pad x []) n ∙ sym (filed-none tier rs))
@@ -114,7 +119,8 @@ module _ (tier : ℕ) (rs : List Row) (r : Walk Filled) where
       never : Ticked m ≡ Stopped k → ⊥
       never f = let z : _≡_ {A = ℕ} 0 1 = cc in omega arith
 
-  pub refiled-unready : (m : Meter) (t : Tick) → r ≡ refiled tier rs t → r .end ≡ Stopped m → (Stopped m ≡ t) × (r .state .words ≡ filed tier true rs)
+  pub refiled-unready : (m : Meter) (t : Tick) → r ≡ refiled tier rs t → r .end ≡ Stopped m
+      → (Stopped m ≡ t) × (r .state .words ≡ filed tier true rs)
   unfolding refiled
   refiled-unready m (Stopped k) q e = (sym e ∙ ap (λ (w : Walk Filled). w .end) q, ap (λ (w : Walk Filled). w .state .words) q)
   refiled-unready m (Ticked k) q e = absurd (never (sym e ∙ ap (λ (w : Walk Filled). w .end) q))

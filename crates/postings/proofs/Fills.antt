@@ -58,7 +58,8 @@ pub later-short : (a : ℕ) (xs : List ℕ) → length (later a xs) ≤ length x
 later-short a [] = omega (arith, ap length (later-none a))
 later-short a (x ∷ xs) = go (same-or x a) (later-short a xs) (later-short x xs)
   where
-    go : (x ≡ a) ⊎ (x ≡ a → ⊥) → length (later a xs) ≤ length xs → length (later x xs) ≤ length xs → length (later a (x ∷ xs)) ≤ suc (length xs)
+    go : (x ≡ a) ⊎ (x ≡ a → ⊥) → length (later a xs) ≤ length xs → length (later x xs) ≤ length xs
+        → length (later a (x ∷ xs)) ≤ suc (length xs)
     go (inl e) h k = omega (arith, ap length (later-same a x xs e))
     go (inr n) h k = omega (arith, ap length (later-other a x xs n))
 

@@ -1,4 +1,5 @@
--- The postings of one atom in ascending postings: none before the first that is not below it, none after the first of another atom. Assumes nothing.
+-- The postings of one atom in ascending postings: none before the first that is not below it, none after the first of another atom.
+-- Assumes nothing.
 use mathlib.Core.Path.{_≡_, refl, sym, ap}
 use mathlib.Core.List.{List, [], _∷_, map}
 use Prim.Native.Nat.{ℕ, _+_, _*_, _/_, _%_, _≤_, _<_}

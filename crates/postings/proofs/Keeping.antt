@@ -9,10 +9,9 @@ use lib.Dec.{T, leb}
 use lib.ListN.{length, getD, replicate}
 use Rattle.lists.specs.Lists.{all, concat, pad, upTo}
 use Rattle.lists.proofs.Tests.{all-at}
-use Rattle.lists.proofs.Concats.{Blocks, block-at, length-blocks}
-use Rattle.lists.proofs.Pads.{length-pad}
+use Rattle.lists.proofs.Concats.{Blocks, block-at}
+use Rattle.lists.proofs.Bools.{T-true, T-of}
 use Rattle.words.specs.Region.{maxAtoms}
-use Rattle.words.proofs.Bools.{T-of, T-true}
 use Rattle.meter.specs.declared.Meter.{Meter}
 use Rattle.meter.specs.declared.Tick.{Tick}
 use Rattle.meter.specs.declared.Tick.the-variants.{Ticked, Stopped}
@@ -22,9 +21,11 @@ use Rattle.model.specs.Records.{Entry, Ledger, rowsOf, maxRows, scanRows, slotW
 use Rattle.model.specs.Slots.{slotOf, slotsOf, entriesIn}
 use Rattle.model.specs.Postings.{filed, postingsOf, searchTicks, Search, rebuilt, candidates}
 use Rattle.model.proofs.Slots.{valid-of, slot-length, entries-length}
+use Rattle.model.proofs.Entries.{all-valid}
+use Rattle.model.proofs.Accepting.{slots-length}
 use Rattle.slots.specs.Layout.{Stored, slotAt, rowsIn}
 use Rattle.slots.proofs.Storing.{stored-slot}
-use Rattle.postings.specs.Standing.{Stands}
+use Rattle.slots.specs.Standing.{Stands}
 use Rattle.postings.proofs.Answers.{searched-header}
 
 -- ---- from the entries that were laid out
@@ -34,11 +35,6 @@ module _ (n tier : ℕ) (es : List Entry) where
 
   blocks : T (all (λ e. isRow n (e .row)) es) → Blocks slotOf slotWords es
   blocks t i d l = slot-length (getD es i d) (valid-of n (getD es i d .row) (entry-ok i d t l))
-
-  slots-length : T (all (λ e. isRow n (e .row)) es) → length es ≤ tier → length (slotsOf tier es) ≡ slotWords * tier
-  unfolding slotsOf
-  slots-length t l =
-      length-pad (slotWords * tier) (concat (map slotOf es)) (omega (arith, length-blocks slotOf slotWords es (blocks t)))
 
   slot-stored : (p : ℕ) → n ≤ maxAtoms → T (all (λ e. isRow n (e .row)) es) → p < length es → Stored n (slotAt (slotsOf tier es) p)
   unfolding slotsOf pad
@@ -59,7 +55,7 @@ stands-of h slots postings a f m t s p =
       atoms = a;
       few = f;
       most = m;
-      long = ap length s ∙ slots-length (h .limits .atoms) (h .limits .«tier_rows») es t (omega (arith, c));
+      long = ap length s ∙ slots-length (h .limits .«tier_rows») es (all-valid (h .limits .atoms) es t) (omega (arith, c));
       stored = λ q l.
           subst (λ (w : List ℕ). Stored (h .limits .atoms) (slotAt w q)) (sym s)
           (slot-stored (h .limits .atoms) (h .limits .«tier_rows») es q a t (omega (arith, c)));

@@ -32,7 +32,8 @@ module _ (a : ℕ) (ps : List ℕ) where
   unfolding marks
   marks-from s = ap (map some) (posted-from a ps s)
 
-  pub marks-past : (i : ℕ) → Sorted ps → lowerBound (a * maxRows) ps ≤ i → i < length ps → (getD ps i 0 / maxRows ≡ a → ⊥) → marks (drop i ps) a ≡ []
+  pub marks-past : (i : ℕ) → Sorted ps → lowerBound (a * maxRows) ps ≤ i → i < length ps → (getD ps i 0 / maxRows ≡ a → ⊥)
+      → marks (drop i ps) a ≡ []
   unfolding marks
   marks-past i s h l n = ap (map some) (posted-past a ps i s h l n)
 
@@ -73,7 +74,12 @@ pub looks-ticks : (ps atoms : List ℕ) → length (looksAll ps atoms) ≡ searc
 unfolding looksAll looks marks concat searchTicks sum
 looks-ticks ps [] = refl
 looks-ticks ps (a ∷ atoms) =
-    omega (arith, length-append (looks ps a) (looksAll ps atoms), length-map {A = ℕ} {B = Option ℕ} (postedAt ps a) some, looks-ticks ps atoms)
+    omega (
+      arith,
+      length-append (looks ps a) (looksAll ps atoms),
+      length-map {A = ℕ} {B = Option ℕ} (postedAt ps a) some,
+      looks-ticks ps atoms,
+    )
 
 steps-append : {A S : Type 0} (step : A → S → S) (xs ys : List A) (s : S) → steps step (xs ++ ys) s ≡ steps step ys (steps step xs s)
 unfolding steps

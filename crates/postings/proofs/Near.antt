@@ -10,7 +10,8 @@ use Rattle.lists.proofs.Marks.{lower-at}
 use Rattle.lists.proofs.Sorts.{sorted-index}
 
 -- in an ascending list its two neighbours decide
-pub lower-here : (xs : List ℕ) (bound at : ℕ) → Sorted xs → at ≤ length xs → (0 < at → getD xs (at - 1) 0 < bound) → (at < length xs → bound ≤ getD xs at 0) →
+pub lower-here : (xs : List ℕ) (bound at : ℕ) → Sorted xs → at ≤ length xs → (0 < at → getD xs (at - 1) 0 < bound)
+    → (at < length xs → bound ≤ getD xs at 0) →
     at ≡ lowerBound bound xs
 lower-here xs bound at s l p q =
     lower-at bound xs at l

@@ -12,10 +12,10 @@ use Rattle.lists.specs.Lists.{ascending, below, distinct}
 use Rattle.lists.specs.Counts.{is, times, Each, Sorted}
 use Rattle.lists.proofs.Counts.{is-equal, is-other, same-or, times-append, each-append, each-none, each-map}
 use Rattle.lists.proofs.Sorts.{sorted-map, distinct-each, distinct-short, distinct-ascending}
-use Rattle.lists.proofs.Tests.{and-both, below-each, ascending-sorted}
+use Rattle.lists.proofs.Tests.{below-each, ascending-sorted}
 use Rattle.lists.proofs.Concats.{map-append}
+use Rattle.lists.proofs.Bools.{T-true, and-both}
 use Rattle.words.specs.Literal.{atom}
-use Rattle.words.proofs.Bools.{T-true}
 use Rattle.model.specs.Records.{Row, maxRows, postingWords, maxConditions, maxOutputs, isRow, isRowOver, within}
 use Rattle.model.specs.Postings.{posting, rowPostings, postingsFrom, postingsOf}
 use Rattle.postings.specs.Filling.{sidePostings}
@@ -39,7 +39,8 @@ unfolding isRow isRowOver within atom
 row-fit n r t =
     let c : List ℕ = r .conditions in
     let o : List ℕ = r .outputs in
-    let b = and-both (leb (length c) maxConditions && leb (length o) maxOutputs) ((below (2 * n) c && below (2 * n) o) && (ascending (map atom c) && ascending o)) (T-true (isRow n r) t) in
+    let b = and-both (leb (length c) maxConditions && leb (length o) maxOutputs)
+    ((below (2 * n) c && below (2 * n) o) && (ascending (map atom c) && ascending o)) (T-true (isRow n r) t) in
     let w = and-both (leb (length c) maxConditions) (leb (length o) maxOutputs) (b .0) in
     let v = and-both (below (2 * n) c && below (2 * n) o) (ascending (map atom c) && ascending o) (b .1) in
     let x = and-both (below (2 * n) c) (below (2 * n) o) (v .0) in
@@ -123,7 +124,12 @@ module _ (n : ℕ) where
   unfolding postingsFrom
   from-short p [] f = omega arith
   from-short p (r ∷ rs) f =
-      omega (arith, length-append (rowPostings p r) (postingsFrom (suc p) rs), row-short n p r (fit-head r rs f), from-short (suc p) rs (fit-tail r rs f))
+      omega (
+        arith,
+        length-append (rowPostings p r) (postingsFrom (suc p) rs),
+        row-short n p r (fit-head r rs f),
+        from-short (suc p) rs (fit-tail r rs f),
+      )
 
   from-each : (P : ℕ → Type 0) (p : ℕ) (rs : List Row) → AllFit n rs →
       ((a q : ℕ) → a < n → p ≤ q → q < p + length rs → P (a * maxRows + q)) → Each P (postingsFrom p rs)
@@ -153,7 +159,8 @@ module _ (n : ℕ) where
   zeros-of r rs f =
       let g = fit-head r rs f in
       let later : times 0 (postingsFrom 1 rs) ≡ 0 =
-      each-none (λ x. 0 < x) 0 (postingsFrom 1 rs) (from-each (λ x. 0 < x) 1 rs (fit-tail r rs f) (λ a q h k m. omega arith)) (λ h. omega arith) in
+      each-none (λ x. 0 < x) 0 (postingsFrom 1 rs) (from-each (λ x. 0 < x) 1 rs (fit-tail r rs f) (λ a q h k m. omega arith))
+      (λ h. omega arith) in
       times-append 0 (rowPostings 0 r) (postingsFrom 1 rs)
       ∙ omega (
         arith,

@@ -27,17 +27,17 @@ stored-fit {n} {ws} s = row-fit n (rowIn ws) (s .row)
 
 module _ {ws : List ℕ} {p at n : ℕ} where
   pub row-laid : RowPostable ws p at n → Laid ws
-  row-laid f = laid-stored (f .atoms) ws (f .stored)
+  row-laid f = laid-stored (f .holds .atoms) ws (f .holds .stored)
 
-  fit : (f : RowPostable ws p at n) → RowFit (f .atoms) (rowIn ws)
-  fit f = stored-fit (f .stored)
+  fit : (f : RowPostable ws p at n) → RowFit (f .holds .atoms) (rowIn ws)
+  fit f = stored-fit (f .holds .stored)
 
   pub first-side : RowPostable ws p at n → Postable ws (conditionSide ws) p at n
   first-side f =
       let e = row-laid f .conditions in
       record {
         sound = row-laid f .first;
-        low = rw e (λ c h. omega (arith, f .stored .atoms, fit f .conditions .low c h));
+        low = rw e (λ c h. omega (arith, f .holds .stored .atoms, fit f .conditions .low c h));
         place = f .place;
         room = omega (arith, ap length e, fit f .few, f .room);
       }
@@ -50,7 +50,7 @@ module _ {ws : List ℕ} {p at n : ℕ} where
       let cs = listOf ws (conditionSide ws) in
       record {
         sound = row-laid f .second;
-        low = rw e (λ c h. omega (arith, f .stored .atoms, fit f .outputs .low c h));
+        low = rw e (λ c h. omega (arith, f .holds .stored .atoms, fit f .outputs .low c h));
         place = f .place;
         room = omega (
           arith,
@@ -74,7 +74,7 @@ module _ {ws : List ℕ} {p at n : ℕ} where
       let cs = sidePostings p (listOf ws (conditionSide ws)) in
       let os = sidePostings p (listOf ws (outputSide ws)) in
       let e : rowPostings p (rowIn ws) ≡ cs ++ os =
-      row-sides (f .atoms) p (rowIn ws) (fit f)
+      row-sides (f .holds .atoms) p (rowIn ws) (fit f)
       ∙ ap₂ (λ (x y : List ℕ). sidePostings p x ++ sidePostings p y) (sym (row-laid f .conditions)) (sym (row-laid f .outputs)) in
       ap (λ (l : List ℕ). walk put l (filledTo at b) m) e ∙ walk-append put cs os (filledTo at b) m q
 
@@ -101,20 +101,29 @@ rows-end n ws p l = ap (postingsFrom p) (rows-none n ws p l)
 
 -- ---- a filling of all rows
 module _ {rows : ℕ} {ws : List ℕ} {n : ℕ} where
-  pub all-rows : (f : RowsPostable rows ws n) → AllFit (f .atoms) (rowsIn rows ws)
+  pub all-rows : (f : RowsPostable rows ws n) → AllFit (f .held .atoms) (rowsIn rows ws)
   all-rows f i d l =
-      let k : i < rows = omega (arith, rows-length rows ws) in rw (rows-at rows ws i d k) (stored-fit (f .stored i k))
+      let k : i < rows = omega (arith, rows-length rows ws) in rw (rows-at rows ws i d k) (stored-fit (f .held .over .stored i k))
 
   pub row-room : RowsPostable rows ws n → (p at : ℕ) → p < rows → at ≤ postingWords * p → RowPostable (slotAt ws p) p at n
   row-room f p at l h =
-      record { atoms = f .atoms; stored = f .stored p l; place = omega (arith, f .few); room = omega (arith, f .room) }
+      record {
+        holds = record { atoms = f .held .atoms; stored = f .held .over .stored p l };
+        place = omega (arith, f .held .over .few);
+        room = omega (arith, f .room);
+      }
 
   -- where the next row begins
   pub row-next : RowsPostable rows ws n → (p at : ℕ) (b : List ℕ) (m : Meter) (r : Walk Filled) → p < rows → at ≤ postingWords * p →
       r ≡ walk put (rowPostings p (rowIn (slotAt ws p))) (filledTo at b) m → r .state .next ≤ postingWords * (p + 1)
   row-next f p at b m r l h q =
       let t = rowIn (slotAt ws p) in
-      omega (arith, ap (λ (w : Walk Filled). w .state .next) q, fill-next (rowPostings p t) at b m, row-short (f .atoms) p t (stored-fit (f .stored p l)))
+      omega (
+        arith,
+        ap (λ (w : Walk Filled). w .state .next) q,
+        fill-next (rowPostings p t) at b m,
+        row-short (f .held .atoms) p t (stored-fit (f .held .over .stored p l)),
+      )
 
 -- the rows from position p on, by how the row there ended
 pub rows-walk : (rows : ℕ) (ws : List ℕ) (p at : ℕ) (b : List ℕ) (m : Meter) (r : Walk Filled) → p < rows →

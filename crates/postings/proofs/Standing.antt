@@ -20,10 +20,10 @@ use Rattle.slots.specs.Layout.{conditionSide, outputSide, slotAt, rowsIn}
 use Rattle.slots.proofs.Storing.{laid-stored}
 use Rattle.postings.specs.Filling.{RowsPostable}
 use Rattle.postings.specs.Searching.{zeroFirst, Searchable}
-use Rattle.postings.specs.Standing.{Stands}
+use Rattle.slots.specs.Standing.{Stands}
 use Rattle.postings.proofs.Posting.{AllFit, postings-short, postings-low, postings-placed, zeros-of}
 use Rattle.postings.proofs.Zeros.{zeros-first}
-use Rattle.slots.proofs.Rows.{rowsFrom, rows-length}
+use Rattle.slots.proofs.Rows.{rowsFrom, rows-length, stands-rows}
 use Rattle.postings.proofs.Rows.{rows-first, all-rows}
 use Rattle.postings.proofs.Filing.{filed-all, filed-length}
 
@@ -38,10 +38,7 @@ module _ {h : Header} {slots postings : List ℕ} where
   pub rows-room : (n : ℕ) → Stands h slots postings → postingWords * h .limits .«tier_rows» ≤ n → RowsPostable (h .rows) slots n
   rows-room n s l =
       record {
-        atoms = h .limits .atoms;
-        few = omega (arith, s .few, s .most);
-        long = omega (arith, s .few, s .long);
-        stored = s .stored;
+        held = record { atoms = h .limits .atoms; over = stands-rows s };
         room = omega (arith, s .few);
       }
 
@@ -57,7 +54,8 @@ module _ {h : Header} {slots postings : List ℕ} where
 
   here-placed : Stands h slots postings → Each (λ x. x % maxRows < h .rows) (posts h slots)
   here-placed s =
-      rw (rows-length (h .rows) slots) at (postings-placed (h .limits .atoms) (rows h slots) (fit s) (omega (arith, rows-length (h .rows) slots, s .few, s .most)))
+      rw (rows-length (h .rows) slots) at
+      (postings-placed (h .limits .atoms) (rows h slots) (fit s) (omega (arith, rows-length (h .rows) slots, s .few, s .most)))
 
   pub postings-long : Stands h slots postings → length postings ≡ postingWords * h .limits .«tier_rows»
   postings-long s = ap length (s .filing) ∙ filed-length (h .limits .«tier_rows») (h .stale) (rows h slots) (here-short s)
@@ -65,7 +63,8 @@ module _ {h : Header} {slots postings : List ℕ} where
   -- ---- how many postings there are
   -- those that are 0, read off the first slot
   pub here-zeros : Stands h slots postings → 0 < h .rows →
-      zeroFirst (map atom (listOf (slotAt slots 0) (conditionSide (slotAt slots 0)))) + zeroFirst (map atom (listOf (slotAt slots 0) (outputSide (slotAt slots 0))))
+      zeroFirst (map atom (listOf (slotAt slots 0) (conditionSide (slotAt slots 0))))
+      + zeroFirst (map atom (listOf (slotAt slots 0) (outputSide (slotAt slots 0))))
       ≡ times 0 (postingsOf (rowsIn (h .rows) slots))
   here-zeros s l =
       let w = slotAt slots 0 in
@@ -75,21 +74,30 @@ module _ {h : Header} {slots postings : List ℕ} where
       ap₂ (λ (x y : List ℕ). zeroFirst (map atom x) + zeroFirst (map atom y)) (laid .conditions) (laid .outputs)
       ∙ sym (ap (λ (x : List Row). times 0 (postingsOf x)) e ∙ zeros-of (h .limits .atoms) (rowIn w) later (rw e at (fit s)))
 
-  postings-are : Stands h slots postings → h .stale ≡ false → postings ≡ pad (postingWords * h .limits .«tier_rows») (sortOf (posts h slots))
-  postings-are s e = s .filing ∙ ap (λ (b : Bool). filed (h .limits .«tier_rows») b (rows h slots)) e ∙ filed-all (h .limits .«tier_rows») (rows h slots)
+  postings-are : Stands h slots postings → h .stale ≡ false
+      → postings ≡ pad (postingWords * h .limits .«tier_rows») (sortOf (posts h slots))
+  postings-are s e =
+      s .filing ∙ ap (λ (b : Bool). filed (h .limits .«tier_rows») b (rows h slots)) e ∙ filed-all (h .limits .«tier_rows») (rows h slots)
 
   at-sorted : Stands h slots postings → h .stale ≡ false → (i : ℕ) → getD postings i 0 ≡ getD (sortOf (posts h slots)) i 0
-  at-sorted s e i = ap (λ (x : List ℕ). getD x i 0) (postings-are s e) ∙ getD-pad (postingWords * h .limits .«tier_rows») (sortOf (posts h slots)) i
+  at-sorted s e i =
+      ap (λ (x : List ℕ). getD x i 0) (postings-are s e) ∙ getD-pad (postingWords * h .limits .«tier_rows») (sortOf (posts h slots)) i
 
   -- after those that are 0, the words are not 0 up to the end of the postings, and 0 from there on
   pub posted-some : Stands h slots postings → h .stale ≡ false → (i : ℕ) → times 0 (postingsOf (rowsIn (h .rows) slots)) ≤ i →
       i < length (postingsOf (rowsIn (h .rows) slots)) → 0 < getD postings i 0
   posted-some s e i z l =
       let k : times 0 (sortOf (posts h slots)) ≤ i = omega (arith, sort-perm (posts h slots) 0) in
-      omega (arith, at-sorted s e i, zeros-first (sortOf (posts h slots)) i (sort-sorted (posts h slots)) k (omega (arith, length-sort (posts h slots))))
+      omega (
+        arith,
+        at-sorted s e i,
+        zeros-first (sortOf (posts h slots)) i (sort-sorted (posts h slots)) k (omega (arith, length-sort (posts h slots))),
+      )
 
-  pub posted-none : Stands h slots postings → h .stale ≡ false → (i : ℕ) → length (postingsOf (rowsIn (h .rows) slots)) ≤ i → getD postings i 0 ≡ 0
-  posted-none s e i l = at-sorted s e i ∙ List·getD-eq-default (sortOf (posts h slots)) 0 {n = i} (omega (arith, length-sort (posts h slots)))
+  pub posted-none : Stands h slots postings → h .stale ≡ false → (i : ℕ) → length (postingsOf (rowsIn (h .rows) slots)) ≤ i
+      → getD postings i 0 ≡ 0
+  posted-none s e i l =
+      at-sorted s e i ∙ List·getD-eq-default (sortOf (posts h slots)) 0 {n = i} (omega (arith, length-sort (posts h slots)))
 
   -- ---- the postings that a search gets
   pub here-searchable : Stands h slots postings → (n : ℕ) → h .rows ≤ n → Searchable n (sortOf (postingsOf (rowsIn (h .rows) slots)))

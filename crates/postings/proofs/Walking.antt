@@ -21,12 +21,15 @@ module _ {A S : Type 0} (step : A → S → S) where
   unfolding walk
   walk-step x xs s m e = rw e refl
 
-  walk-both : (xs ys : List A) (s : S) (m : Meter) → walk step (xs ++ ys) s m ≡ onward (walk step xs s m .end) (walk step xs s m .state) (walk step ys)
+  walk-both : (xs ys : List A) (s : S) (m : Meter)
+      → walk step (xs ++ ys) s m ≡ onward (walk step xs s m .end) (walk step xs s m .state) (walk step ys)
   unfolding walk
   walk-both [] ys s m = refl
   walk-both (x ∷ xs) ys s m = go (tickOf m) (walk-both xs ys (step x s))
     where
-      go : (r : Tick) → ((k : Meter) → walk step (xs ++ ys) (step x s) k ≡ onward (walk step xs (step x s) k .end) (walk step xs (step x s) k .state) (walk step ys))
+      go : (r : Tick)
+          → ((k : Meter)
+          → walk step (xs ++ ys) (step x s) k ≡ onward (walk step xs (step x s) k .end) (walk step xs (step x s) k .state) (walk step ys))
           → onward r s (λ t. walk step (xs ++ ys) (step x t))
           ≡ onward (onward r s (λ t. walk step xs (step x t)) .end) (onward r s (λ t. walk step xs (step x t)) .state) (walk step ys)
       go (Ticked k) h = h k
@@ -54,8 +57,10 @@ module _ {A S : Type 0} (step : A → S → S) where
   walk-whole [] s m k e = refl
   walk-whole (x ∷ xs) s m k e = go (tickOf m) (λ n. walk-whole xs (step x s) n k) e
     where
-      go : (r : Tick) → ((n : Meter) → walk step xs (step x s) n .end ≡ Ticked k → walk step xs (step x s) n .state ≡ steps step xs (step x s))
-          → onward r s (λ t. walk step xs (step x t)) .end ≡ Ticked k → onward r s (λ t. walk step xs (step x t)) .state ≡ steps step xs (step x s)
+      go : (r : Tick)
+          → ((n : Meter) → walk step xs (step x s) n .end ≡ Ticked k → walk step xs (step x s) n .state ≡ steps step xs (step x s))
+          → onward r s (λ t. walk step xs (step x t)) .end ≡ Ticked k
+          → onward r s (λ t. walk step xs (step x t)) .state ≡ steps step xs (step x s)
       go (Ticked n) h f = h n f
       go (Stopped n) h f = absurd (never f)
         where

@@ -10,12 +10,12 @@ use Rattle.words.specs.Literal.{atom}
 use Rattle.words.specs.Region.{maxAtoms}
 use Rattle.meter.specs.declared.Tick.{Tick}
 use Rattle.meter.specs.declared.Tick.the-variants.{Ticked, Stopped}
-use Rattle.model.specs.Records.{Row, maxRows, slotWords, postingWords}
+use Rattle.model.specs.Records.{Row, maxRows, postingWords}
 use Rattle.model.specs.Slots.{entriesIn}
 use Rattle.model.specs.Postings.{posting, postingsOf, filed}
 use Rattle.slots.specs.declared.Side.{Side}
 use Rattle.slots.specs.Cursor.{Sound, listOf}
-use Rattle.slots.specs.Layout.{Stored, slotAt}
+use Rattle.slots.specs.Layout.{Holds, Rows}
 use Rattle.postings.specs.declared.filling.Posted.{Posted}
 use Rattle.postings.specs.Steps.{Walk, walked}
 
@@ -59,14 +59,10 @@ pub record Postable (ws : List ℕ) (s : Side) (p at n : ℕ) : Type 0 where
   pub room : at + length (listOf ws s) ≤ n
 
 pub record RowPostable (ws : List ℕ) (p at n : ℕ) : Type 0 where
-  pub atoms : ℕ
-  pub stored : Stored atoms ws
+  pub holds : Holds ws
   pub place : p < maxRows
   pub room : at + postingWords ≤ n
 
 pub record RowsPostable (rows : ℕ) (ws : List ℕ) (n : ℕ) : Type 0 where
-  pub atoms : ℕ
-  pub few : rows ≤ maxRows
-  pub long : slotWords * rows ≤ length ws
-  pub stored : (p : ℕ) → p < rows → Stored atoms (slotAt ws p)
+  pub held : Rows rows ws
   pub room : postingWords * rows ≤ n

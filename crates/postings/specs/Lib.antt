@@ -1,4 +1,3 @@
 pub mod Steps
 pub mod Filling
-pub mod Standing
 pub mod Searching

@@ -12,11 +12,12 @@ ghost use Rattle.meter.specs.Meter.{ticks};
 ghost use Rattle.model.specs.Records.{maxRows};
 ghost use Rattle.model.specs.Postings.{postingsOf, filed, searchTicks, searched, candidates as candidatesOf};
 ghost use Rattle.slots.specs.Cursor.{Sound, listOf};
+ghost use Rattle.slots.specs.Standing.{Stands};
 ghost use Rattle.postings.specs.Steps.{walk, walked};
 ghost use Rattle.slots.specs.Layout.{rowsIn};
 ghost use Rattle.postings.specs.Filling.{posted, refiled};
-ghost use Rattle.postings.specs.Searching.{zeroFirst, look, marks, looks, looksAll, readyTicks, Searchable, searchEnd, foundEnd, ledgerOf};
-ghost use Rattle.postings.specs.Standing.{Stands};
+ghost use Rattle.postings.specs.Searching.{zeroFirst, look, marks, looks, looksAll, readyTicks, Searchable, searchEnd, foundEnd};
+ghost use Rattle.postings.specs.Searching.{ledgerOf};
 use crate::filling::Posted;
 use crate::filling::rebuild_postings;
 use lists::fill_zero;
@@ -183,7 +184,8 @@ fn place_from(postings: &[u64], near: usize, atom: u64) -> usize
 
 // One tick for an atom, whatever number it is; then its postings are marked.
 fn mark_atom(postings: &[u64], from: usize, atom: u64, answer: &mut [u64], work: Meter) -> Tick
-    requires { ⌜ Searchable (length (now answer)) (now postings) ⌝ ∗ ⌜ (atom < maxAtoms → from ≡ lowerBound (atom * maxRows) (now postings)) ⌝ }
+    requires { ⌜ Searchable (length (now answer)) (now postings) ⌝
+        ∗ ⌜ (atom < maxAtoms → from ≡ lowerBound (atom * maxRows) (now postings)) ⌝ }
     ensures { λ r. ⌜ walked r (now (answer .exit)) ≡ walk look (looks (now (postings .entry)) atom) (now (answer .entry)) work ⌝ }
 {
     match work.tick() {
@@ -268,7 +270,8 @@ pub fn candidates(
     ensures found { λ r. ⌜ foundEnd r (now (answer .exit))
         ≡ searchEnd (candidatesOf (ledgerOf header (now (slots .entry)) (now (postings .entry))) (now (atoms .entry)) work)
         (length (now (answer .entry))) ⌝ }
-    ensures filing { λ r. ⌜ now (postings .exit) ≡ filed (header .limits .«tier_rows») (r .header .stale) (rowsIn (header .rows) (now (slots .entry))) ⌝ }
+    ensures filing { λ r. ⌜ now (postings .exit)
+        ≡ filed (header .limits .«tier_rows») (r .header .stale) (rowsIn (header .rows) (now (slots .entry))) ⌝ }
 {
     if header.rows <= SCAN_ROWS || header.full {
         up_to(answer, header.rows as usize);

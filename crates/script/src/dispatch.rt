@@ -1,25 +1,26 @@
 // The call of a line, by its first word.
 ghost use lib.ListN.{length};
-ghost use Rattle.notation.specs.Placing.{Within};
-use answers::dump;
-use notation::calls::Asked;
-use notation::calls::Call;
-use notation::calls::Said;
-use notation::calls::call_of;
-use notation::places::Place;
-use notation::places::head_in;
-use notation::places::keep;
-use notation::places::room;
-use notation::points;
-use notation::rooms::NAMES;
-use several::decide;
-use several::make;
-use several::transfer;
-use single::act;
-use single::candidates;
-use single::next;
+ghost use Rattle.script_notation.specs.Placing.{Within};
+use script_answers::dump;
+use script_notation::calls::Asked;
+use script_notation::calls::Call;
+use script_notation::calls::Said;
+use script_notation::calls::call_of;
+use script_notation::memory::NAMES;
+use script_notation::places::Place;
+use script_notation::places::head_in;
+use script_notation::places::keep;
+use script_notation::places::place_for;
+use script_notation::points;
+use script_several::decide;
+use script_several::make;
+use script_several::transfer;
+use script_single::act;
+use script_single::candidates;
+use script_single::next;
 use text::Parsed;
 use text::put_text;
+use wire::HEADER_WORDS;
 
 // `reset`: all ledgers are gone.
 fn reset(s: &[u8], at: usize, table: &mut [u64], out: &mut [u8], to: usize) -> Said {
@@ -50,7 +51,7 @@ fn names_in(table: &[u64]) -> &[u64] {
 fn on_words(
     q: Asked,
     s: &[u8],
-    head: &mut [u64; 25],
+    head: &mut [u64; HEADER_WORDS],
     slots: &mut [u64],
     postings: &mut [u64],
     points: &[u64],
@@ -71,7 +72,7 @@ fn on_place(
     q: Asked,
     s: &[u8],
     p: Place,
-    head: &mut [u64; 25],
+    head: &mut [u64; HEADER_WORDS],
     slots: &mut [u64],
     postings: &mut [u64],
     points: &[u64],
@@ -103,7 +104,7 @@ fn on_ledger(
         return Said::Error;
     };
     let mut head = head_in(table, index);
-    let p = room(slots, postings, index, head[1]);
+    let p = place_for(slots, postings, index, head[1]);
     if !p.there {
         return Said::Error;
     }

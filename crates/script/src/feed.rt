@@ -1,9 +1,10 @@
-// Standard input, a line at a time, of any length in all, through a buffer that holds the longest line. A line that does not fit is an error.
+// Standard input, a line at a time, of any length in all, through a buffer that holds the longest line.
+// A line that does not fit is an error.
 ghost use mathlib.Core.Path.{_≡_};
 ghost use Prim.Native.Nat.{_-_, _≤_};
 ghost use lib.ListN.{length};
 use crate::dispatch;
-use notation::calls::Said;
+use script_notation::calls::Said;
 use std::num::wrapping_add_u64;
 use text::find;
 use text::flush;

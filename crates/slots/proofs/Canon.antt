@@ -10,31 +10,33 @@ use lib.Dec.{eqb}
 use lib.ListN.{length, getD, take, drop}
 use borrow.Author.Tests.{eq-eqb, ne-eqb, eqb-true, eqb-false}
 use Rattle.lists.specs.Lists.{concat}
+use Rattle.lists.proofs.Concats.{drop-three}
 use Rattle.words.specs.Literal.{atom, wordOf}
+use Rattle.model.specs.Records.{groupLength}
 use Rattle.model.specs.Rows.{enter, groups}
 use Rattle.model.specs.Slots.{indexOf, groupWords, codesOf}
-use Rattle.model.proofs.Packing.{Asc, OneWord}
+use Rattle.model.proofs.Packing.{Asc, OneWord, groups-head}
 use Rattle.slots.specs.Cursor.{literalsAt}
-use Rattle.slots.proofs.Cursors.{literals-none, literals-group, three-words}
+use Rattle.slots.proofs.Cursors.{literals-none, literals-group}
 use Rattle.slots.proofs.Words.{codes-word, codes-some, codes-index, bits-present, bits-absent}
 
 -- n groups from word `at` on: each with some bit, their indices rising
 pub record Canonical (ws : List ℕ) (at n : ℕ) : Type 0 where
-  pub whole : at + 3 * n ≤ length ws
-  pub fits : (g : ℕ) → g < n → (getD ws (at + 3 * g + 1) 0 < 2 ^ 64) × (getD ws (at + 3 * g + 2) 0 < 2 ^ 64)
-  pub some : (g : ℕ) → g < n → 0 < bitOr (getD ws (at + 3 * g + 2) 0) (getD ws (at + 3 * g + 1) 0)
-  pub rises : (g : ℕ) → suc g < n → getD ws (at + 3 * g) 0 < getD ws (at + 3 * suc g) 0
+  pub whole : at + groupLength * n ≤ length ws
+  pub fits : (g : ℕ) → g < n → (getD ws (at + groupLength * g + 1) 0 < 2 ^ 64) × (getD ws (at + groupLength * g + 2) 0 < 2 ^ 64)
+  pub some : (g : ℕ) → g < n → 0 < bitOr (getD ws (at + groupLength * g + 2) 0) (getD ws (at + groupLength * g + 1) 0)
+  pub rises : (g : ℕ) → suc g < n → getD ws (at + groupLength * g) 0 < getD ws (at + groupLength * suc g) 0
 
-canonical-tail : (ws : List ℕ) (at n : ℕ) → Canonical ws at (suc n) → Canonical ws (at + 3) n
+canonical-tail : (ws : List ℕ) (at n : ℕ) → Canonical ws at (suc n) → Canonical ws (at + groupLength) n
 canonical-tail ws at n c = record {
   whole = let h = c .whole in omega arith;
   fits = λ g l. subst (λ (k : ℕ). (getD ws (k + 1) 0 < 2 ^ 64) × (getD ws (k + 2) 0 < 2 ^ 64)) (move g) (c .fits (suc g) (omega arith));
   some = λ g l. subst (λ (k : ℕ). 0 < bitOr (getD ws (k + 2) 0) (getD ws (k + 1) 0)) (move g) (c .some (suc g) (omega arith));
-  rises = λ g l. subst (λ (k : ℕ). getD ws (at + 3 + 3 * g) 0 < getD ws k 0) (move (suc g))
-      (subst (λ (k : ℕ). getD ws k 0 < getD ws (at + 3 * suc (suc g)) 0) (move g) (c .rises (suc g) (omega arith)));
+  rises = λ g l. subst (λ (k : ℕ). getD ws (at + groupLength + groupLength * g) 0 < getD ws k 0) (move (suc g))
+      (subst (λ (k : ℕ). getD ws k 0 < getD ws (at + groupLength * suc (suc g)) 0) (move g) (c .rises (suc g) (omega arith)));
 }
   where
-    move : (g : ℕ) → at + 3 * suc g ≡ at + 3 + 3 * g
+    move : (g : ℕ) → at + groupLength * suc g ≡ at + groupLength + groupLength * g
     move g = omega arith
 
 -- the first of them
@@ -42,7 +44,7 @@ record First (ws : List ℕ) (at n : ℕ) : Type 0 where
   present : getD ws (at + 1) 0 < 2 ^ 64
   absent : getD ws (at + 2) 0 < 2 ^ 64
   some : 0 < bitOr (getD ws (at + 2) 0) (getD ws (at + 1) 0)
-  rises : 0 < n → suc (getD ws at 0) ≤ getD ws (at + 3) 0
+  rises : 0 < n → suc (getD ws at 0) ≤ getD ws (at + groupLength) 0
 
 first-group : (ws : List ℕ) (at n : ℕ) → Canonical ws at (suc n) → First ws at n
 first-group ws at n c =
@@ -53,7 +55,7 @@ first-group ws at n c =
       present = subst (λ (k : ℕ). getD ws (k + 1) 0 < 2 ^ 64) e (f .0);
       absent = subst (λ (k : ℕ). getD ws (k + 2) 0 < 2 ^ 64) e (f .1);
       some = subst (λ (k : ℕ). 0 < bitOr (getD ws (k + 2) 0) (getD ws (k + 1) 0)) e s;
-      rises = λ l. subst (λ (k : ℕ). getD ws k 0 < getD ws (at + 3) 0) e (c .rises 0 (omega arith));
+      rises = λ l. subst (λ (k : ℕ). getD ws k 0 < getD ws (at + groupLength) 0) e (c .rises 0 (omega arith));
     }
 
 -- ---- a group before codes of a later word
@@ -61,22 +63,8 @@ abbrev HeadFrom : ℕ → List ℕ → Type 0
 HeadFrom k [] = Unit {0}
 HeadFrom k (c ∷ cs) = k ≤ wordOf (atom c)
 
--- the first group begins with the first code
-groups-first : (c : ℕ) (cs : List ℕ) → (ds : List ℕ) × (gs : List (List ℕ)) × (groups (c ∷ cs) ≡ (c ∷ ds) ∷ gs)
-unfolding groups enter
-groups-first c cs = go (groups cs)
-  where
-    go : (gs : List (List ℕ)) → (ds : List ℕ) × (hs : List (List ℕ)) × (enter c gs ≡ (c ∷ ds) ∷ hs)
-    go [] = ([], [], refl)
-    go ([] ∷ gs) = ([], gs, refl)
-    go ((d ∷ ds) ∷ gs) = by (eqb (wordOf (atom c)) (wordOf (atom d)))
-      where
-        by : (b : Bool) → (es : List ℕ) × (hs : List (List ℕ))
-            × ((elim b as (λ k. List (List ℕ)) [ true ↦ (c ∷ d ∷ ds) ∷ gs | false ↦ (c ∷ []) ∷ (d ∷ ds) ∷ gs ]) ≡ (c ∷ es) ∷ hs)
-        by true = (d ∷ ds, gs, refl)
-        by false = ([], (d ∷ ds) ∷ gs, refl)
-
-enter-other : (c d : ℕ) (ds : List ℕ) (gs : List (List ℕ)) → (wordOf (atom c) ≡ wordOf (atom d) → ⊥) → enter c ((d ∷ ds) ∷ gs) ≡ (c ∷ []) ∷ (d ∷ ds) ∷ gs
+enter-other : (c d : ℕ) (ds : List ℕ) (gs : List (List ℕ)) → (wordOf (atom c) ≡ wordOf (atom d) → ⊥)
+    → enter c ((d ∷ ds) ∷ gs) ≡ (c ∷ []) ∷ (d ∷ ds) ∷ gs
 unfolding enter
 enter-other c d ds gs f =
     ap (λ (b : Bool). elim b as (λ k. List (List ℕ)) [ true ↦ (c ∷ d ∷ ds) ∷ gs | false ↦ (c ∷ []) ∷ (d ∷ ds) ∷ gs ])
@@ -92,7 +80,7 @@ enter-last : (x c : ℕ) (cs : List ℕ) → wordOf (atom c) ≡ x → HeadFrom 
 unfolding groups enter
 enter-last x c [] e h = refl
 enter-last x c (d ∷ ds) e h =
-    let s = groups-first d ds in
+    let s = groups-head d ds in
     ap (enter c) (s .2) ∙ enter-other c d (s .0) (s .1) (λ q. omega arith) ∙ ap (λ (gs : List (List ℕ)). (c ∷ []) ∷ gs) (sym (s .2))
 
 groups-split : (x c : ℕ) (g cs : List ℕ) → OneWord x (c ∷ g) → HeadFrom (suc x) cs → groups (c ∷ (g ++ cs)) ≡ (c ∷ g) ∷ groups cs
@@ -129,11 +117,12 @@ head-literals ws at (suc n) k c h =
     let f = first-group ws at n c in
     let w = c .whole in
     subst (HeadFrom k) (sym (literals-group ws at n (omega arith)))
-    (head-codes (getD ws at 0) (getD ws (at + 1) 0) (getD ws (at + 2) 0) (f .present) (f .absent) (f .some) k (literalsAt true ws (at + 3) n) (h (omega arith)))
+    (head-codes (getD ws at 0) (getD ws (at + 1) 0) (getD ws (at + 2) 0) (f .present) (f .absent) (f .some) k
+    (literalsAt true ws (at + groupLength) n) (h (omega arith)))
 
 -- the groups of the codes of canonical words have those words
 pub group-words : (n : ℕ) (ws : List ℕ) (at : ℕ) → Canonical ws at n
-    → concat (map groupWords (groups (literalsAt true ws at n))) ≡ take (3 * n) (drop at ws)
+    → concat (map groupWords (groups (literalsAt true ws at n))) ≡ take (groupLength * n) (drop at ws)
 unfolding concat groups
 group-words zero ws at c = ap (λ (l : List ℕ). concat (map groupWords (groups l))) (literals-none true ws at 0 refl)
 group-words (suc n) ws at c =
@@ -143,12 +132,13 @@ group-words (suc n) ws at c =
     let f = first-group ws at n c in
     let w = c .whole in
     let t = canonical-tail ws at n c in
-    let cs : List ℕ = literalsAt true ws (at + 3) n in
-    let m : 3 * suc n ≡ suc (suc (suc (3 * n))) = omega arith in
+    let cs : List ℕ = literalsAt true ws (at + groupLength) n in
+    let m : groupLength * suc n ≡ suc (suc (suc (groupLength * n))) = omega arith in
     ap (λ (l : List ℕ). concat (map groupWords (groups l))) (literals-group ws at n (omega arith))
-    ∙ ap (λ (gs : List (List ℕ)). concat (map groupWords gs)) (split-codes x p a (f .present) (f .absent) (f .some) cs (head-literals ws (at + 3) n (suc x) t (f .rises)))
-    ∙ ap₂ (λ (u v : List ℕ). u ++ v) (words-of-codes x p a (f .present) (f .absent) (f .some)) (group-words n ws (at + 3) t)
-    ∙ sym (ap₂ (λ (k : ℕ) (l : List ℕ). take k l) m (three-words ws at (omega arith)))
+    ∙ ap (λ (gs : List (List ℕ)). concat (map groupWords gs))
+    (split-codes x p a (f .present) (f .absent) (f .some) cs (head-literals ws (at + groupLength) n (suc x) t (f .rises)))
+    ∙ ap₂ (λ (u v : List ℕ). u ++ v) (words-of-codes x p a (f .present) (f .absent) (f .some)) (group-words n ws (at + groupLength) t)
+    ∙ sym (ap₂ (λ (k : ℕ) (l : List ℕ). take k l) m (drop-three ws at (omega arith)))
 
 -- ---- the groups of an ascending list have rising indices
 abbrev RiseFrom : ℕ → List (List ℕ) → Type 0
@@ -196,5 +186,6 @@ rise-at k (x ∷ []) g f l = absurd (omega arith)
 rise-at k (x ∷ y ∷ gs) zero f l = f .1 .0
 rise-at k (x ∷ y ∷ gs) (suc g) f l = rise-at (suc (indexOf x)) (y ∷ gs) g (f .1) (omega arith)
 
-pub groups-rise : (cs : List ℕ) (g : ℕ) → Asc 0 cs → suc g < length (groups cs) → indexOf (getD (groups cs) g []) < indexOf (getD (groups cs) (suc g) [])
+pub groups-rise : (cs : List ℕ) (g : ℕ) → Asc 0 cs → suc g < length (groups cs)
+    → indexOf (getD (groups cs) g []) < indexOf (getD (groups cs) (suc g) [])
 groups-rise cs g a l = rise-at (wordOf (atom 0)) (groups cs) g (rise-groups 0 cs a) l

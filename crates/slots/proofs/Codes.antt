@@ -9,22 +9,22 @@ use native.Mathlib.Decide.{ℕ-discrete}
 use native.Mathlib.Omega.{arith}
 use lib.Bits.{bitAnd, bitOr, or-lt}
 use lib.Dec.{eqb}
-use Rattle.lists.specs.Lists.{select, count}
-use Rattle.lists.proofs.Selects.{select-cong, select-nothing, count-from}
+use Rattle.lists.specs.Lists.{select, range}
+use Rattle.lists.proofs.Selects.{select-cong, select-nothing, range-from}
+use Rattle.lists.proofs.Bools.{or-none, or-right}
 use Rattle.words.specs.Bit.{testBit, firstBit}
 use Rattle.words.specs.Literal.{atom, isPresent, wordOf, bitOf}
 use Rattle.words.proofs.Bits.{bit-or, parity}
-use Rattle.words.proofs.Bools.{or-none, or-right}
 use Rattle.words.proofs.Masks.{bit-of-zero, clear-same, clear-other, Lowest, first-bit-lowest}
 use Rattle.model.specs.Slots.{codesOf}
 use Rattle.model.proofs.Packing.{select-on, select-off}
 
 -- ---- choosing among the numbers from a on
-pub select-ext : (f g : ℕ → Bool) (n a : ℕ) → ((z : ℕ) → a ≤ z → z < a + n → f z ≡ g z) → select f (count a n) ≡ select g (count a n)
-select-ext f g n a h = select-cong f g (count a n) (λ z t. let k = count-from a n z t in h z (k .0) (k .1))
+pub select-ext : (f g : ℕ → Bool) (n a : ℕ) → ((z : ℕ) → a ≤ z → z < a + n → f z ≡ g z) → select f (range a n) ≡ select g (range a n)
+select-ext f g n a h = select-cong f g (range a n) (λ z t. let k = range-from a n z t in h z (k .0) (k .1))
 
-pub select-none : (f : ℕ → Bool) (n a : ℕ) → ((z : ℕ) → a ≤ z → z < a + n → f z ≡ false) → select f (count a n) ≡ []
-select-none f n a h = select-nothing f (count a n) (λ z t. let k = count-from a n z t in h z (k .0) (k .1))
+pub select-none : (f : ℕ → Bool) (n a : ℕ) → ((z : ℕ) → a ≤ z → z < a + n → f z ≡ false) → select f (range a n) ≡ []
+select-none f n a h = select-nothing f (range a n) (λ z t. let k = range-from a n z t in h z (k .0) (k .1))
 
 -- k is the first that f chooses, and g chooses the others
 pub record Splits (f g : ℕ → Bool) (k a n : ℕ) : Type 0 where
@@ -35,15 +35,15 @@ pub record Splits (f g : ℕ → Bool) (k a n : ℕ) : Type 0 where
   pub gone : g k ≡ false
   pub others : (z : ℕ) → a ≤ z → z < a + n → (z ≡ k → ⊥) → f z ≡ g z
 
-pub select-next : (f g : ℕ → Bool) (k n a : ℕ) → Splits f g k a n → select f (count a n) ≡ k ∷ select g (count a n)
+pub select-next : (f g : ℕ → Bool) (k n a : ℕ) → Splits f g k a n → select f (range a n) ≡ k ∷ select g (range a n)
 select-next f g k zero a s = let h = s .high in absurd (out (s .low) h)
   where
     out : a ≤ k → k < a + 0 → ⊥
     out l h = omega arith
 select-next f g k (suc n) a s = go (ℕ-discrete a k) (select-next f g k n (suc a))
   where
-    go : Dec (a ≡ k) → (Splits f g k (suc a) n → select f (count (suc a) n) ≡ k ∷ select g (count (suc a) n))
-        → select f (count a (suc n)) ≡ k ∷ select g (count a (suc n))
+    go : Dec (a ≡ k) → (Splits f g k (suc a) n → select f (range (suc a) n) ≡ k ∷ select g (range (suc a) n))
+        → select f (range a (suc n)) ≡ k ∷ select g (range a (suc n))
     go (yes e) ih =
         select-on f a n (ap f e ∙ s .chosen)
         ∙ ap₂ (λ (x : ℕ) (l : List ℕ). x ∷ l) e
@@ -67,7 +67,7 @@ select-next f g k (suc n) a s = go (ℕ-discrete a k) (select-next f g k n (suc 
 unfoldable pub chosenBy : ℕ → ℕ → ℕ → Bool
 chosenBy present absent c = testBit (elim (isPresent c) [ true ↦ present | false ↦ absent ]) (bitOf (atom c))
 
-pub codes-select : (x p a : ℕ) → codesOf x p a ≡ select (chosenBy p a) (count (2 * 64 * x) (2 * 64))
+pub codes-select : (x p a : ℕ) → codesOf x p a ≡ select (chosenBy p a) (range (2 * 64 * x) (2 * 64))
 unfolding codesOf chosenBy
 codes-select x p a = refl
 
@@ -82,7 +82,8 @@ module _ (x i : ℕ) (l : i < 64) where
       let b : (64 * x + i) % 64 ≡ i = omega arith in
       (ap (λ (k : ℕ). k / 64) h ∙ w, ap (λ (k : ℕ). eqb k 1) s, ap (λ (k : ℕ). k % 64) h ∙ b)
 
-  pub present-parts : (wordOf (atom (2 * (64 * x + i) + 1)) ≡ x) × (isPresent (2 * (64 * x + i) + 1) ≡ true) × (bitOf (atom (2 * (64 * x + i) + 1)) ≡ i)
+  pub present-parts : (wordOf (atom (2 * (64 * x + i) + 1)) ≡ x) × (isPresent (2 * (64 * x + i) + 1) ≡ true)
+      × (bitOf (atom (2 * (64 * x + i) + 1)) ≡ i)
   unfolding wordOf atom isPresent bitOf
   present-parts =
       let h : (2 * (64 * x + i) + 1) / 2 ≡ 64 * x + i = omega arith in
@@ -114,7 +115,8 @@ by-place P x even odd z l m = ⊎-elim (λ s. at0 s) (λ s. at1 s) (parity z)
     at1 s = let e : 2 * (64 * x + (z / 2 - 64 * x)) + 1 ≡ z = omega arith in subst P e (odd (z / 2 - 64 * x) (omega arith))
 
 -- equal bits, equal codes
-pub codes-ext : (x p a q b : ℕ) → ((i : ℕ) → i < 64 → (testBit p i ≡ testBit q i) × (testBit a i ≡ testBit b i)) → codesOf x p a ≡ codesOf x q b
+pub codes-ext : (x p a q b : ℕ) → ((i : ℕ) → i < 64 → (testBit p i ≡ testBit q i) × (testBit a i ≡ testBit b i))
+    → codesOf x p a ≡ codesOf x q b
 codes-ext x p a q b h =
     codes-select x p a
     ∙ select-ext (chosenBy p a) (chosenBy q b) (2 * 64) (2 * 64 * x)
@@ -172,7 +174,8 @@ module _ (x p a : ℕ) (hp : p < 2 ^ 64) (ha : a < 2 ^ 64) (some : 0 < bitOr a p
                 (λ i k m. chosen-present x p a i k ∙ under i (omega arith) .1) z i (omega (arith, l)) j;
             gone = chosen-absent x p b t l ∙ clear-same a t l;
             others = by-place (λ z. (z ≡ 2 * (64 * x + t) → ⊥) → chosenBy p a z ≡ chosenBy p b z) x
-                (λ i k d. chosen-absent x p a i k ∙ sym (clear-other a t i l k (λ q. d (ap (λ (j : ℕ). 2 * (64 * x + j)) q))) ∙ sym (chosen-absent x p b i k))
+                (λ i k d. chosen-absent x p a i k ∙ sym (clear-other a t i l k (λ q. d (ap (λ (j : ℕ). 2 * (64 * x + j)) q)))
+                ∙ sym (chosen-absent x p b i k))
                 (λ i k d. chosen-present x p a i k ∙ sym (chosen-present x p b i k));
           })
           ∙ ap (λ (r : List ℕ). 2 * (64 * x + t) ∷ r) (sym (codes-select x p b))
@@ -208,6 +211,7 @@ module _ (x p a : ℕ) (hp : p < 2 ^ 64) (ha : a < 2 ^ 64) (some : 0 < bitOr a p
             gone = chosen-present x q a t l ∙ clear-same p t l;
             others = by-place (λ z. (z ≡ 2 * (64 * x + t) + 1 → ⊥) → chosenBy p a z ≡ chosenBy q a z) x
                 (λ i k d. chosen-absent x p a i k ∙ sym (chosen-absent x q a i k))
-                (λ i k d. chosen-present x p a i k ∙ sym (clear-other p t i l k (λ s. d (ap (λ (j : ℕ). 2 * (64 * x + j) + 1) s))) ∙ sym (chosen-present x q a i k));
+                (λ i k d. chosen-present x p a i k ∙ sym (clear-other p t i l k (λ s. d (ap (λ (j : ℕ). 2 * (64 * x + j) + 1) s)))
+                ∙ sym (chosen-present x q a i k));
           })
           ∙ ap (λ (r : List ℕ). (2 * (64 * x + t) + 1) ∷ r) (sym (codes-select x q a))

@@ -7,6 +7,8 @@ use native.Mathlib.Omega.{arith}
 use lib.Bits.{bitOr}
 use lib.ListN.{length, getD, take, drop}
 use lib.Seq.{drop-cons}
+use Rattle.lists.proofs.Concats.{drop-three}
+use Rattle.model.specs.Records.{groupLength}
 use Rattle.model.specs.Slots.{codesOf, ungroup}
 use Rattle.slots.specs.declared.Side.{Side}
 use Rattle.slots.specs.declared.Cursor.{Cursor}
@@ -19,32 +21,23 @@ use Rattle.slots.proofs.Codes.{codes-none}
 pub literals-none : (b : Bool) (ws : List ℕ) (at n : ℕ) → n ≡ 0 → literalsAt b ws at n ≡ []
 unfolding literalsAt ungroup
 literals-none false ws at n e = ap (λ (k : ℕ). take k (drop at ws)) e
-literals-none true ws at n e = ap (λ (k : ℕ). ungroup (take (3 * k) (drop at ws))) e
+literals-none true ws at n e = ap (λ (k : ℕ). ungroup (take (groupLength * k) (drop at ws))) e
 
 -- the first code
-pub literals-code : (ws : List ℕ) (at n : ℕ) → at < length ws → literalsAt false ws at (suc n) ≡ getD ws at 0 ∷ literalsAt false ws (at + 1) n
+pub literals-code : (ws : List ℕ) (at n : ℕ) → at < length ws
+    → literalsAt false ws at (suc n) ≡ getD ws at 0 ∷ literalsAt false ws (at + 1) n
 unfolding literalsAt
 literals-code ws at n h =
     let e : suc at ≡ at + 1 = omega arith in
     ap (take (suc n)) (drop-cons ws at 0 h) ∙ ap (λ (k : ℕ). getD ws at 0 ∷ take n (drop k ws)) e
 
--- the first group
-pub three-words : (ws : List ℕ) (at : ℕ) → at + 3 ≤ length ws
-    → drop at ws ≡ getD ws at 0 ∷ getD ws (at + 1) 0 ∷ getD ws (at + 2) 0 ∷ drop (at + 3) ws
-three-words ws at h =
-    drop-one at (at + 1) (omega arith) (omega arith)
-    ∙ ap (λ (l : List ℕ). getD ws at 0 ∷ l) (drop-one (at + 1) (at + 2) (omega arith) (omega arith))
-    ∙ ap (λ (l : List ℕ). getD ws at 0 ∷ getD ws (at + 1) 0 ∷ l) (drop-one (at + 2) (at + 3) (omega arith) (omega arith))
-  where
-    drop-one : (i j : ℕ) → i < length ws → suc i ≡ j → drop i ws ≡ getD ws i 0 ∷ drop j ws
-    drop-one i j l e = drop-cons ws i 0 l ∙ ap (λ (k : ℕ). getD ws i 0 ∷ drop k ws) e
-
-pub literals-group : (ws : List ℕ) (at n : ℕ) → at + 3 ≤ length ws
-    → literalsAt true ws at (suc n) ≡ codesOf (getD ws at 0) (getD ws (at + 1) 0) (getD ws (at + 2) 0) ++ literalsAt true ws (at + 3) n
+pub literals-group : (ws : List ℕ) (at n : ℕ) → at + groupLength ≤ length ws
+    → literalsAt true ws at (suc n)
+    ≡ codesOf (getD ws at 0) (getD ws (at + 1) 0) (getD ws (at + 2) 0) ++ literalsAt true ws (at + groupLength) n
 unfolding literalsAt ungroup
 literals-group ws at n h =
-    let m : 3 * suc n ≡ suc (suc (suc (3 * n))) = omega arith in
-    ap₂ (λ (k : ℕ) (l : List ℕ). ungroup (take k l)) m (three-words ws at h)
+    let m : groupLength * suc n ≡ suc (suc (suc (groupLength * n))) = omega arith in
+    ap₂ (λ (k : ℕ) (l : List ℕ). ungroup (take k l)) m (drop-three ws at h)
 
 -- ---- the cursor's steps
 module _ (ws : List ℕ) (s : Side) (c : Cursor) where
@@ -76,9 +69,9 @@ module _ (ws : List ℕ) (s : Side) (c : Cursor) where
     abbrev pub loaded : Cursor
     loaded = record {
       next = c .next + 1;
-      word = getD ws (s .base + 3 * c .next) 0;
-      present = getD ws (s .base + 3 * c .next + 1) 0;
-      absent = getD ws (s .base + 3 * c .next + 2) 0;
+      word = getD ws (s .base + groupLength * c .next) 0;
+      present = getD ws (s .base + groupLength * c .next + 1) 0;
+      absent = getD ws (s .base + groupLength * c .next + 2) 0;
     }
 
     -- the cursor past one code
@@ -89,12 +82,12 @@ module _ (ws : List ℕ) (s : Side) (c : Cursor) where
       fewer : s .count - c .next ≡ suc (s .count - (c .next + 1))
       fewer = omega arith
 
-      pub rest-load : s .packed ≡ true → s .base + 3 * s .count ≤ length ws → rest ws s loaded ≡ rest ws s c
+      pub rest-load : s .packed ≡ true → s .base + groupLength * s .count ≤ length ws → rest ws s loaded ≡ rest ws s c
       unfolding rest
       rest-load e h =
-          let at : ℕ = s .base + 3 * c .next in
+          let at : ℕ = s .base + groupLength * c .next in
           let n : ℕ = s .count - (c .next + 1) in
-          let w : at + 3 ≡ s .base + 3 * (c .next + 1) = omega arith in
+          let w : at + groupLength ≡ s .base + groupLength * (c .next + 1) = omega arith in
           ap (λ (b : Bool). pend loaded ++ literalsAt b ws (wordAt b (s .base) (c .next + 1)) n) e
           ∙ ap (λ (k : ℕ). pend loaded ++ literalsAt true ws k n) (sym w)
           ∙ sym (literals-group ws at n (omega arith))

@@ -13,6 +13,7 @@ use Rattle.words.specs.Bit.{wordBits}
 use Rattle.words.specs.Literal.{atom, isPresent, wordOf, bitOf}
 use Rattle.words.specs.Region.{wordsFor, maxAtoms}
 use Rattle.words.proofs.Masks.{or-ge, or-ge-l}
+use Rattle.model.specs.Records.{groupLength}
 use Rattle.model.specs.Rows.{enter, groups}
 use Rattle.model.specs.Slots.{bitsOf, indexOf, groupWords, codesOf}
 use Rattle.model.proofs.Cover.{and-left, and-right}
@@ -100,16 +101,16 @@ pub record WordsAt (ws : List ℕ) (at : ℕ) (g : List ℕ) : Type 0 where
   pub absent : getD ws (at + 2) 0 ≡ bitsOf false g
 
 pub words-at : (gs : List (List ℕ)) (zs : List ℕ) (g : ℕ) → g < length gs
-    → WordsAt (concat (map groupWords gs) ++ zs) (3 * g) (getD gs g [])
+    → WordsAt (concat (map groupWords gs) ++ zs) (groupLength * g) (getD gs g [])
 unfolding concat groupWords
 words-at [] zs g h = absurd (omega arith)
 words-at (x ∷ xs) zs zero h = record { index = refl; present = refl; absent = refl }
 words-at (x ∷ xs) zs (suc g) h =
     let w = words-at xs zs g (omega arith) in
     let l : List ℕ = concat (map groupWords (x ∷ xs)) ++ zs in
-    let a : 3 * suc g ≡ suc (suc (suc (3 * g))) = omega arith in
-    let b : 3 * suc g + 1 ≡ suc (suc (suc (3 * g + 1))) = omega arith in
-    let c : 3 * suc g + 2 ≡ suc (suc (suc (3 * g + 2))) = omega arith in
+    let a : groupLength * suc g ≡ suc (suc (suc (groupLength * g))) = omega arith in
+    let b : groupLength * suc g + 1 ≡ suc (suc (suc (groupLength * g + 1))) = omega arith in
+    let c : groupLength * suc g + 2 ≡ suc (suc (suc (groupLength * g + 2))) = omega arith in
     record {
       index = ap (λ (i : ℕ). getD l i 0) a ∙ w .index;
       present = ap (λ (i : ℕ). getD l i 0) b ∙ w .present;

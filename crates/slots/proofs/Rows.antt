@@ -7,14 +7,24 @@ use lib.ListN.{length, getD, take, drop, length-map}
 use lib.Seq.{drop-drop}
 use Rattle.model.specs.Records.{Row, slotWords}
 use Rattle.model.specs.Slots.{rowIn, entryIn, entriesIn}
+use Rattle.model.specs.declared.Header.{Header}
 use Rattle.model.proofs.Slots.{entries-length}
-use Rattle.slots.specs.Layout.{slotAt, rowsIn}
+use Rattle.slots.specs.Layout.{slotAt, rowsIn, RowsOver}
+use Rattle.slots.specs.Standing.{Stands}
 
 -- as code cuts a slot out
 pub slot-code : (ws : List ℕ) (p : ℕ) → take (slotWords * p + slotWords - slotWords * p) (drop (slotWords * p) ws) ≡ slotAt ws p
 slot-code ws p =
     let e : slotWords * p + slotWords - slotWords * p ≡ slotWords = omega arith in
     ap (λ (n : ℕ). take n (drop (slotWords * p) ws)) e
+
+-- the slots of a ledger whose words stand hold its rows
+pub stands-rows : {h : Header} {slots postings : List ℕ} → Stands h slots postings → RowsOver (h .limits .atoms) (h .rows) slots
+stands-rows s = record {
+  few = omega (arith, s .few, s .most);
+  long = omega (arith, s .few, s .long);
+  stored = s .stored;
+}
 
 pub rows-length : (n : ℕ) (ws : List ℕ) → length (rowsIn n ws) ≡ n
 unfolding rowsIn
@@ -38,7 +48,8 @@ rows-next n ws p l =
     let e : n - p ≡ suc (n - (p + 1)) = omega arith in
     let s : slotWords * p + slotWords ≡ slotWords * (p + 1) = omega arith in
     ap (λ (k : ℕ). rowsIn k (drop (slotWords * p) ws)) e ∙ rows-cons (n - (p + 1)) (drop (slotWords * p) ws)
-    ∙ ap (λ (l : List ℕ). rowIn (slotAt ws p) ∷ rowsIn (n - (p + 1)) l) (drop-drop slotWords (slotWords * p) ws ∙ ap (λ (k : ℕ). drop k ws) s)
+    ∙ ap (λ (l : List ℕ). rowIn (slotAt ws p) ∷ rowsIn (n - (p + 1)) l)
+    (drop-drop slotWords (slotWords * p) ws ∙ ap (λ (k : ℕ). drop k ws) s)
 
 pub rows-none : (n : ℕ) (ws : List ℕ) (p : ℕ) → n ≤ p → rowsFrom n ws p ≡ []
 unfolding rowsFrom rowsIn entriesIn

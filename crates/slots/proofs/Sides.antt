@@ -5,6 +5,7 @@ use mathlib.Core.List.{List}
 use Prim.Native.Nat.{ℕ, _+_, _-_, _*_}
 use lib.ListN.{getD}
 use borrow.Author.Tests.{eq-eqb, ne-eqb}
+use Rattle.model.specs.Records.{conditionsAt, outputsAt, totalGroupsAt, conditionGroupsAt, bodyAt, groupLength}
 use Rattle.slots.specs.declared.Side.{Side}
 use Rattle.slots.specs.Layout.{conditionSide, outputSide}
 
@@ -15,24 +16,37 @@ abbrev pub grouped : ℕ → ℕ → Side
 grouped b n = record { packed = true; base = b; count = n }
 
 module _ (ws : List ℕ) where
-  pub condition-scalar : getD ws 2 0 ≡ 0 → conditionSide ws ≡ scalar 8 (getD ws 0 0)
+  pub condition-scalar : getD ws totalGroupsAt 0 ≡ 0 → conditionSide ws ≡ scalar bodyAt (getD ws conditionsAt 0)
   unfolding conditionSide
   condition-scalar e =
-      ap (λ (b : Bool). elim b as (λ k. Side) [ true ↦ scalar 8 (getD ws 0 0) | false ↦ grouped 8 (getD ws 3 0) ]) (eq-eqb (getD ws 2 0) 0 e)
+      ap (λ (b : Bool). elim b as (λ k. Side) [
+        | true ↦ scalar bodyAt (getD ws conditionsAt 0)
+        | false ↦ grouped bodyAt (getD ws conditionGroupsAt 0)
+      ]) (eq-eqb (getD ws totalGroupsAt 0) 0 e)
 
-  pub condition-packed : (getD ws 2 0 ≡ 0 → ⊥) → conditionSide ws ≡ grouped 8 (getD ws 3 0)
+  pub condition-packed : (getD ws totalGroupsAt 0 ≡ 0 → ⊥) → conditionSide ws ≡ grouped bodyAt (getD ws conditionGroupsAt 0)
   unfolding conditionSide
   condition-packed f =
-      ap (λ (b : Bool). elim b as (λ k. Side) [ true ↦ scalar 8 (getD ws 0 0) | false ↦ grouped 8 (getD ws 3 0) ]) (ne-eqb (getD ws 2 0) 0 f)
+      ap (λ (b : Bool). elim b as (λ k. Side) [
+        | true ↦ scalar bodyAt (getD ws conditionsAt 0)
+        | false ↦ grouped bodyAt (getD ws conditionGroupsAt 0)
+      ]) (ne-eqb (getD ws totalGroupsAt 0) 0 f)
 
-  pub output-scalar : getD ws 2 0 ≡ 0 → outputSide ws ≡ scalar (8 + getD ws 0 0) (getD ws 1 0)
+  pub output-scalar : getD ws totalGroupsAt 0 ≡ 0 → outputSide ws ≡ scalar (bodyAt + getD ws conditionsAt 0) (getD ws outputsAt 0)
   unfolding outputSide
   output-scalar e =
-      ap (λ (b : Bool). elim b as (λ k. Side) [ true ↦ scalar (8 + getD ws 0 0) (getD ws 1 0) | false ↦ grouped (8 + 3 * getD ws 3 0) (getD ws 2 0 - getD ws 3 0) ])
-      (eq-eqb (getD ws 2 0) 0 e)
+      ap (λ (b : Bool). elim b as (λ k. Side) [
+        | true ↦ scalar (bodyAt + getD ws conditionsAt 0) (getD ws outputsAt 0)
+        | false ↦ grouped (bodyAt + groupLength * getD ws conditionGroupsAt 0) (getD ws totalGroupsAt 0 - getD ws conditionGroupsAt 0)
+      ])
+      (eq-eqb (getD ws totalGroupsAt 0) 0 e)
 
-  pub output-packed : (getD ws 2 0 ≡ 0 → ⊥) → outputSide ws ≡ grouped (8 + 3 * getD ws 3 0) (getD ws 2 0 - getD ws 3 0)
+  pub output-packed : (getD ws totalGroupsAt 0 ≡ 0 → ⊥)
+      → outputSide ws ≡ grouped (bodyAt + groupLength * getD ws conditionGroupsAt 0) (getD ws totalGroupsAt 0 - getD ws conditionGroupsAt 0)
   unfolding outputSide
   output-packed f =
-      ap (λ (b : Bool). elim b as (λ k. Side) [ true ↦ scalar (8 + getD ws 0 0) (getD ws 1 0) | false ↦ grouped (8 + 3 * getD ws 3 0) (getD ws 2 0 - getD ws 3 0) ])
-      (ne-eqb (getD ws 2 0) 0 f)
+      ap (λ (b : Bool). elim b as (λ k. Side) [
+        | true ↦ scalar (bodyAt + getD ws conditionsAt 0) (getD ws outputsAt 0)
+        | false ↦ grouped (bodyAt + groupLength * getD ws conditionGroupsAt 0) (getD ws totalGroupsAt 0 - getD ws conditionGroupsAt 0)
+      ])
+      (ne-eqb (getD ws totalGroupsAt 0) 0 f)

@@ -9,28 +9,32 @@ use lib.Dec.{T}
 use lib.ListN.{length, getD, take, drop, replicate, length-append, length-replicate, length-drop, List·getD-append}
 use lib.Seq.{length-take-le, drop-drop, getD-drop, getD-take, getD-append-add, take-at, drop-at}
 use Rattle.lists.specs.Lists.{concat, pad, below, ascending}
+use Rattle.lists.proofs.Bools.{T-of}
 use Rattle.words.specs.Literal.{atom}
-use Rattle.words.proofs.Bools.{T-of}
 use Rattle.words.specs.Region.{maxAtoms, wordsFor}
-use Rattle.model.specs.Records.{Row, Entry, isRow, isRowOver, within, slotWords, maxConditions, maxOutputs}
+use Rattle.model.specs.Records.{Row, Entry, isRow, isRowOver, within, maxConditions, maxOutputs}
+use Rattle.model.specs.Records.{conditionsAt, outputsAt, totalGroupsAt, conditionGroupsAt, deliveredAt, bodyAt, groupLength, bodyWords}
+use Rattle.model.specs.Records.{slotWords}
 use Rattle.model.specs.Rows.{groups, groupCount, packed}
 use Rattle.model.specs.Slots.{bitsOf, codesOf, groupWords, ifPacked, flag, body, slotOf, rowIn, entryIn}
 use Rattle.model.proofs.Cover.{and-left, and-right}
 use Rattle.model.proofs.Packing.{Asc, Under, groups-fit}
-use Rattle.model.proofs.Slots.{Valid, valid-of, ascending-asc, packed-lt, packed-some, row-there, slot-length, entry-there}
+use Rattle.model.proofs.Slots.{Valid, valid-of, ascending-asc, packed-lt, packed-some, row-there, slot-length, entry-there, body-groups}
 use Rattle.slots.specs.declared.Side.{Side}
 use Rattle.slots.specs.Cursor.{literalsAt, listOf, Sound}
 use Rattle.slots.specs.Layout.{conditionSide, outputSide, Counted, Laid, Stored, proposal}
-use Rattle.slots.proofs.Groups.{Each, each-at, each-append, Headed, below-under, groups-headed, headed-index, headed-some, words-for-le, InWord, fits-codes, WordsAt, words-at}
+use Rattle.slots.proofs.Groups.{Each, each-at, each-append, Headed, below-under, groups-headed, headed-index, headed-some}
+use Rattle.slots.proofs.Groups.{words-for-le, InWord, fits-codes, WordsAt, words-at}
 use Rattle.slots.proofs.Words.{Apart, groups-apart}
-use Rattle.slots.proofs.Laying.{laid-scalar, laid-packed, Filled, if-scalar, if-packed, body-packed}
+use Rattle.slots.proofs.Laying.{laid-scalar, laid-packed, Filled, if-scalar, if-packed}
 use Rattle.slots.proofs.Sides.{grouped, condition-scalar, condition-packed, output-scalar, output-packed}
 
 -- ---- a row over n atoms: its codes are below 2n
 pub row-under : (n : ℕ) (r : Row) → T (isRow n r) → Under (2 * n) (r .conditions) × Under (2 * n) (r .outputs)
 unfolding isRow isRowOver
 row-under n r t =
-    let both = and-left (below (2 * n) (r .conditions) && below (2 * n) (r .outputs)) (ascending (map atom (r .conditions)) && ascending (r .outputs))
+    let both = and-left (below (2 * n) (r .conditions) && below (2 * n) (r .outputs))
+    (ascending (map atom (r .conditions)) && ascending (r .outputs))
     (and-right (within maxConditions maxOutputs r) _ t) in (
       below-under (2 * n) (r .conditions) (and-left (below (2 * n) (r .conditions)) (below (2 * n) (r .outputs)) both),
       below-under (2 * n) (r .outputs) (and-right (below (2 * n) (r .conditions)) (below (2 * n) (r .outputs)) both),
@@ -55,26 +59,27 @@ module _ (e : Entry) where
   abbrev go : List (List ℕ)
   go = groups (r .outputs)
 
-  slot-conditions : getD (slotOf e) 0 0 ≡ length (r .conditions)
+  slot-conditions : getD (slotOf e) conditionsAt 0 ≡ length (r .conditions)
   unfolding slotOf pad
   slot-conditions = refl
 
-  slot-outputs : getD (slotOf e) 1 0 ≡ length (r .outputs)
+  slot-outputs : getD (slotOf e) outputsAt 0 ≡ length (r .outputs)
   unfolding slotOf pad
   slot-outputs = refl
 
-  slot-forms : getD (slotOf e) 2 0 ≡ ifPacked r (groupCount r) × getD (slotOf e) 3 0 ≡ ifPacked r (length gc)
+  slot-forms : getD (slotOf e) totalGroupsAt 0 ≡ ifPacked r (groupCount r) × getD (slotOf e) conditionGroupsAt 0 ≡ ifPacked r (length gc)
   unfolding slotOf pad
   slot-forms = (refl, refl)
 
-  pub slot-scalar : packed r ≡ false → (getD (slotOf e) 2 0 ≡ 0) × (getD (slotOf e) 3 0 ≡ 0)
+  pub slot-scalar : packed r ≡ false → (getD (slotOf e) totalGroupsAt 0 ≡ 0) × (getD (slotOf e) conditionGroupsAt 0 ≡ 0)
   slot-scalar k = (slot-forms .0 ∙ if-scalar r (groupCount r) k, slot-forms .1 ∙ if-scalar r (length gc) k)
 
-  pub slot-packed : packed r ≡ true → (getD (slotOf e) 2 0 ≡ length gc + length go) × (getD (slotOf e) 3 0 ≡ length gc)
+  pub slot-packed : packed r ≡ true
+      → (getD (slotOf e) totalGroupsAt 0 ≡ length gc + length go) × (getD (slotOf e) conditionGroupsAt 0 ≡ length gc)
   unfolding groupCount
   slot-packed k = (slot-forms .0 ∙ if-packed r (groupCount r) k, slot-forms .1 ∙ if-packed r (length gc) k)
 
-  pub slot-told : getD (slotOf e) 7 0 ≤ 1
+  pub slot-told : getD (slotOf e) deliveredAt 0 ≤ 1
   unfolding slotOf pad flag
   slot-told = go (e .delivered)
     where
@@ -85,35 +90,37 @@ module _ (e : Entry) where
   rest-zeros : List ℕ
   rest-zeros = replicate (slotWords - suc (suc (suc (suc (suc (suc (suc (suc (length (body r)))))))))) 0
 
-  slot-whole : drop 8 (slotOf e) ≡ body r ++ rest-zeros
+  slot-whole : drop bodyAt (slotOf e) ≡ body r ++ rest-zeros
   unfolding slotOf pad rest-zeros
   slot-whole = refl
 
   -- the words after the body are zero
-  pub slot-unused : drop (8 + length (body r)) (slotOf e) ≡ replicate (slotWords - (8 + length (body r))) 0
+  pub slot-unused : drop (bodyAt + length (body r)) (slotOf e) ≡ replicate (slotWords - (bodyAt + length (body r))) 0
   unfolding rest-zeros
   slot-unused =
-      let n : slotWords - suc (suc (suc (suc (suc (suc (suc (suc (length (body r))))))))) ≡ slotWords - (8 + length (body r)) = omega arith in
-      sym (drop-drop (length (body r)) 8 (slotOf e)) ∙ ap (drop (length (body r))) slot-whole
+      let n : slotWords - suc (suc (suc (suc (suc (suc (suc (suc (length (body r))))))))) ≡ slotWords - (bodyAt + length (body r)) =
+      omega arith in
+      sym (drop-drop (length (body r)) bodyAt (slotOf e)) ∙ ap (drop (length (body r))) slot-whole
       ∙ drop-at (body r) rest-zeros (length (body r)) refl ∙ ap (λ (k : ℕ). replicate k 0) n
 
-  slot-body : packed r ≡ true → drop 8 (slotOf e) ≡ concat (map groupWords (gc ++ go)) ++ rest-zeros
-  slot-body k = slot-whole ∙ ap (λ (b : List ℕ). b ++ rest-zeros) (body-packed r k)
+  slot-body : packed r ≡ true → drop bodyAt (slotOf e) ≡ concat (map groupWords (gc ++ go)) ++ rest-zeros
+  slot-body k = slot-whole ∙ ap (λ (b : List ℕ). b ++ rest-zeros) (body-groups r k)
 
-  slot-words : packed r ≡ true → (g : ℕ) → g < length (gc ++ go) → WordsAt (slotOf e) (8 + 3 * g) (getD (gc ++ go) g [])
+  slot-words : packed r ≡ true → (g : ℕ) → g < length (gc ++ go) → WordsAt (slotOf e) (bodyAt + groupLength * g) (getD (gc ++ go) g [])
   slot-words k g h =
       let w = words-at (gc ++ go) rest-zeros g h in
-      let one : 8 + (3 * g + 1) ≡ 8 + 3 * g + 1 = omega arith in
-      let two : 8 + (3 * g + 2) ≡ 8 + 3 * g + 2 = omega arith in
+      let one : bodyAt + (groupLength * g + 1) ≡ bodyAt + groupLength * g + 1 = omega arith in
+      let two : bodyAt + (groupLength * g + 2) ≡ bodyAt + groupLength * g + 2 = omega arith in
       record {
-        index = from (3 * g) (8 + 3 * g) refl ∙ w .index;
-        present = from (3 * g + 1) (8 + 3 * g + 1) one ∙ w .present;
-        absent = from (3 * g + 2) (8 + 3 * g + 2) two ∙ w .absent;
+        index = from (groupLength * g) (bodyAt + groupLength * g) refl ∙ w .index;
+        present = from (groupLength * g + 1) (bodyAt + groupLength * g + 1) one ∙ w .present;
+        absent = from (groupLength * g + 2) (bodyAt + groupLength * g + 2) two ∙ w .absent;
       }
     where
-      from : (i j : ℕ) → 8 + i ≡ j → getD (slotOf e) j 0 ≡ getD (concat (map groupWords (gc ++ go)) ++ rest-zeros) i 0
+      from : (i j : ℕ) → bodyAt + i ≡ j → getD (slotOf e) j 0 ≡ getD (concat (map groupWords (gc ++ go)) ++ rest-zeros) i 0
       from i j q =
-          ap (λ (m : ℕ). getD (slotOf e) m 0) (sym q) ∙ sym (getD-drop 8 (slotOf e) i 0) ∙ ap (λ (l : List ℕ). getD l i 0) (slot-body k)
+          ap (λ (m : ℕ). getD (slotOf e) m 0) (sym q) ∙ sym (getD-drop bodyAt (slotOf e) i 0)
+          ∙ ap (λ (l : List ℕ). getD l i 0) (slot-body k)
 
 -- ---- a row's slot is laid out
 filled-at : (n : ℕ) (ws : List ℕ) (at : ℕ) (g : List ℕ) → n ≤ maxAtoms → Headed (2 * n) g → WordsAt ws at g → Filled ws at
@@ -144,17 +151,17 @@ module _ (n : ℕ) (e : Entry) (ok : T (isRow n (e .row))) (small : n ≤ maxAto
       ws : List ℕ
       ws = slotOf e
 
-      few : getD ws 0 0 ≤ maxConditions
+      few : getD ws conditionsAt 0 ≤ maxConditions
       few = subst (λ (m : ℕ). m ≤ maxConditions) (sym (slot-conditions e)) (valid .few)
 
-      most : getD ws 1 0 ≤ maxOutputs
+      most : getD ws outputsAt 0 ≤ maxOutputs
       most = subst (λ (m : ℕ). m ≤ maxOutputs) (sym (slot-outputs e)) (valid .many)
 
       form : (b : Bool) → packed (e .row) ≡ b → Laid ws
       form false k =
           let z = slot-scalar e k in
-          let p : getD ws 3 0 ≤ getD ws 2 0 = let x = z .0 in let y = z .1 in omega arith in
-          let w : 3 * getD ws 2 0 ≤ slotWords - 8 = let x = z .0 in omega arith in
+          let p : getD ws conditionGroupsAt 0 ≤ getD ws totalGroupsAt 0 = let x = z .0 in let y = z .1 in omega arith in
+          let w : groupLength * getD ws totalGroupsAt 0 ≤ bodyWords = let x = z .0 in omega arith in
           laid-scalar ws (slot-length e valid) (record { few = few; most = most; parts = p; words = w }) (z .0)
       form true k =
           let z = slot-packed e k in
@@ -164,11 +171,11 @@ module _ (n : ℕ) (e : Entry) (ok : T (isRow n (e .row))) (small : n ≤ maxAto
           let some = packed-some (e .row) (T-of k) in
           let a = valid .few in
           let b = valid .many in
-          let p : getD ws 3 0 ≤ getD ws 2 0 = omega arith in
-          let w : 3 * getD ws 2 0 ≤ slotWords - 8 = omega arith in
+          let p : getD ws conditionGroupsAt 0 ≤ getD ws totalGroupsAt 0 = omega arith in
+          let w : groupLength * getD ws totalGroupsAt 0 ≤ bodyWords = omega arith in
           let l = length-append cs os in
           laid-packed ws (slot-length e valid) (record { few = few; most = most; parts = p; words = w }) (λ q. omega arith)
-          (λ g h. filled-at n ws (8 + 3 * g) (getD (cs ++ os) g []) small
+          (λ g h. filled-at n ws (bodyAt + groupLength * g) (getD (cs ++ os) g []) small
           (each-at (Headed (2 * n)) (cs ++ os) g (each-append (Headed (2 * n)) cs os headed-conditions headed-outputs) (omega arith))
           (slot-words e k g (omega arith)))
           (ap (λ (x : Row). length (x .conditions)) (row-there e valid) ∙ sym (slot-conditions e))
@@ -185,10 +192,11 @@ module _ (n : ℕ) (e : Entry) (ok : T (isRow n (e .row))) (small : n ≤ maxAto
 pub record Grouped (n : ℕ) (ws : List ℕ) (s : Side) (gs : List (List ℕ)) : Type 0 where
   pub form : s .packed ≡ true
   pub count : s .count ≡ length gs
-  pub words : (g : ℕ) → g < length gs → WordsAt ws (s .base + 3 * g) (getD gs g [])
-  pub inside : (g : ℕ) → g < length gs → getD ws (s .base + 3 * g) 0 < wordsFor n
+  pub words : (g : ℕ) → g < length gs → WordsAt ws (s .base + groupLength * g) (getD gs g [])
+  pub inside : (g : ℕ) → g < length gs → getD ws (s .base + groupLength * g) 0 < wordsFor n
   pub codes : (g : ℕ) → g < length gs
-      → getD gs g [] ≡ codesOf (getD ws (s .base + 3 * g) 0) (getD ws (s .base + 3 * g + 1) 0) (getD ws (s .base + 3 * g + 2) 0)
+      → getD gs g [] ≡ codesOf (getD ws (s .base + groupLength * g) 0) (getD ws (s .base + groupLength * g + 1) 0)
+      (getD ws (s .base + groupLength * g + 2) 0)
 
 codes-of-words : (ws : List ℕ) (at : ℕ) (g : List ℕ) → WordsAt ws at g → InWord g
     → g ≡ codesOf (getD ws at 0) (getD ws (at + 1) 0) (getD ws (at + 2) 0)
@@ -197,25 +205,27 @@ codes-of-words ws at g w i =
     ∙ ap₂ (λ (p a : ℕ). codesOf (getD ws at 0) p a) (sym (w .present)) (sym (w .absent))
 
 grouped-of : (n : ℕ) (ws : List ℕ) (b k : ℕ) (gs : List (List ℕ)) → k ≡ length gs → Each InWord gs → Each (Headed (2 * n)) gs
-    → ((g : ℕ) → g < length gs → WordsAt ws (b + 3 * g) (getD gs g [])) → Grouped n ws (grouped b k) gs
+    → ((g : ℕ) → g < length gs → WordsAt ws (b + groupLength * g) (getD gs g [])) → Grouped n ws (grouped b k) gs
 grouped-of n ws b k gs e i h w = record {
   form = refl;
   count = e;
   words = w;
   inside = λ g l. let x = headed-index n (getD gs g []) (each-at (Headed (2 * n)) gs g h l) in let y = w g l .index in omega arith;
-  codes = λ g l. codes-of-words ws (b + 3 * g) (getD gs g []) (w g l) (each-at InWord gs g i l);
+  codes = λ g l. codes-of-words ws (b + groupLength * g) (getD gs g []) (w g l) (each-at InWord gs g i l);
 }
 
 -- ---- a slot that a ledger holds
 module _ (n : ℕ) (e : Entry) (ok : T (isRow n (e .row))) (small : n ≤ maxAtoms) where
   slot-grouped : packed (e .row) ≡ true
-      → Grouped n (slotOf e) (conditionSide (slotOf e)) (groups (e .row .conditions)) × Grouped n (slotOf e) (outputSide (slotOf e)) (groups (e .row .outputs))
+      → Grouped n (slotOf e) (conditionSide (slotOf e)) (groups (e .row .conditions))
+      × Grouped n (slotOf e) (outputSide (slotOf e)) (groups (e .row .outputs))
   slot-grouped k = (
     subst (λ (s : Side). Grouped n ws s cs) (sym (condition-packed ws some))
-        (grouped-of n ws 8 (getD ws 3 0) cs part (fits-codes 0 cs (groups-fit 0 (e .row .conditions) (v .conditions)))
+        (grouped-of n ws bodyAt (getD ws conditionGroupsAt 0) cs part (fits-codes 0 cs (groups-fit 0 (e .row .conditions) (v .conditions)))
         (headed-conditions n e ok small) first),
     subst (λ (s : Side). Grouped n ws s os) (sym (output-packed ws some))
-        (grouped-of n ws (8 + 3 * getD ws 3 0) (getD ws 2 0 - getD ws 3 0) os rest (fits-codes 0 os (groups-fit 0 (e .row .outputs) (v .outputs)))
+        (grouped-of n ws (bodyAt + groupLength * getD ws conditionGroupsAt 0) (getD ws totalGroupsAt 0 - getD ws conditionGroupsAt 0) os
+        rest (fits-codes 0 os (groups-fit 0 (e .row .outputs) (v .outputs)))
         (headed-outputs n e ok small) second),
   )
     where
@@ -231,29 +241,30 @@ module _ (n : ℕ) (e : Entry) (ok : T (isRow n (e .row))) (small : n ≤ maxAto
       v : Valid (e .row)
       v = valid-of n (e .row) ok
 
-      total : getD ws 2 0 ≡ length cs + length os
+      total : getD ws totalGroupsAt 0 ≡ length cs + length os
       total = slot-packed e k .0
 
-      part : getD ws 3 0 ≡ length cs
+      part : getD ws conditionGroupsAt 0 ≡ length cs
       part = slot-packed e k .1
 
-      rest : getD ws 2 0 - getD ws 3 0 ≡ length os
+      rest : getD ws totalGroupsAt 0 - getD ws conditionGroupsAt 0 ≡ length os
       rest = let x = total in let y = part in omega arith
 
-      some : getD ws 2 0 ≡ 0 → ⊥
+      some : getD ws totalGroupsAt 0 ≡ 0 → ⊥
       some q = let x = packed-some (e .row) (T-of k) in let y = total in omega arith
 
-      first : (g : ℕ) → g < length cs → WordsAt ws (8 + 3 * g) (getD cs g [])
+      first : (g : ℕ) → g < length cs → WordsAt ws (bodyAt + groupLength * g) (getD cs g [])
       first g l =
-          subst (WordsAt ws (8 + 3 * g)) (List·getD-append cs os [] g l)
+          subst (WordsAt ws (bodyAt + groupLength * g)) (List·getD-append cs os [] g l)
           (slot-words e k g (let x = length-append cs os in omega arith))
 
-      second : (g : ℕ) → g < length os → WordsAt ws (8 + 3 * getD ws 3 0 + 3 * g) (getD os g [])
+      second : (g : ℕ) → g < length os → WordsAt ws (bodyAt + groupLength * getD ws conditionGroupsAt 0 + groupLength * g) (getD os g [])
       second g l =
           let q = part in
-          let at : 8 + 3 * (length cs + g) ≡ 8 + 3 * getD ws 3 0 + 3 * g = omega arith in
+          let at : bodyAt + groupLength * (length cs + g) ≡ bodyAt + groupLength * getD ws conditionGroupsAt 0 + groupLength * g =
+          omega arith in
           subst (λ (i : ℕ). WordsAt ws i (getD os g [])) at
-          (subst (WordsAt ws (8 + 3 * (length cs + g))) (getD-append-add cs os g [])
+          (subst (WordsAt ws (bodyAt + groupLength * (length cs + g))) (getD-append-add cs os g [])
           (slot-words e k (length cs + g) (let x = length-append cs os in omega arith)))
 
   slot-form : (conditionSide (slotOf e) .packed ≡ packed (e .row)) × (outputSide (slotOf e) .packed ≡ packed (e .row))
@@ -281,17 +292,19 @@ module _ (n : ℕ) (ws : List ℕ) (s : Stored n ws) where
       → Grouped n ws (conditionSide ws) (groups (rowIn ws .conditions)) × Grouped n ws (outputSide ws) (groups (rowIn ws .outputs))
   unfolding entryIn
   grouped-stored k =
-      subst (λ (l : List ℕ). Grouped n l (conditionSide l) (groups (rowIn ws .conditions)) × Grouped n l (outputSide l) (groups (rowIn ws .outputs))) (s .same)
+      subst (λ (l : List ℕ). Grouped n l (conditionSide l) (groups (rowIn ws .conditions))
+      × Grouped n l (outputSide l) (groups (rowIn ws .outputs))) (s .same)
       (slot-grouped n (entryIn ws) (s .row) (s .atoms) k)
 
   -- no atom of a group of conditions has both signs
   pub conditions-apart : packed (rowIn ws) ≡ true → (g : ℕ) → g < length (groups (rowIn ws .conditions))
-      → bitAnd (getD ws (conditionSide ws .base + 3 * g + 1) 0) (getD ws (conditionSide ws .base + 3 * g + 2) 0) ≡ 0
+      → bitAnd (getD ws (conditionSide ws .base + groupLength * g + 1) 0) (getD ws (conditionSide ws .base + groupLength * g + 2) 0) ≡ 0
   conditions-apart k g l =
       let w = grouped-stored k .0 .words g l in
       let v = valid-of n (rowIn ws) (s .row) in
       ap₂ bitAnd (w .present) (w .absent)
-      ∙ each-at Apart (groups (rowIn ws .conditions)) g (groups-apart (rowIn ws .conditions) (v .conditions) (row-atoms n (rowIn ws) (s .row))) l
+      ∙ each-at Apart (groups (rowIn ws .conditions)) g
+      (groups-apart (rowIn ws .conditions) (v .conditions) (row-atoms n (rowIn ws) (s .row))) l
 
 -- ---- the codes of a scalar side
 pub record Singles (ws : List ℕ) (s : Side) (cs : List ℕ) : Type 0 where
@@ -330,13 +343,18 @@ proposal-length r v =
     let n : ℕ = suc (suc (suc (suc (suc (suc (suc (suc (length (r .conditions ++ r .outputs))))))))) in
     let few = v .few in
     let many = v .many in
-    omega (arith, length-append (r .conditions) (r .outputs), length-append (r .conditions ++ r .outputs) (replicate (slotWords - n) 0), length-replicate {A = ℕ} (slotWords - n) 0)
+    omega (
+      arith,
+      length-append (r .conditions) (r .outputs),
+      length-append (r .conditions ++ r .outputs) (replicate (slotWords - n) 0),
+      length-replicate {A = ℕ} (slotWords - n) 0,
+    )
 
 pub laid-proposal : (r : Row) → Valid r → Laid (proposal r)
 unfolding proposal pad
 laid-proposal r v = laid-scalar (proposal r) (proposal-length r v) counts zero-groups
   where
-    zero-groups : getD (proposal r) 2 0 ≡ 0
+    zero-groups : getD (proposal r) totalGroupsAt 0 ≡ 0
     zero-groups = refl
 
     counts : Counted (proposal r)

@@ -10,45 +10,48 @@ use lib.Bits.{bitAnd, bitOr, or-lt, and-le-l}
 use lib.Dec.{eqb}
 use lib.Pow.{pow-pos, pow-lt}
 use borrow.Author.Tests.{eq-eqb, ne-eqb}
-use Rattle.lists.specs.Lists.{select, count}
+use Rattle.lists.specs.Lists.{select, range}
+use Rattle.lists.proofs.Bools.{not-both}
 use Rattle.words.specs.Bit.{testBit, firstBit}
 use Rattle.words.specs.Literal.{atom, isPresent, wordOf, bitOf}
 use Rattle.words.proofs.Bits.{bit-and, bit-ext, bit-none}
 use Rattle.words.proofs.Literals.{bit-of-lt}
-use Rattle.words.proofs.Bools.{not-both}
 use Rattle.model.specs.Rows.{enter, groups}
 use Rattle.model.specs.Slots.{bitsOf, indexOf, codesOf}
 use Rattle.model.proofs.Cover.{member}
 use Rattle.model.proofs.Packing.{Asc, asc-less, OneWord, Fits, groups-fit, select-on, select-off, select-zero, bits-member, word-in}
 use Rattle.slots.proofs.Groups.{Each}
-use Rattle.slots.proofs.Codes.{chosenBy, codes-select, absent-parts, present-parts, chosen-absent, chosen-present, first-absent, first-present}
+use Rattle.slots.proofs.Codes.{chosenBy, codes-select, absent-parts, present-parts, chosen-absent, chosen-present, first-absent}
+use Rattle.slots.proofs.Codes.{first-present}
 
 -- ---- what is chosen is what passes
-member-before : (f : ℕ → Bool) (z n a : ℕ) → z < a → member z (select f (count a n)) ≡ false
+member-before : (f : ℕ → Bool) (z n a : ℕ) → z < a → member z (select f (range a n)) ≡ false
 unfolding member
 member-before f z zero a h = ap (member z) (select-zero f a)
 member-before f z (suc n) a h = go (f a) refl (member-before f z n (suc a) (omega arith))
   where
-    go : (b : Bool) → f a ≡ b → member z (select f (count (suc a) n)) ≡ false → member z (select f (count a (suc n))) ≡ false
+    go : (b : Bool) → f a ≡ b → member z (select f (range (suc a) n)) ≡ false → member z (select f (range a (suc n))) ≡ false
     go true e ih = ap (member z) (select-on f a n e) ∙ ap₂ (λ (x y : Bool). x || y) (ne-eqb z a (λ q. omega arith)) ih
     go false e ih = ap (member z) (select-off f a n e) ∙ ih
 
-member-select : (f : ℕ → Bool) (z n a : ℕ) → a ≤ z → z < a + n → member z (select f (count a n)) ≡ f z
+member-select : (f : ℕ → Bool) (z n a : ℕ) → a ≤ z → z < a + n → member z (select f (range a n)) ≡ f z
 unfolding member
 member-select f z zero a h k = absurd (omega arith)
 member-select f z (suc n) a h k = go (f a) refl (ℕ-discrete z a) (λ l. member-select f z n (suc a) l (omega arith))
   where
-    go : (b : Bool) → f a ≡ b → Dec (z ≡ a) → (suc a ≤ z → member z (select f (count (suc a) n)) ≡ f z) → member z (select f (count a (suc n))) ≡ f z
-    go true e (yes q) ih = ap (member z) (select-on f a n e) ∙ ap (λ (x : Bool). x || member z (select f (count (suc a) n))) (eq-eqb z a q) ∙ sym (ap f q ∙ e)
+    go : (b : Bool) → f a ≡ b → Dec (z ≡ a) → (suc a ≤ z → member z (select f (range (suc a) n)) ≡ f z)
+        → member z (select f (range a (suc n))) ≡ f z
+    go true e (yes q) ih =
+        ap (member z) (select-on f a n e) ∙ ap (λ (x : Bool). x || member z (select f (range (suc a) n))) (eq-eqb z a q) ∙ sym (ap f q ∙ e)
     go true e (no d) ih = ap (member z) (select-on f a n e) ∙ ap₂ (λ (x y : Bool). x || y) (ne-eqb z a d) (ih (omega arith))
     go false e (yes q) ih = ap (member z) (select-off f a n e) ∙ member-before f z n (suc a) (omega arith) ∙ sym (ap f q ∙ e)
     go false e (no d) ih = ap (member z) (select-off f a n e) ∙ ih (omega arith)
 
-one-word-select : (f : ℕ → Bool) (x n a : ℕ) → ((z : ℕ) → a ≤ z → z < a + n → wordOf (atom z) ≡ x) → OneWord x (select f (count a n))
+one-word-select : (f : ℕ → Bool) (x n a : ℕ) → ((z : ℕ) → a ≤ z → z < a + n → wordOf (atom z) ≡ x) → OneWord x (select f (range a n))
 one-word-select f x zero a h = subst (OneWord x) (sym (select-zero f a)) tt
 one-word-select f x (suc n) a h = go (f a) refl (one-word-select f x n (suc a) (λ z l m. h z (omega arith) (omega arith)))
   where
-    go : (b : Bool) → f a ≡ b → OneWord x (select f (count (suc a) n)) → OneWord x (select f (count a (suc n)))
+    go : (b : Bool) → f a ≡ b → OneWord x (select f (range (suc a) n)) → OneWord x (select f (range a (suc n)))
     go true e ih = subst (OneWord x) (sym (select-on f a n e)) (h a (le-refl a) (omega arith), ih)
     go false e ih = subst (OneWord x) (sym (select-off f a n e)) ih
 
@@ -75,7 +78,8 @@ unfolding bitsOf
 bits-lt s [] = pow-pos 64
 bits-lt s (c ∷ cs) = go (Bool·beq s (isPresent c)) (bits-lt s cs)
   where
-    go : (b : Bool) → bitsOf s cs < 2 ^ 64 → (elim b as (λ k. ℕ) [ true ↦ bitOr (2 ^ bitOf (atom c)) (bitsOf s cs) | false ↦ bitsOf s cs ]) < 2 ^ 64
+    go : (b : Bool) → bitsOf s cs < 2 ^ 64
+        → (elim b as (λ k. ℕ) [ true ↦ bitOr (2 ^ bitOf (atom c)) (bitsOf s cs) | false ↦ bitsOf s cs ]) < 2 ^ 64
     go true h = or-lt 64 (2 ^ bitOf (atom c)) (bitsOf s cs) (pow-lt (bit-of-lt (atom c))) h
     go false h = h
 
@@ -156,7 +160,8 @@ both-signs k y z (c ∷ cs) a q f m n = go (ℕ-discrete y c) (ℕ-discrete z c)
 pub signs-apart : (x k : ℕ) (g : List ℕ) → OneWord x g → Asc k (map atom g) → bitAnd (bitsOf true g) (bitsOf false g) ≡ 0
 signs-apart x k g w a =
     bit-none 64 (bitAnd (bitsOf true g) (bitsOf false g)) (lt-of-le-of-lt (and-le-l (bitsOf true g) (bitsOf false g)) (bits-lt true g))
-    (λ i l. bit-and (bitsOf true g) (bitsOf false g) i ∙ not-both (testBit (bitsOf true g) i) (testBit (bitsOf false g) i) (λ p q. off i l p q))
+    (λ i l. bit-and (bitsOf true g) (bitsOf false g) i
+    ∙ not-both (testBit (bitsOf true g) i) (testBit (bitsOf false g) i) (λ p q. off i l p q))
   where
     off : (i : ℕ) → i < 64 → testBit (bitsOf true g) i ≡ true → testBit (bitsOf false g) i ≡ true → ⊥
     off i l p q =

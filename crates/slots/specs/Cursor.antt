@@ -1,34 +1,32 @@
--- 01, Slot: "the codes, one a word, or the groups (atom/64, present bits, absent bits)". What a cursor over one side of a slot has still to give. Assumes nothing.
+-- 01, Slot: "the codes, one a word, or the groups (atom/64, present bits, absent bits)".
+-- What a cursor over one side of a slot has still to give. Assumes nothing.
 use mathlib.Core.Path.{_≡_, refl, ap₂}
 use mathlib.Core.Bool.{Bool, true, false}
 use mathlib.Core.List.{List, [], _∷_, _++_}
-use Prim.Native.Nat.{ℕ, _+_, _-_, _*_, _/_, _≤_, _<_}
+use Prim.Native.Nat.{ℕ, _+_, _-_, _*_, _≤_, _<_}
 use native.Mathlib.Nat.{add-zero, sub-zero}
 use lib.Bits.{bitOr}
 use lib.ListN.{length, getD, take, drop}
-use Rattle.lists.specs.Lists.{select, count}
-use Rattle.words.specs.Bit.{wordBits, testBit}
+use Rattle.lists.specs.Lists.{select, range}
+use Rattle.words.specs.Bit.{testBit}
 use Rattle.words.specs.Literal.{atom, isPresent, bitOf}
-use Rattle.words.specs.Region.{maxAtoms}
+use Rattle.words.specs.Region.{maxWords}
+use Rattle.model.specs.Records.{groupLength}
 use Rattle.model.specs.Slots.{codesOf, ungroup}
 use Rattle.slots.specs.declared.Side.{Side}
 use Rattle.slots.specs.declared.Cursor.{Cursor}
 use Rattle.slots.specs.declared.Step.{Step}
 use Rattle.slots.specs.declared.Step.the-variants.{Literal, End}
 
--- the words of as many atoms as there can be
-abbrev pub maxWords : ℕ
-maxWords = maxAtoms / wordBits
-
 -- the literals of n codes, or of n groups, from word `at` on
 unfoldable pub literalsAt : Bool → List ℕ → ℕ → ℕ → List ℕ
 literalsAt false ws at n = take n (drop at ws)
-literalsAt true ws at n = ungroup (take (3 * n) (drop at ws))
+literalsAt true ws at n = ungroup (take (groupLength * n) (drop at ws))
 
 -- the word where code or group i of a side begins
 abbrev pub wordAt : Bool → ℕ → ℕ → ℕ
 wordAt false base i = base + i
-wordAt true base i = base + 3 * i
+wordAt true base i = base + groupLength * i
 
 -- the literals of a side
 unfoldable pub listOf : List ℕ → Side → List ℕ
@@ -53,9 +51,10 @@ given ws s End = []
 -- the side lies within the slot, and each group has an index in range and some bit
 pub record Sound (ws : List ℕ) (s : Side) : Type 0 where
   pub single : s .packed ≡ false → s .base + s .count ≤ length ws
-  pub whole : s .packed ≡ true → s .base + 3 * s .count ≤ length ws
-  pub small : s .packed ≡ true → (g : ℕ) → g < s .count → getD ws (s .base + 3 * g) 0 < maxWords
-  pub some : s .packed ≡ true → (g : ℕ) → g < s .count → 0 < bitOr (getD ws (s .base + 3 * g + 2) 0) (getD ws (s .base + 3 * g + 1) 0)
+  pub whole : s .packed ≡ true → s .base + groupLength * s .count ≤ length ws
+  pub small : s .packed ≡ true → (g : ℕ) → g < s .count → getD ws (s .base + groupLength * g) 0 < maxWords
+  pub some : s .packed ≡ true → (g : ℕ) → g < s .count
+      → 0 < bitOr (getD ws (s .base + groupLength * g + 2) 0) (getD ws (s .base + groupLength * g + 1) 0)
 
 abbrev pub Placed : Side → Cursor → Type 0
 Placed s c = (c .next ≤ s .count) × (c .word < maxWords)
@@ -75,7 +74,7 @@ place-zero false b = add-zero b
 place-zero true b = add-zero b
 
 none-begun : codesOf 0 0 0 ≡ []
-unfolding codesOf select count testBit atom isPresent bitOf
+unfolding codesOf select range testBit atom isPresent bitOf
 none-begun = refl
 
 pub rest-start : (ws : List ℕ) (s : Side) → rest ws s begin ≡ listOf ws s

@@ -1,37 +1,43 @@
--- 01, Slot: "conditions, outputs, total groups, condition groups (both 0 = scalar), .., then the body .. conditions first". The two sides of a slot. Assumes nothing.
+-- 01, Slot: "conditions, outputs, total groups, condition groups (both 0 = scalar), .., then the body .. conditions first".
+-- The two sides of a slot. Assumes nothing.
 use mathlib.Core.Path.{_≡_}
 use mathlib.Core.Bool.{true, false}
 use mathlib.Core.List.{List, _∷_, _++_, map}
-use Prim.Native.Nat.{ℕ, _+_, _-_, _*_, _≤_}
+use Prim.Native.Nat.{ℕ, _+_, _-_, _*_, _≤_, _<_}
 use lib.Dec.{T, eqb}
 use lib.ListN.{length, getD, take, drop}
 use Rattle.lists.specs.Lists.{pad}
 use Rattle.words.specs.Region.{maxAtoms}
-use Rattle.model.specs.Records.{Row, isRow, slotWords, maxConditions, maxOutputs}
+use Rattle.model.specs.Records.{Row, isRow, slotWords, maxRows, maxConditions, maxOutputs, conditionsAt, outputsAt, totalGroupsAt}
+use Rattle.model.specs.Records.{conditionGroupsAt, bodyAt, groupLength, bodyWords}
 use Rattle.model.specs.Slots.{slotOf, rowIn, entryIn, entriesIn}
 use Rattle.slots.specs.declared.Side.{Side}
 use Rattle.slots.specs.Cursor.{listOf, Sound}
 
 unfoldable pub conditionSide : List ℕ → Side
 conditionSide ws =
-    elim (eqb (getD ws 2 0) 0) [
-      | true ↦ record { packed = false; base = 8; count = getD ws 0 0 }
-      | false ↦ record { packed = true; base = 8; count = getD ws 3 0 }
+    elim (eqb (getD ws totalGroupsAt 0) 0) [
+      | true ↦ record { packed = false; base = bodyAt; count = getD ws conditionsAt 0 }
+      | false ↦ record { packed = true; base = bodyAt; count = getD ws conditionGroupsAt 0 }
     ]
 
 unfoldable pub outputSide : List ℕ → Side
 outputSide ws =
-    elim (eqb (getD ws 2 0) 0) [
-      | true ↦ record { packed = false; base = 8 + getD ws 0 0; count = getD ws 1 0 }
-      | false ↦ record { packed = true; base = 8 + 3 * getD ws 3 0; count = getD ws 2 0 - getD ws 3 0 }
+    elim (eqb (getD ws totalGroupsAt 0) 0) [
+      | true ↦ record { packed = false; base = bodyAt + getD ws conditionsAt 0; count = getD ws outputsAt 0 }
+      | false ↦ record {
+        packed = true;
+        base = bodyAt + groupLength * getD ws conditionGroupsAt 0;
+        count = getD ws totalGroupsAt 0 - getD ws conditionGroupsAt 0;
+      }
     ]
 
 -- the counts are within their limits
 pub record Counted (ws : List ℕ) : Type 0 where
-  pub few : getD ws 0 0 ≤ maxConditions
-  pub most : getD ws 1 0 ≤ maxOutputs
-  pub parts : getD ws 3 0 ≤ getD ws 2 0
-  pub words : 3 * getD ws 2 0 ≤ slotWords - 8
+  pub few : getD ws conditionsAt 0 ≤ maxConditions
+  pub most : getD ws outputsAt 0 ≤ maxOutputs
+  pub parts : getD ws conditionGroupsAt 0 ≤ getD ws totalGroupsAt 0
+  pub words : groupLength * getD ws totalGroupsAt 0 ≤ bodyWords
 
 -- the words of a slot that hold a row, in either form, as `prepare` leaves it or as a scalar proposal
 pub record Laid (ws : List ℕ) : Type 0 where
@@ -41,8 +47,8 @@ pub record Laid (ws : List ℕ) : Type 0 where
   pub second : Sound ws (outputSide ws)
   pub conditions : listOf ws (conditionSide ws) ≡ rowIn ws .conditions
   pub outputs : listOf ws (outputSide ws) ≡ rowIn ws .outputs
-  pub conditionCount : length (rowIn ws .conditions) ≡ getD ws 0 0
-  pub outputCount : length (rowIn ws .outputs) ≡ getD ws 1 0
+  pub conditionCount : length (rowIn ws .conditions) ≡ getD ws conditionsAt 0
+  pub outputCount : length (rowIn ws .outputs) ≡ getD ws outputsAt 0
 
 -- words that are the slot of a row over n atoms: what a ledger that was accepted holds
 pub record Stored (n : ℕ) (ws : List ℕ) : Type 0 where
@@ -62,3 +68,20 @@ slotAt ws p = take slotWords (drop (slotWords * p) ws)
 
 unfoldable pub rowsIn : ℕ → List ℕ → List Row
 rowsIn n ws = map (λ e. e .row) (entriesIn n ws)
+
+-- ---- what slots hold, from one slot up
+-- one slot: a row over some number of atoms
+pub record Holds (ws : List ℕ) : Type 0 where
+  pub atoms : ℕ
+  pub stored : Stored atoms ws
+
+-- the first slots: rows over n atoms
+pub record RowsOver (n rows : ℕ) (ws : List ℕ) : Type 0 where
+  pub few : rows ≤ maxRows
+  pub long : slotWords * rows ≤ length ws
+  pub stored : (p : ℕ) → p < rows → Stored n (slotAt ws p)
+
+-- the first slots: rows over some number of atoms
+pub record Rows (rows : ℕ) (ws : List ℕ) : Type 0 where
+  pub atoms : ℕ
+  pub over : RowsOver atoms rows ws

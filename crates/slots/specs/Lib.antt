@@ -1,2 +1,3 @@
 pub mod Cursor
 pub mod Layout
+pub mod Standing

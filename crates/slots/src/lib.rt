@@ -4,9 +4,17 @@ ghost use mathlib.Core.List.{_∷_};
 ghost use Prim.Native.Nat.{_<_, _≤_};
 ghost use lib.Bits.{bitOr};
 ghost use lib.ListN.{length};
+ghost use Rattle.model.specs.Records.{bodyAt};
+ghost use Rattle.words.specs.Region.{maxWords};
 ghost use Rattle.model.specs.Slots.{codesOf};
-ghost use Rattle.slots.specs.Cursor.{maxWords, begin, rest, given, Sound, Placed, PlacedStep, TakenFrom};
+ghost use Rattle.slots.specs.Cursor.{begin, rest, given, Sound, Placed, PlacedStep, TakenFrom};
 ghost use Rattle.slots.specs.Layout.{conditionSide, outputSide, Counted};
+use model::BODY_AT;
+use model::CONDITION_GROUPS_AT;
+use model::CONDITIONS_AT;
+use model::GROUP_WORDS;
+use model::OUTPUTS_AT;
+use model::TOTAL_GROUPS_AT;
 use words::WORD_BITS;
 
 // One side of a slot: its form, the word where it begins, and how many codes or groups it has.
@@ -100,7 +108,7 @@ pub fn next(slot: &[u64], side: Side, cursor: Cursor) -> Step
         return Step::End;
     }
     if side.packed {
-        let at = side.base + 3 * cursor.next;
+        let at = side.base + GROUP_WORDS * cursor.next;
         return taken(Cursor {
             next: cursor.next + 1,
             word: slot[at],
@@ -122,40 +130,40 @@ pub fn next(slot: &[u64], side: Side, cursor: Cursor) -> Step
 
 // The side of the conditions of a slot.
 pub fn conditions(slot: &[u64]) -> Side
-    requires { ⌜ 8 ≤ length (now slot) ⌝ }
+    requires { ⌜ bodyAt ≤ length (now slot) ⌝ }
     ensures { λ r. ⌜ r ≡ conditionSide (now (slot .entry)) ⌝ }
 {
-    if slot[2] == 0 {
+    if slot[TOTAL_GROUPS_AT] == 0 {
         Side {
             packed: false,
-            base: 8,
-            count: slot[0] as usize,
+            base: BODY_AT,
+            count: slot[CONDITIONS_AT] as usize,
         }
     } else {
         Side {
             packed: true,
-            base: 8,
-            count: slot[3] as usize,
+            base: BODY_AT,
+            count: slot[CONDITION_GROUPS_AT] as usize,
         }
     }
 }
 
 // The side of the outputs of a slot, after the conditions.
 pub fn outputs(slot: &[u64]) -> Side
-    requires { ⌜ 8 ≤ length (now slot) ⌝ ∗ ⌜ Counted (now slot) ⌝ }
+    requires { ⌜ bodyAt ≤ length (now slot) ⌝ ∗ ⌜ Counted (now slot) ⌝ }
     ensures { λ r. ⌜ r ≡ outputSide (now (slot .entry)) ⌝ }
 {
-    if slot[2] == 0 {
+    if slot[TOTAL_GROUPS_AT] == 0 {
         Side {
             packed: false,
-            base: 8 + slot[0] as usize,
-            count: slot[1] as usize,
+            base: BODY_AT + slot[CONDITIONS_AT] as usize,
+            count: slot[OUTPUTS_AT] as usize,
         }
     } else {
         Side {
             packed: true,
-            base: 8 + 3 * slot[3] as usize,
-            count: (slot[2] - slot[3]) as usize,
+            base: BODY_AT + GROUP_WORDS * slot[CONDITION_GROUPS_AT] as usize,
+            count: (slot[TOTAL_GROUPS_AT] - slot[CONDITION_GROUPS_AT]) as usize,
         }
     }
 }

@@ -10,6 +10,7 @@ pub use reading::ended;
 pub use reading::find;
 pub use reading::is_digit;
 pub use reading::is_text;
+pub use reading::join_lines;
 pub use reading::kept;
 pub use reading::list;
 pub use reading::nth;

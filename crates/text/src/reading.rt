@@ -32,6 +32,16 @@ enum Digits {
     TooLarge,
 }
 
+// Line ends become spaces.
+pub fn join_lines(s: &mut [u8]) {
+    let mut at: usize = 0;
+    while at < s.len() {
+        let byte = s[at];
+        s[at] = if byte == b'\n' { b' ' } else { byte };
+        at += 1;
+    }
+}
+
 // The first place from `from` on that holds no space, or the length.
 fn skip(s: &[u8], from: usize) -> usize
     requires { ⌜ from ≤ length (now s) ⌝ }

@@ -6,15 +6,19 @@ use Prim.Native.Nat.{ℕ, zero, suc, _+_, _-_, _*_, _/_, _≤_, _<_}
 use native.Mathlib.Nat.{add-zero}
 use native.Mathlib.Numerals.{add-one}
 use native.Mathlib.Omega.{arith}
-use lib.Dec.{T, eqb}
-use lib.ListN.{length, getD, set, take, drop, replicate, length-append, length-replicate, length-take, length-drop, take-append-drop, drop-of-length-le}
-use lib.Seq.{length-take-le, take-at, drop-at, drop-drop, take-append-le, drop-append-le, set-append-left, getD-drop, getD-take, split-at, append-snoc, set-split}
-use Rattle.lists.specs.Lists.{all, concat, pad, adjust}
+use lib.Dec.{eqb}
+use lib.ListN.{length, getD, set, take, drop, replicate, length-append, length-take, length-drop, take-append-drop, drop-of-length-le}
+use lib.Seq.{length-take-le, take-at, drop-at, drop-drop, take-append-le, drop-append-le, set-append-left, getD-drop, getD-take, split-at}
+use lib.Seq.{append-snoc, set-split}
+use Rattle.lists.specs.Lists.{concat, pad, adjust}
+use Rattle.lists.proofs.Selects.{adjust-set, length-adjust}
 use Rattle.words.specs.Region.{maxAtoms}
-use Rattle.model.specs.Records.{Row, Entry, isRow, slotWords, plus, hitEntry, withHits, withDelivered}
+use Rattle.model.specs.Records.{Row, Entry, slotWords, saturatingAdd, hitEntry, withHits, withDelivered, hitsAt, unsharedAt, bornAt}
+use Rattle.model.specs.Records.{deliveredAt}
 use Rattle.model.specs.Slots.{slotOf, slotsOf, entryIn, entriesIn, flag}
-use Rattle.model.proofs.Cover.{and-left, and-right}
-use Rattle.model.proofs.Slots.{Valid, valid-of, AllValid, slot-length, decode-encode, entries-length}
+use Rattle.model.proofs.Slots.{Valid, AllValid, slot-length, decode-encode, entries-length}
+use Rattle.model.proofs.Entries.{all-valid}
+use Rattle.model.proofs.Accepting.{laid-length, slots-length}
 use Rattle.tier.specs.Tier.{tierOf, Held, wordAt, hitWords, hitsAdded, markedDelivered, sharedOut}
 
 -- ---- the slots one after another
@@ -35,14 +39,6 @@ laid-append (x ∷ xs) ys =
     laid-cons x (xs ++ ys) ∙ ap (λ (l : List ℕ). slotOf x ++ l) (laid-append xs ys) ∙ sym (append-assoc (slotOf x) (laid xs) (laid ys))
     ∙ ap (λ (l : List ℕ). l ++ laid ys) (sym (laid-cons x xs))
 
-pub laid-length : (es : List Entry) → AllValid es → length (laid es) ≡ slotWords * length es
-laid-length [] v = ap length laid-nil
-laid-length (e ∷ es) v =
-    let a : length (laid (e ∷ es)) ≡ length (slotOf e) + length (laid es) = ap length (laid-cons e es) ∙ length-append (slotOf e) (laid es) in
-    let b = slot-length e (v .0) in
-    let c = laid-length es (v .1) in
-    omega arith
-
 pub valid-take : (n : ℕ) (es : List Entry) → AllValid es → AllValid (take n es)
 valid-take zero es v = tt
 valid-take (suc n) [] v = tt
@@ -60,7 +56,8 @@ valid-at (suc p) (e ∷ es) d v h = valid-at p es d (v .1) (omega arith)
 
 -- ---- a slot of the buffer, by what stands before and after it
 pub slots-split : (tier p : ℕ) (es : List Entry) (d : Entry) → p < length es
-    → slotsOf tier es ≡ laid (take p es) ++ (slotOf (getD es p d) ++ (laid (drop (suc p) es) ++ replicate (slotWords * tier - length (laid es)) 0))
+    → slotsOf tier es ≡ laid (take p es)
+    ++ (slotOf (getD es p d) ++ (laid (drop (suc p) es) ++ replicate (slotWords * tier - length (laid es)) 0))
 unfolding slotsOf pad
 slots-split tier p es d h =
     ap (λ (l : List ℕ). l ++ z) (ap laid (split-at es p d h) ∙ laid-append (take p es) (getD es p d ∷ drop (suc p) es)
@@ -118,10 +115,12 @@ put-slot tier p es e v w h =
     let back = laid (drop (suc p) es) ++ replicate (slotWords * tier - length (laid es)) 0 in
     let old = slotOf (getD es p e) in
     let f : length front ≡ slotWords * p = front-length p es v (omega arith) in
-    let g : length (front ++ old) ≡ slotWords * p + slotWords = length-append front old ∙ (let s = slot-length (getD es p e) (valid-at p es e v h) in omega arith) in
+    let g : length (front ++ old)
+    ≡ slotWords * p + slotWords = length-append front old ∙ (let s = slot-length (getD es p e) (valid-at p es e v h) in omega arith) in
     ap₂ (λ (a b : List ℕ). a ++ (slotOf e ++ b))
     (ap (take (slotWords * p)) (slots-split tier p es e h) ∙ take-at front _ (slotWords * p) f)
-    (ap (drop (slotWords * p + slotWords)) (slots-split tier p es e h ∙ sym (append-assoc front old back)) ∙ drop-at (front ++ old) back (slotWords * p + slotWords) g)
+    (ap (drop (slotWords * p + slotWords)) (slots-split tier p es e h ∙ sym (append-assoc front old back))
+    ∙ drop-at (front ++ old) back (slotWords * p + slotWords) g)
     ∙ sym (slots-split tier p (set es p e) e (subst (λ (n : ℕ). p < n) (sym (len-set es p e)) h)
     ∙ ap₂ (λ (a b : List ℕ). a ++ b) (ap laid (take-set es p e))
     (ap₂ (λ (a b : List ℕ). a ++ b) (ap slotOf (get-set es p e e h))
@@ -138,7 +137,8 @@ set-part ws a k v h f =
     ∙ set-later (take a ws) (drop a ws) a k v (length-take-le a ws (omega arith))
     ∙ ap (λ (l : List ℕ). take a ws ++ l)
     (ap (λ (l : List ℕ). set l k v) (sym (take-append-drop slotWords (drop a ws)))
-    ∙ set-append-left (take slotWords (drop a ws)) (drop slotWords (drop a ws)) k v (let m = length-take slotWords (drop a ws) in let n = length-drop a ws in omega arith)
+    ∙ set-append-left (take slotWords (drop a ws)) (drop slotWords (drop a ws)) k v
+    (let m = length-take slotWords (drop a ws) in let n = length-drop a ws in omega arith)
     ∙ ap (λ (l : List ℕ). set (take slotWords (drop a ws)) k v ++ l) (drop-drop slotWords a ws))
   where
     set-later : (xs ys : List ℕ) (n k a : ℕ) → length xs ≡ n → set (xs ++ ys) (n + k) a ≡ xs ++ set ys k a
@@ -149,14 +149,6 @@ set-part ws a k v h f =
         let q : suc n + k ≡ suc (n + k) = omega arith in
         ap (λ (j : ℕ). set (x ∷ (xs ++ ys)) j a) q ∙ ap (λ (l : List ℕ). x ∷ l) (set-later xs ys n k a l)
 
-pub slots-length : (tier : ℕ) (es : List Entry) → AllValid es → length es ≤ tier → length (slotsOf tier es) ≡ slotWords * tier
-unfolding slotsOf pad
-slots-length tier es v h =
-    let a = laid-length es v in
-    let b = length-append (laid es) (replicate (slotWords * tier - length (laid es)) 0) in
-    let c = length-replicate {A = ℕ} (slotWords * tier - length (laid es)) 0 in
-    omega arith
-
 -- one word of a slot
 pub word-of : (tier p k : ℕ) (es : List Entry) (d : Entry) → AllValid es → p < length es → k < slotWords
     → getD (slotsOf tier es) (slotWords * p + k) 0 ≡ getD (slotOf (getD es p d)) k 0
@@ -164,7 +156,8 @@ word-of tier p k es d v h l =
     sym (getD-drop (slotWords * p) (slotsOf tier es) k 0) ∙ sym (getD-take slotWords (drop (slotWords * p) (slotsOf tier es)) k 0 l)
     ∙ ap (λ (w : List ℕ). getD w k 0) (slot-at tier p es d v h)
 
-pub set-word : (tier p k v : ℕ) (es : List Entry) (d e : Entry) → AllValid es → Valid (e .row) → p < length es → length es ≤ tier → k < slotWords
+pub set-word : (tier p k v : ℕ) (es : List Entry) (d e : Entry) → AllValid es → Valid (e .row) → p < length es → length es ≤ tier
+    → k < slotWords
     → set (slotOf (getD es p d)) k v ≡ slotOf e → set (slotsOf tier es) (slotWords * p + k) v ≡ slotsOf tier (set es p e)
 set-word tier p k v es d e val w h f l q =
     let n = slots-length tier es val f in
@@ -173,25 +166,7 @@ set-word tier p k v es d e val w h f l q =
     (ap (λ (x : List ℕ). set x k v) (slot-at tier p es d val h) ∙ q)
     ∙ put-slot tier p es e val w h
 
-pub adjust-set : (f : Entry → Entry) (p : ℕ) (es : List Entry) (d : Entry) → p < length es → adjust f p es ≡ set es p (f (getD es p d))
-unfolding adjust
-adjust-set f p [] d h = absurd (omega arith)
-adjust-set f zero (e ∷ es) d h = refl
-adjust-set f (suc p) (e ∷ es) d h = ap (λ (l : List Entry). e ∷ l) (adjust-set f p es d (omega arith))
-
-pub length-adjust : (f : Entry → Entry) (p : ℕ) (es : List Entry) → length (adjust f p es) ≡ length es
-unfolding adjust
-length-adjust f p [] = refl
-length-adjust f zero (e ∷ es) = refl
-length-adjust f (suc p) (e ∷ es) = ap suc (length-adjust f p es)
-
 -- ---- a held buffer
-all-valid : (n : ℕ) (es : List Entry) → T (all (λ e. isRow n (e .row)) es) → AllValid es
-unfolding all
-all-valid n [] t = tt
-all-valid n (e ∷ es) t =
-    (valid-of n (e .row) (and-left (isRow n (e .row)) (all (λ e. isRow n (e .row)) es) t), all-valid n es (and-right (isRow n (e .row)) (all (λ e. isRow n (e .row)) es) t))
-
 pub record Holding (rows : ℕ) (ws : List ℕ) : Type 0 where
   pub valid : AllValid (entriesIn rows ws)
   pub count : length (entriesIn rows ws) ≡ rows
@@ -221,14 +196,16 @@ get-adjust f p [] d h = absurd (omega arith)
 get-adjust f zero (e ∷ es) d h = refl
 get-adjust f (suc p) (e ∷ es) d h = get-adjust f p es d (omega arith)
 
-pub valid-adjust : (f : Entry → Entry) (p : ℕ) (es : List Entry) → ((e : Entry) → f e .row ≡ e .row) → AllValid es → AllValid (adjust f p es)
+pub valid-adjust : (f : Entry → Entry) (p : ℕ) (es : List Entry) → ((e : Entry) → f e .row ≡ e .row) → AllValid es
+    → AllValid (adjust f p es)
 unfolding adjust
 valid-adjust f p [] s v = tt
 valid-adjust f zero (e ∷ es) s v = (subst (λ (r : Row). Valid r) (sym (s e)) (v .0), v .1)
 valid-adjust f (suc p) (e ∷ es) s v = (v .0, valid-adjust f p es s (v .1))
 
 -- f changes word k of a slot to x, and no row
-pub change : (tier p k x : ℕ) (es : List Entry) (d : Entry) (f : Entry → Entry) → AllValid es → p < length es → length es ≤ tier → k < slotWords
+pub change : (tier p k x : ℕ) (es : List Entry) (d : Entry) (f : Entry → Entry) → AllValid es → p < length es → length es ≤ tier
+    → k < slotWords
     → ((e : Entry) → f e .row ≡ e .row) → set (slotOf (getD es p d)) k x ≡ slotOf (f (getD es p d))
     → set (slotsOf tier es) (slotWords * p + k) x ≡ slotsOf tier (adjust f p es)
 change tier p k x es d f v h r l s q =
@@ -245,32 +222,33 @@ abbrev pub no-entry : Entry
 no-entry = record { row = record { conditions = []; outputs = [] }; hits = 0; unshared = 0; born = 0; delivered = false }
 
 module _ (tier p : ℕ) (es : List Entry) (v : AllValid es) (h : p < length es) (r : length es ≤ tier) where
-  pub word-hits : getD (slotsOf tier es) (slotWords * p + 4) 0 ≡ getD es p no-entry .hits
+  pub word-hits : getD (slotsOf tier es) (slotWords * p + hitsAt) 0 ≡ getD es p no-entry .hits
   unfolding slotOf pad
-  word-hits = word-of tier p 4 es no-entry v h (omega arith)
+  word-hits = word-of tier p hitsAt es no-entry v h (omega arith)
 
-  word-unshared : getD (slotsOf tier es) (slotWords * p + 5) 0 ≡ getD es p no-entry .unshared
+  word-unshared : getD (slotsOf tier es) (slotWords * p + unsharedAt) 0 ≡ getD es p no-entry .unshared
   unfolding slotOf pad
-  word-unshared = word-of tier p 5 es no-entry v h (omega arith)
+  word-unshared = word-of tier p unsharedAt es no-entry v h (omega arith)
 
-  word-born : getD (slotsOf tier es) (slotWords * p + 6) 0 ≡ getD es p no-entry .born
+  word-born : getD (slotsOf tier es) (slotWords * p + bornAt) 0 ≡ getD es p no-entry .born
   unfolding slotOf pad
-  word-born = word-of tier p 6 es no-entry v h (omega arith)
+  word-born = word-of tier p bornAt es no-entry v h (omega arith)
 
-  pub hits-set : (n : ℕ) → set (slotsOf tier es) (slotWords * p + 4) n ≡ slotsOf tier (adjust (λ e. withHits e n) p es)
+  pub hits-set : (n : ℕ) → set (slotsOf tier es) (slotWords * p + hitsAt) n ≡ slotsOf tier (adjust (λ e. withHits e n) p es)
   unfolding slotOf pad withHits
-  hits-set n = change tier p 4 n es no-entry (λ e. withHits e n) v h r (omega arith) (λ e. refl) refl
+  hits-set n = change tier p hitsAt n es no-entry (λ e. withHits e n) v h r (omega arith) (λ e. refl) refl
 
-  unshared-set : (n : ℕ) → set (slotsOf tier es) (slotWords * p + 5) n ≡ slotsOf tier (adjust (withUnshared n) p es)
+  unshared-set : (n : ℕ) → set (slotsOf tier es) (slotWords * p + unsharedAt) n ≡ slotsOf tier (adjust (withUnshared n) p es)
   unfolding slotOf pad withUnshared
-  unshared-set n = change tier p 5 n es no-entry (withUnshared n) v h r (omega arith) (λ e. refl) refl
+  unshared-set n = change tier p unsharedAt n es no-entry (withUnshared n) v h r (omega arith) (λ e. refl) refl
 
-  delivered-set : set (slotsOf tier es) (slotWords * p + 7) 1 ≡ slotsOf tier (adjust asDelivered p es)
+  delivered-set : set (slotsOf tier es) (slotWords * p + deliveredAt) 1 ≡ slotsOf tier (adjust asDelivered p es)
   unfolding slotOf pad asDelivered flag
-  delivered-set = change tier p 7 1 es no-entry asDelivered v h r (omega arith) (λ e. refl) refl
+  delivered-set = change tier p deliveredAt 1 es no-entry asDelivered v h r (omega arith) (λ e. refl) refl
 
 -- an adjustment by the entry's own numbers
-adjust-own : (f : ℕ → Entry → Entry) (g : Entry → ℕ) (p : ℕ) (es : List Entry) (d : Entry) → p < length es → adjust (f (g (getD es p d))) p es ≡ adjust (λ e. f (g e) e) p es
+adjust-own : (f : ℕ → Entry → Entry) (g : Entry → ℕ) (p : ℕ) (es : List Entry) (d : Entry) → p < length es
+    → adjust (f (g (getD es p d))) p es ≡ adjust (λ e. f (g e) e) p es
 unfolding adjust
 adjust-own f g p [] d h = absurd (omega arith)
 adjust-own f g zero (e ∷ es) d h = refl
@@ -283,47 +261,58 @@ module _ (rows p : ℕ) (ws : List ℕ) (k : Held rows ws) (l : p < rows) where
   at : p < length (entriesIn rows ws)
   at = subst (λ (n : ℕ). p < n) (sym (entries-length rows ws)) l
 
-  pub hits-at : getD ws (wordAt p 4) 0 ≡ getD (entriesIn rows ws) p no-entry .hits
-  hits-at = let f = holding rows ws k in ap (λ (w : List ℕ). getD w (slotWords * p + 4) 0) (sym (k .same)) ∙ word-hits (tierOf ws) p held (f .valid) at (f .room)
+  pub hits-at : getD ws (wordAt p hitsAt) 0 ≡ getD (entriesIn rows ws) p no-entry .hits
+  hits-at =
+      let f = holding rows ws k in
+      ap (λ (w : List ℕ). getD w (slotWords * p + hitsAt) 0) (sym (k .same)) ∙ word-hits (tierOf ws) p held (f .valid) at (f .room)
 
-  pub unshared-at : getD ws (wordAt p 5) 0 ≡ getD (entriesIn rows ws) p no-entry .unshared
-  unshared-at = let f = holding rows ws k in ap (λ (w : List ℕ). getD w (slotWords * p + 5) 0) (sym (k .same)) ∙ word-unshared (tierOf ws) p held (f .valid) at (f .room)
+  pub unshared-at : getD ws (wordAt p unsharedAt) 0 ≡ getD (entriesIn rows ws) p no-entry .unshared
+  unshared-at =
+      let f = holding rows ws k in
+      ap (λ (w : List ℕ). getD w (slotWords * p + unsharedAt) 0) (sym (k .same)) ∙ word-unshared (tierOf ws) p held (f .valid) at (f .room)
 
-  pub born-at : getD ws (wordAt p 6) 0 ≡ getD (entriesIn rows ws) p no-entry .born
-  born-at = let f = holding rows ws k in ap (λ (w : List ℕ). getD w (slotWords * p + 6) 0) (sym (k .same)) ∙ word-born (tierOf ws) p held (f .valid) at (f .room)
+  pub born-at : getD ws (wordAt p bornAt) 0 ≡ getD (entriesIn rows ws) p no-entry .born
+  born-at =
+      let f = holding rows ws k in
+      ap (λ (w : List ℕ). getD w (slotWords * p + bornAt) 0) (sym (k .same)) ∙ word-born (tierOf ws) p held (f .valid) at (f .room)
 
   pub slot-held : take slotWords (drop (slotWords * p) ws) ≡ slotOf (getD (entriesIn rows ws) p no-entry)
-  slot-held = let f = holding rows ws k in ap (λ (w : List ℕ). take slotWords (drop (slotWords * p) w)) (sym (k .same)) ∙ slot-at (tierOf ws) p held no-entry (f .valid) at
+  slot-held =
+      let f = holding rows ws k in
+      ap (λ (w : List ℕ). take slotWords (drop (slotWords * p) w)) (sym (k .same)) ∙ slot-at (tierOf ws) p held no-entry (f .valid) at
 
   pub hit-held : hitWords p ws ≡ slotsOf (tierOf ws) (adjust hitEntry p (entriesIn rows ws))
   unfolding hitWords hitEntry withHits withUnshared
   hit-held =
       let f = holding rows ws k in
-      let x : ℕ = plus (getD held p no-entry .hits) 1 in
-      let y : ℕ = plus (getD held p no-entry .unshared) 1 in
+      let x : ℕ = saturatingAdd (getD held p no-entry .hits) 1 in
+      let y : ℕ = saturatingAdd (getD held p no-entry .unshared) 1 in
       let es = adjust (λ e. withHits e x) p held in
       let n : length es ≡ length held = length-adjust (λ e. withHits e x) p held in
-      ap₂ (λ (a b : ℕ). set (set ws (slotWords * p + 4) (plus a 1)) (slotWords * p + 5) (plus b 1)) hits-at unshared-at
-      ∙ ap (λ (w : List ℕ). set (set w (slotWords * p + 4) x) (slotWords * p + 5) y) (sym (k .same))
-      ∙ ap (λ (w : List ℕ). set w (slotWords * p + 5) y) (hits-set (tierOf ws) p held (f .valid) at (f .room) x)
-      ∙ unshared-set (tierOf ws) p es (valid-adjust (λ e. withHits e x) p held (λ e. refl) (f .valid)) (subst (λ (m : ℕ). p < m) (sym n) at) (subst (λ (m : ℕ). m ≤ tierOf ws) (sym n) (f .room)) y
+      ap₂ (λ (a b : ℕ). set (set ws (slotWords * p + hitsAt) (saturatingAdd a 1)) (slotWords * p + unsharedAt) (saturatingAdd b 1)) hits-at
+      unshared-at
+      ∙ ap (λ (w : List ℕ). set (set w (slotWords * p + hitsAt) x) (slotWords * p + unsharedAt) y) (sym (k .same))
+      ∙ ap (λ (w : List ℕ). set w (slotWords * p + unsharedAt) y) (hits-set (tierOf ws) p held (f .valid) at (f .room) x)
+      ∙ unshared-set (tierOf ws) p es (valid-adjust (λ e. withHits e x) p held (λ e. refl) (f .valid)) (subst (λ (m : ℕ). p < m) (sym n) at)
+      (subst (λ (m : ℕ). m ≤ tierOf ws) (sym n) (f .room)) y
       ∙ ap (slotsOf (tierOf ws)) (adjust-adjust (λ e. withHits e x) (withUnshared y) p held
-      ∙ adjust-own (λ a e. withUnshared y (withHits e (plus a 1))) (λ e. e .hits) p held no-entry at
-      ∙ adjust-own (λ b e. withUnshared (plus b 1) (withHits e (plus (e .hits) 1))) (λ e. e .unshared) p held no-entry at)
+      ∙ adjust-own (λ a e. withUnshared y (withHits e (saturatingAdd a 1))) (λ e. e .hits) p held no-entry at
+      ∙ adjust-own (λ b e. withUnshared (saturatingAdd b 1) (withHits e (saturatingAdd (e .hits) 1))) (λ e. e .unshared) p held no-entry at)
 
-  pub hits-added : (n : ℕ) → hitsAdded p n ws ≡ slotsOf (tierOf ws) (adjust (λ e. withHits e (plus (e .hits) n)) p (entriesIn rows ws))
+  pub hits-added : (n : ℕ)
+      → hitsAdded p n ws ≡ slotsOf (tierOf ws) (adjust (λ e. withHits e (saturatingAdd (e .hits) n)) p (entriesIn rows ws))
   unfolding hitsAdded
   hits-added n =
       let f = holding rows ws k in
-      ap₂ (λ (w : List ℕ) (x : ℕ). set w (slotWords * p + 4) (plus x n)) (sym (k .same)) hits-at
-      ∙ hits-set (tierOf ws) p held (f .valid) at (f .room) (plus (getD held p no-entry .hits) n)
-      ∙ ap (slotsOf (tierOf ws)) (adjust-own (λ x e. withHits e (plus x n)) (λ e. e .hits) p held no-entry at)
+      ap₂ (λ (w : List ℕ) (x : ℕ). set w (slotWords * p + hitsAt) (saturatingAdd x n)) (sym (k .same)) hits-at
+      ∙ hits-set (tierOf ws) p held (f .valid) at (f .room) (saturatingAdd (getD held p no-entry .hits) n)
+      ∙ ap (slotsOf (tierOf ws)) (adjust-own (λ x e. withHits e (saturatingAdd x n)) (λ e. e .hits) p held no-entry at)
 
   pub marked-delivered : markedDelivered p ws ≡ slotsOf (tierOf ws) (adjust (λ e. withDelivered (e .unshared) e) p (entriesIn rows ws))
   unfolding markedDelivered withDelivered asDelivered
   marked-delivered =
       let f = holding rows ws k in
-      ap (λ (w : List ℕ). set w (slotWords * p + 7) 1) (sym (k .same)) ∙ delivered-set (tierOf ws) p held (f .valid) at (f .room)
+      ap (λ (w : List ℕ). set w (slotWords * p + deliveredAt) 1) (sym (k .same)) ∙ delivered-set (tierOf ws) p held (f .valid) at (f .room)
 
   pub shared-out : sharedOut p ws ≡ slotsOf (tierOf ws) (adjust (withDelivered 0) p (entriesIn rows ws))
   unfolding sharedOut withDelivered asDelivered withUnshared
@@ -331,7 +320,8 @@ module _ (rows p : ℕ) (ws : List ℕ) (k : Held rows ws) (l : p < rows) where
       let f = holding rows ws k in
       let es = adjust (withUnshared 0) p held in
       let n : length es ≡ length held = length-adjust (withUnshared 0) p held in
-      ap (λ (w : List ℕ). set (set w (slotWords * p + 5) 0) (slotWords * p + 7) 1) (sym (k .same))
-      ∙ ap (λ (w : List ℕ). set w (slotWords * p + 7) 1) (unshared-set (tierOf ws) p held (f .valid) at (f .room) 0)
-      ∙ delivered-set (tierOf ws) p es (valid-adjust (withUnshared 0) p held (λ e. refl) (f .valid)) (subst (λ (m : ℕ). p < m) (sym n) at) (subst (λ (m : ℕ). m ≤ tierOf ws) (sym n) (f .room))
+      ap (λ (w : List ℕ). set (set w (slotWords * p + unsharedAt) 0) (slotWords * p + deliveredAt) 1) (sym (k .same))
+      ∙ ap (λ (w : List ℕ). set w (slotWords * p + deliveredAt) 1) (unshared-set (tierOf ws) p held (f .valid) at (f .room) 0)
+      ∙ delivered-set (tierOf ws) p es (valid-adjust (withUnshared 0) p held (λ e. refl) (f .valid)) (subst (λ (m : ℕ). p < m) (sym n) at)
+      (subst (λ (m : ℕ). m ≤ tierOf ws) (sym n) (f .room))
       ∙ ap (slotsOf (tierOf ws)) (adjust-adjust (withUnshared 0) asDelivered p held)

@@ -6,12 +6,13 @@ use native.Mathlib.Numerals.{add-one}
 use native.Mathlib.Omega.{arith}
 use lib.ListN.{length, getD, set}
 use Rattle.lists.specs.Lists.{adjust}
-use Rattle.model.specs.Records.{Entry, withHits, slotWords}
+use Rattle.model.specs.Records.{Entry, withHits, slotWords, hitsAt}
 use Rattle.model.specs.Slots.{slotsOf, entriesIn}
 use Rattle.model.specs.Retention.{halved}
 use Rattle.model.proofs.Slots.{AllValid, entries-length}
+use Rattle.model.proofs.Accepting.{slots-length}
 use Rattle.tier.specs.Tier.{tierOf, Held}
-use Rattle.tier.proofs.Buffer.{no-entry, word-hits, hits-set, holding, slots-length}
+use Rattle.tier.proofs.Buffer.{no-entry, word-hits, hits-set, holding}
 
 -- the first n halved
 unfoldable pub halvedTo : ℕ → List Entry → List Entry
@@ -19,7 +20,8 @@ halvedTo zero es = es
 halvedTo (suc n) [] = []
 halvedTo (suc n) (e ∷ es) = withHits e (e .hits / 2) ∷ halvedTo n es
 
-half-next : (i : ℕ) (es : List Entry) → i < length es → adjust (λ e. withHits e (getD es i no-entry .hits / 2)) i (halvedTo i es) ≡ halvedTo (suc i) es
+half-next : (i : ℕ) (es : List Entry) → i < length es
+    → adjust (λ e. withHits e (getD es i no-entry .hits / 2)) i (halvedTo i es) ≡ halvedTo (suc i) es
 unfolding adjust halvedTo
 half-next i [] h = absurd (omega arith)
 half-next zero (e ∷ es) h = refl
@@ -56,11 +58,13 @@ module _ (rows : ℕ) (ws : List ℕ) (k : Held rows ws) where
   pub halve-length : (i : ℕ) → length (slotsOf (tierOf ws) (halvedTo i (entriesIn rows ws))) ≡ length ws
   halve-length i =
       let f = holding rows ws k in
-      slots-length (tierOf ws) (halvedTo i (entriesIn rows ws)) (half-valid i (entriesIn rows ws) (f .valid)) (subst (λ (n : ℕ). n ≤ tierOf ws) (sym (half-length i (entriesIn rows ws))) (f .room))
+      slots-length (tierOf ws) (halvedTo i (entriesIn rows ws)) (half-valid i (entriesIn rows ws) (f .valid))
+      (subst (λ (n : ℕ). n ≤ tierOf ws) (sym (half-length i (entriesIn rows ws))) (f .room))
       ∙ sym (f .long)
 
   pub halve-step : (i : ℕ) (now : List ℕ) → i < rows → now ≡ slotsOf (tierOf ws) (halvedTo i (entriesIn rows ws))
-      → set now (slotWords * i + 4) (getD now (slotWords * i + 4) 0 / 2) ≡ slotsOf (tierOf ws) (halvedTo (i + 1) (entriesIn rows ws))
+      → set now (slotWords * i + hitsAt) (getD now (slotWords * i + hitsAt) 0 / 2)
+      ≡ slotsOf (tierOf ws) (halvedTo (i + 1) (entriesIn rows ws))
   halve-step i now l e =
       let f = holding rows ws k in
       let es = entriesIn rows ws in
@@ -68,10 +72,14 @@ module _ (rows : ℕ) (ws : List ℕ) (k : Held rows ws) where
       let v = half-valid i es (f .valid) in
       let h : i < length (halvedTo i es) = subst (λ (n : ℕ). i < n) (sym (half-length i es)) at in
       let r : length (halvedTo i es) ≤ tierOf ws = subst (λ (n : ℕ). n ≤ tierOf ws) (sym (half-length i es)) (f .room) in
-      ap (λ (w : List ℕ). set w (slotWords * i + 4) (getD w (slotWords * i + 4) 0 / 2)) e
-      ∙ ap (λ (n : ℕ). set (slotsOf (tierOf ws) (halvedTo i es)) (slotWords * i + 4) (n / 2)) (word-hits (tierOf ws) i (halvedTo i es) v h r ∙ ap (λ (x : Entry). x .hits) (half-get i es))
+      ap (λ (w : List ℕ). set w (slotWords * i + hitsAt) (getD w (slotWords * i + hitsAt) 0 / 2)) e
+      ∙ ap (λ (n : ℕ). set (slotsOf (tierOf ws) (halvedTo i es)) (slotWords * i + hitsAt) (n / 2))
+      (word-hits (tierOf ws) i (halvedTo i es) v h r ∙ ap (λ (x : Entry). x .hits) (half-get i es))
       ∙ hits-set (tierOf ws) i (halvedTo i es) v h r (getD es i no-entry .hits / 2)
       ∙ ap (slotsOf (tierOf ws)) (half-next i es at ∙ ap (λ (n : ℕ). halvedTo n es) (sym (add-one i)))
 
-  pub halve-end : (i : ℕ) → i ≡ rows → slotsOf (tierOf ws) (halvedTo i (entriesIn rows ws)) ≡ slotsOf (tierOf ws) (halved (entriesIn rows ws))
-  halve-end i e = ap (slotsOf (tierOf ws)) (ap (λ (n : ℕ). halvedTo n (entriesIn rows ws)) (e ∙ sym (entries-length rows ws)) ∙ half-all (entriesIn rows ws))
+  pub halve-end : (i : ℕ) → i ≡ rows
+      → slotsOf (tierOf ws) (halvedTo i (entriesIn rows ws)) ≡ slotsOf (tierOf ws) (halved (entriesIn rows ws))
+  halve-end i e =
+      ap (slotsOf (tierOf ws)) (ap (λ (n : ℕ). halvedTo n (entriesIn rows ws)) (e ∙ sym (entries-length rows ws))
+      ∙ half-all (entriesIn rows ws))

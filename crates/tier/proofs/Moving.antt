@@ -14,7 +14,13 @@ module _ (d : List ℕ) (a b i : ℕ) (down : a ≤ b) (room : b + i < length d)
   ahead =
       let x : b + i ≡ a + i + (b - a) = omega arith in
       let n : i ≤ length (drop b d) = rw length-drop (omega arith) in
-      rw (x, ← getD-drop (a + i) (paste d a (drop b d) i) (b - a) 0, drop-paste d a (drop b d) i (omega arith) n, getD-drop (a + i) d (b - a) 0, ← x)
+      rw (
+        x,
+        ← getD-drop (a + i) (paste d a (drop b d) i) (b - a) 0,
+        drop-paste d a (drop b d) i (omega arith) n,
+        getD-drop (a + i) d (b - a) 0,
+        ← x,
+      )
       (sym (getD-drop b d i 0))
 
   pub move-more : set (paste d a (drop b d) i) (a + i) (getD (paste d a (drop b d) i) (b + i) 0) ≡ paste d a (drop b d) (i + 1)

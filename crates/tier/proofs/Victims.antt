@@ -10,7 +10,7 @@ use lib.ListN.{length, getD, drop, drop-of-length-le}
 use lib.Seq.{drop-cons}
 use borrow.Author.Tests.{lt-ltb, le-ltb, eq-eqb, ne-eqb}
 use Rattle.meter.specs.Meter.{pick}
-use Rattle.model.specs.Records.{Entry}
+use Rattle.model.specs.Records.{Entry, hitsAt, bornAt}
 use Rattle.model.specs.Slots.{entriesIn}
 use Rattle.model.specs.Retention.{before, victimFrom, victim}
 use Rattle.tier.specs.Tier.{Held, wordAt, lesserOf}
@@ -19,21 +19,24 @@ use Rattle.tier.proofs.Buffer.{no-entry, hits-at, born-at}
 
 -- ---- `lesser` by its four ways
 module _ (ws : List ℕ) (at i : ℕ) where
-  pub lesser-hits : getD ws (wordAt i 4) 0 < getD ws (wordAt at 4) 0 → i ≡ lesserOf ws at i
+  pub lesser-hits : getD ws (wordAt i hitsAt) 0 < getD ws (wordAt at hitsAt) 0 → i ≡ lesserOf ws at i
   unfolding lesserOf
   lesser-hits h = rw (lt-ltb _ _ h)
 
-  pub lesser-not : getD ws (wordAt at 4) 0 ≤ getD ws (wordAt i 4) 0 → getD ws (wordAt at 4) 0 < getD ws (wordAt i 4) 0 → at ≡ lesserOf ws at i
+  pub lesser-not : getD ws (wordAt at hitsAt) 0 ≤ getD ws (wordAt i hitsAt) 0 → getD ws (wordAt at hitsAt) 0 < getD ws (wordAt i hitsAt) 0
+      → at ≡ lesserOf ws at i
   unfolding lesserOf
-  lesser-not h k = rw (le-ltb _ _ h, ne-eqb (getD ws (wordAt i 4) 0) (getD ws (wordAt at 4) 0) (λ e. omega arith))
+  lesser-not h k = rw (le-ltb _ _ h, ne-eqb (getD ws (wordAt i hitsAt) 0) (getD ws (wordAt at hitsAt) 0) (λ e. omega arith))
 
-  pub lesser-born : getD ws (wordAt at 4) 0 ≤ getD ws (wordAt i 4) 0 → getD ws (wordAt i 4) 0 ≤ getD ws (wordAt at 4) 0 → getD ws (wordAt i 6) 0 < getD ws (wordAt at 6) 0 → i ≡ lesserOf ws at i
+  pub lesser-born : getD ws (wordAt at hitsAt) 0 ≤ getD ws (wordAt i hitsAt) 0 → getD ws (wordAt i hitsAt) 0 ≤ getD ws (wordAt at hitsAt) 0
+      → getD ws (wordAt i bornAt) 0 < getD ws (wordAt at bornAt) 0 → i ≡ lesserOf ws at i
   unfolding lesserOf
-  lesser-born h k l = rw (le-ltb _ _ h, eq-eqb (getD ws (wordAt i 4) 0) (getD ws (wordAt at 4) 0) (omega arith), lt-ltb _ _ l)
+  lesser-born h k l = rw (le-ltb _ _ h, eq-eqb (getD ws (wordAt i hitsAt) 0) (getD ws (wordAt at hitsAt) 0) (omega arith), lt-ltb _ _ l)
 
-  pub lesser-old : getD ws (wordAt at 4) 0 ≤ getD ws (wordAt i 4) 0 → getD ws (wordAt i 4) 0 ≤ getD ws (wordAt at 4) 0 → getD ws (wordAt at 6) 0 ≤ getD ws (wordAt i 6) 0 → at ≡ lesserOf ws at i
+  pub lesser-old : getD ws (wordAt at hitsAt) 0 ≤ getD ws (wordAt i hitsAt) 0 → getD ws (wordAt i hitsAt) 0 ≤ getD ws (wordAt at hitsAt) 0
+      → getD ws (wordAt at bornAt) 0 ≤ getD ws (wordAt i bornAt) 0 → at ≡ lesserOf ws at i
   unfolding lesserOf
-  lesser-old h k l = rw (le-ltb _ _ h, eq-eqb (getD ws (wordAt i 4) 0) (getD ws (wordAt at 4) 0) (omega arith), le-ltb _ _ l)
+  lesser-old h k l = rw (le-ltb _ _ h, eq-eqb (getD ws (wordAt i hitsAt) 0) (getD ws (wordAt at hitsAt) 0) (omega arith), le-ltb _ _ l)
 
 pick-from : (b : Bool) (es : List Entry) (at i n : ℕ) (rest : List Entry)
     → victimFrom (pick b i at) (getD es (pick b i at) no-entry) n rest
@@ -42,7 +45,8 @@ pick-from true es at i n rest = refl
 pick-from false es at i n rest = refl
 
 module _ (rows : ℕ) (ws : List ℕ) (k : Held rows ws) where
-  pub victim-start : 0 < rows → victimFrom 0 (getD (entriesIn rows ws) 0 no-entry) 1 (drop 1 (entriesIn rows ws)) ≡ victim (entriesIn rows ws)
+  pub victim-start : 0 < rows
+      → victimFrom 0 (getD (entriesIn rows ws) 0 no-entry) 1 (drop 1 (entriesIn rows ws)) ≡ victim (entriesIn rows ws)
   unfolding victim
   victim-start h = go (entriesIn rows ws) (subst (λ (n : ℕ). 0 < n) (sym (entries-length rows ws)) h)
     where
@@ -63,13 +67,15 @@ module _ (rows : ℕ) (ws : List ℕ) (k : Held rows ws) where
       let es = entriesIn rows ws in
       let q : i < length es = subst (λ (n : ℕ). i < n) (sym (entries-length rows ws)) l in
       ap (λ (n : ℕ). victimFrom n (getD es n no-entry) (i + 1) (drop (i + 1) es)) (lesser-before at i h l)
-      ∙ ap (λ (n : ℕ). victimFrom (pick (before (getD es i no-entry) (getD es at no-entry)) i at) (getD es (pick (before (getD es i no-entry) (getD es at no-entry)) i at) no-entry) n (drop n es)) (add-one i)
+      ∙ ap (λ (n : ℕ). victimFrom (pick (before (getD es i no-entry) (getD es at no-entry)) i at)
+      (getD es (pick (before (getD es i no-entry) (getD es at no-entry)) i at) no-entry) n (drop n es)) (add-one i)
       ∙ pick-from (before (getD es i no-entry) (getD es at no-entry)) es at i (suc i) (drop (suc i) es)
       ∙ sym (ap (λ (r : List Entry). victimFrom at (getD es at no-entry) i r) (drop-cons es i no-entry q))
 
   pub lesser-lt : (at i : ℕ) → at < rows → i < rows → lesserOf ws at i < rows
   lesser-lt at i h l =
-      subst (λ (n : ℕ). n < rows) (sym (lesser-before at i h l)) (go (before (getD (entriesIn rows ws) i no-entry) (getD (entriesIn rows ws) at no-entry)))
+      subst (λ (n : ℕ). n < rows) (sym (lesser-before at i h l))
+      (go (before (getD (entriesIn rows ws) i no-entry) (getD (entriesIn rows ws) at no-entry)))
     where
       go : (b : Bool) → pick b i at < rows
       go true = l

@@ -1,4 +1,5 @@
--- The slots of a tier as one buffer: 'slots from rows on are zero'. What acceptance says of it, and its changes word by word. Assumes nothing.
+-- The slots of a tier as one buffer: 'slots from rows on are zero'. What acceptance says of it, and its changes word by word.
+-- Assumes nothing.
 use mathlib.Core.Path.{_≡_}
 use mathlib.Core.Bool.{Bool, true, false, _&&_, _||_}
 use mathlib.Core.List.{List, [], _∷_, _++_}
@@ -8,7 +9,7 @@ use lib.ListN.{length, getD, set, take, drop}
 use Rattle.lists.specs.Lists.{all}
 use Rattle.words.specs.Region.{maxAtoms}
 use Rattle.meter.specs.Meter.{pick}
-use Rattle.model.specs.Records.{Entry, isRow, slotWords, plus}
+use Rattle.model.specs.Records.{Entry, isRow, slotWords, saturatingAdd, hitsAt, unsharedAt, bornAt, deliveredAt}
 use Rattle.model.specs.Slots.{slotsOf, entriesIn}
 
 -- how many slots the buffer has
@@ -28,18 +29,19 @@ wordAt p k = slotWords * p + k
 -- the hits, and the hits not shared yet, each one more
 unfoldable pub hitWords : ℕ → List ℕ → List ℕ
 hitWords p ws =
-    set (set ws (wordAt p 4) (plus (getD ws (wordAt p 4) 0) 1)) (wordAt p 5) (plus (getD ws (wordAt p 5) 0) 1)
+    set (set ws (wordAt p hitsAt) (saturatingAdd (getD ws (wordAt p hitsAt) 0) 1)) (wordAt p unsharedAt)
+    (saturatingAdd (getD ws (wordAt p unsharedAt) 0) 1)
 
 -- so many hits more
 unfoldable pub hitsAdded : ℕ → ℕ → List ℕ → List ℕ
-hitsAdded p n ws = set ws (wordAt p 4) (plus (getD ws (wordAt p 4) 0) n)
+hitsAdded p n ws = set ws (wordAt p hitsAt) (saturatingAdd (getD ws (wordAt p hitsAt) 0) n)
 
 -- marked delivered, with nothing unshared, or with what was
 unfoldable pub markedDelivered : ℕ → List ℕ → List ℕ
-markedDelivered p ws = set ws (wordAt p 7) 1
+markedDelivered p ws = set ws (wordAt p deliveredAt) 1
 
 unfoldable pub sharedOut : ℕ → List ℕ → List ℕ
-sharedOut p ws = set (set ws (wordAt p 5) 0) (wordAt p 7) 1
+sharedOut p ws = set (set ws (wordAt p unsharedAt) 0) (wordAt p deliveredAt) 1
 
 -- the entries whose position is not marked, from position i on
 unfoldable pub keptBy : (ℕ → Bool) → ℕ → List Entry → List Entry
@@ -74,6 +76,7 @@ movedDown f (suc n) i to ws =
 unfoldable pub lesserOf : List ℕ → ℕ → ℕ → ℕ
 lesserOf ws at i =
     pick
-    (ltb (getD ws (wordAt i 4) 0) (getD ws (wordAt at 4) 0)
-    || (eqb (getD ws (wordAt i 4) 0) (getD ws (wordAt at 4) 0) && ltb (getD ws (wordAt i 6) 0) (getD ws (wordAt at 6) 0)))
+    (ltb (getD ws (wordAt i hitsAt) 0) (getD ws (wordAt at hitsAt) 0)
+    || (eqb (getD ws (wordAt i hitsAt) 0) (getD ws (wordAt at hitsAt) 0)
+    && ltb (getD ws (wordAt i bornAt) 0) (getD ws (wordAt at bornAt) 0)))
     i at

@@ -4,25 +4,19 @@ ghost use mathlib.Core.List.{_++_};
 ghost use Prim.Native.Nat.{_+_, _-_, _*_, _<_, _≤_};
 ghost use lib.ListN.{length, take, drop, replicate};
 ghost use Rattle.words.specs.Region.{has};
-ghost use Rattle.model.specs.Records.{slotWords, plus};
+ghost use Rattle.model.specs.Records.{slotWords};
 ghost use Rattle.model.specs.Slots.{slotsOf, entriesIn};
 ghost use Rattle.model.specs.Retention.{victim as victimOf, halved};
-ghost use Rattle.tier.specs.Tier.{tierOf, Held, hitWords, hitsAdded, markedDelivered, sharedOut, lesserOf, moved, keptWords, keptPlace, closedUp};
+ghost use Rattle.tier.specs.Tier.{tierOf, Held, hitWords, hitsAdded, markedDelivered, sharedOut, lesserOf, moved, keptWords};
+ghost use Rattle.tier.specs.Tier.{keptPlace, closedUp};
 use lists::fill_zero;
+use model::BORN_AT;
+use model::DELIVERED_AT;
+use model::HITS_AT;
 use model::SLOT_WORDS;
+use model::UNSHARED_AT;
+use model::saturating_add;
 use words::contains;
-
-const MOST: u64 = 18446744073709551615;
-
-// The sum, or the greatest number where the sum is beyond it.
-pub fn saturating_add(a: u64, b: u64) -> u64
-    ensures { λ r. ⌜ r ≡ plus a b ⌝ }
-{
-    if MOST - a < b {
-        return MOST;
-    }
-    a + b
-}
 
 // One hit more for the row at `position`, shared with nobody yet.
 pub fn hit(slots: &mut [u64], position: usize)
@@ -30,10 +24,10 @@ pub fn hit(slots: &mut [u64], position: usize)
     ensures { λ _. ⌜ now (slots .exit) ≡ hitWords position (now (slots .entry)) ⌝ }
 {
     let at = SLOT_WORDS * position;
-    let hits = saturating_add(slots[at + 4], 1);
-    let unshared = saturating_add(slots[at + 5], 1);
-    slots[at + 4] = hits;
-    slots[at + 5] = unshared;
+    let hits = saturating_add(slots[at + HITS_AT], 1);
+    let unshared = saturating_add(slots[at + UNSHARED_AT], 1);
+    slots[at + HITS_AT] = hits;
+    slots[at + UNSHARED_AT] = unshared;
 }
 
 // `hits` hits more for the row at `position`.
@@ -42,7 +36,7 @@ pub fn add_hits(slots: &mut [u64], position: usize, hits: u64)
     ensures { λ _. ⌜ now (slots .exit) ≡ hitsAdded position hits (now (slots .entry)) ⌝ }
 {
     let at = SLOT_WORDS * position;
-    slots[at + 4] = saturating_add(slots[at + 4], hits);
+    slots[at + HITS_AT] = saturating_add(slots[at + HITS_AT], hits);
 }
 
 // The row at `position` came from a store: it has nothing to deliver.
@@ -51,7 +45,7 @@ pub fn mark_delivered(slots: &mut [u64], position: usize)
     ensures { λ _. ⌜ now (slots .exit) ≡ markedDelivered position (now (slots .entry)) ⌝ }
 {
     let at = SLOT_WORDS * position;
-    slots[at + 7] = 1;
+    slots[at + DELIVERED_AT] = 1;
 }
 
 // The row at `position` is delivered, and so are its hits.
@@ -60,8 +54,8 @@ pub fn share_out(slots: &mut [u64], position: usize)
     ensures { λ _. ⌜ now (slots .exit) ≡ sharedOut position (now (slots .entry)) ⌝ }
 {
     let at = SLOT_WORDS * position;
-    slots[at + 5] = 0;
-    slots[at + 7] = 1;
+    slots[at + UNSHARED_AT] = 0;
+    slots[at + DELIVERED_AT] = 1;
 }
 
 // The position with the less (hits, born) of two; the first where they are equal.
@@ -71,13 +65,13 @@ fn lesser(slots: &[u64], at: usize, i: usize) -> usize
 {
     let a = SLOT_WORDS * at;
     let b = SLOT_WORDS * i;
-    if slots[b + 4] < slots[a + 4] {
+    if slots[b + HITS_AT] < slots[a + HITS_AT] {
         return i;
     }
-    if slots[a + 4] < slots[b + 4] {
+    if slots[a + HITS_AT] < slots[b + HITS_AT] {
         return at;
     }
-    if slots[b + 6] < slots[a + 6] {
+    if slots[b + BORN_AT] < slots[a + BORN_AT] {
         return i;
     }
     at
@@ -104,7 +98,7 @@ pub fn halve(slots: &mut [u64], rows: usize)
 {
     let mut i: usize = 0;
     while i < rows {
-        let at = SLOT_WORDS * i + 4;
+        let at = SLOT_WORDS * i + HITS_AT;
         slots[at] = slots[at] / 2;
         i += 1;
     }
@@ -127,7 +121,8 @@ fn move_slot(slots: &mut [u64], from: usize, to: usize)
 // The slot at `from` copied down to `to` unless it is marked; the place after it.
 fn keep(slots: &mut [u64], from: usize, to: usize, replaced: &[u64]) -> usize
     requires { ⌜ to ≤ from ⌝ ∗ ⌜ slotWords * from + slotWords ≤ length (now slots) ⌝ }
-    ensures { λ r. ⌜ (now (slots .exit) ≡ keptWords (has (now (replaced .entry)) from) from to (now (slots .entry))) × (r ≡ keptPlace (has (now (replaced .entry)) from) to) ⌝ }
+    ensures { λ r. ⌜ (now (slots .exit) ≡ keptWords (has (now (replaced .entry)) from) from to (now (slots .entry)))
+        × (r ≡ keptPlace (has (now (replaced .entry)) from) to) ⌝ }
 {
     if contains(replaced, from as u64) {
         return to;
@@ -139,7 +134,8 @@ fn keep(slots: &mut [u64], from: usize, to: usize, replaced: &[u64]) -> usize
 // The rows after `first` that are not marked close up, and the places freed become zero; how many rows there are then.
 pub fn close_up(slots: &mut [u64], rows: usize, first: usize, replaced: &[u64]) -> usize
     requires { ⌜ Held rows (now slots) ⌝ ∗ ⌜ first < rows ⌝ }
-    ensures { λ r. ⌜ (now (slots .exit) ≡ slotsOf (tierOf (now (slots .entry))) (closedUp (has (now (replaced .entry))) first (entriesIn rows (now (slots .entry)))))
+    ensures { λ r. ⌜ (now (slots .exit)
+        ≡ slotsOf (tierOf (now (slots .entry))) (closedUp (has (now (replaced .entry))) first (entriesIn rows (now (slots .entry)))))
         × (r ≡ length (closedUp (has (now (replaced .entry))) first (entriesIn rows (now (slots .entry))))) ⌝ }
 {
     let mut to = first + 1;

@@ -4,7 +4,7 @@ use mathlib.Core.List.{List}
 use Prim.Native.Nat.{ℕ, suc, _+_, _*_, max, _≤_, _<_}
 use native.Mathlib.Omega.{arith}
 use lib.ListN.{length}
-use Rattle.words.proofs.Bools.{T-true, T-of}
+use Rattle.lists.proofs.Bools.{T-true, T-of}
 use Rattle.meter.specs.declared.Meter.{Meter}
 use Rattle.meter.specs.declared.Sharing.{Sharing}
 use Rattle.meter.specs.declared.Account.{Account}
@@ -15,25 +15,25 @@ use Rattle.model.specs.declared.LearningLimits.{LearningLimits}
 use Rattle.model.specs.declared.Header.{Header}
 use Rattle.model.specs.Records.{Row, Ledger, isRow, limitsOk, literals, slotWords, maxRows, maxOutputs}
 use Rattle.model.specs.Slots.{rowIn}
-use Rattle.model.specs.Retention.{Retained as Kept, retain}
+use Rattle.model.specs.Retention.{Retention as Kept, retain}
 use Rattle.model.specs.Transfers.{Transfer, starting, ticked, receive}
 use Rattle.model.proofs.Priority.Steps.{most-ok}
 use Rattle.slots.specs.Layout.{Stored}
 use Rattle.slots.proofs.Storing.{laid-stored}
 use Rattle.contents.specs.Lent.{lent}
 use Rattle.contents.specs.Accepted.{Accepted}
-use Rattle.keeping.specs.Stood.{Stood}
-use Rattle.keeping.proofs.Standing.{stood-accepted, stood-rows, stood-limits, stood-outcome, stood-account, stood-meter, stood-retained}
-use Rattle.retention.specs.declared.Retained.{Retained}
-use Rattle.retention.specs.Ends.{End, outcomeOf, retainEnd}
-use Rattle.transfers.specs.declared.receiving.Reach.{Reach}
-use Rattle.transfers.specs.declared.receiving.Passage.{Passage}
+use Rattle.retain_keep.specs.Stood.{Stood}
+use Rattle.retain_keep.proofs.Standing.{stood-accepted, stood-rows, stood-limits, stood-outcome, stood-account, stood-meter, stood-retained}
+use Rattle.retain.specs.declared.Retention.{Retention}
+use Rattle.retain.specs.Ends.{End, outcomeOf, retainEnd}
+use Rattle.transfers.specs.declared.receiving.Progress.{Progress}
+use Rattle.transfers.specs.declared.receiving.TransferState.{TransferState}
 use Rattle.transfers.specs.Receiving.{receivedEnd}
-use Rattle.transfers.specs.Passage.{reachOf, startBy, Carried}
+use Rattle.transfers.specs.Transfer.{progressOf, startBy, Carried}
 use Rattle.transfers.proofs.Positions.{Within, retain-within, retain-limits}
 
 -- what a retention of the code is, beside the definition's, after the transfer v with at most c rows Added
-pub record Received (n c : ℕ) (p : Passage) (v : Transfer) (k : Retained) (slots postings : List ℕ) (d : Kept) : Type 0 where
+pub record Received (n c : ℕ) (p : TransferState) (v : Transfer) (k : Retention) (slots postings : List ℕ) (d : Kept) : Type 0 where
   pub stood : Stood (k .header) slots postings (d .ledger)
   pub outcome : outcomeOf (k .answer) ≡ d .outcome
   pub account : k .account ≡ d .account
@@ -43,7 +43,7 @@ pub record Received (n c : ℕ) (p : Passage) (v : Transfer) (k : Retained) (slo
   pub added : p .added ≡ v .added
   pub few : v .added ≤ c
 
-module _ (n c : ℕ) (p : Passage) (slots postings : List ℕ) (v : Transfer) (h : Carried n c p slots postings v) where
+module _ (n c : ℕ) (p : TransferState) (slots postings : List ℕ) (v : Transfer) (h : Carried n c p slots postings v) where
   pub carried-accepted : Accepted (p .header) slots postings
   carried-accepted = stood-accepted (p .header) slots postings (v .receiver) (h .stood)
 
@@ -51,10 +51,12 @@ module _ (n c : ℕ) (p : Passage) (slots postings : List ℕ) (v : Transfer) (h
   carried-atoms = ap (λ (x : LearningLimits). x .atoms) (stood-limits (p .header) slots postings (v .receiver) (h .stood)) ∙ h .over
 
   -- a tick apart
-  pub carried-ticked : (m : Meter) (x : Reach) → Carried n c (record { reach = x; header = p .header; account = p .account; meter = m; added = p .added }) slots postings (ticked v m (reachOf x))
+  pub carried-ticked : (m : Meter) (x : Progress)
+      → Carried n c (record { progress = x; header = p .header; account = p .account; meter = m; added = p .added }) slots postings
+      (ticked v m (progressOf x))
   unfolding ticked
   carried-ticked m x = record
-      { stood = h .stood; account = h .account; meter = refl; added = h .added; reach = refl; over = h .over; few = h .few }
+      { stood = h .stood; account = h .account; meter = refl; added = h .added; progress = refl; over = h .over; few = h .few }
 
   pub carried-up : (k : ℕ) → c ≤ k → Carried n k p slots postings v
   carried-up k l = record {
@@ -62,13 +64,14 @@ module _ (n c : ℕ) (p : Passage) (slots postings : List ℕ) (v : Transfer) (h
     account = h .account;
     meter = h .meter;
     added = h .added;
-    reach = h .reach;
+    progress = h .progress;
     over = h .over;
     few = let f = h .few in omega arith;
   }
 
   -- the row in a slot is received
-  module _ (row : List ℕ) (s : Stored (p .header .limits .atoms) row) (tier : LearningLimits) (o : tier .«founded_outputs» ≤ maxOutputs) (hits : ℕ) where
+  module _ (row : List ℕ) (s : Stored (p .header .limits .atoms) row) (tier : LearningLimits) (o : tier .«founded_outputs» ≤ maxOutputs)
+      (hits : ℕ) where
     abbrev t : Row
     t = rowIn row
 
@@ -78,47 +81,56 @@ module _ (n c : ℕ) (p : Passage) (slots postings : List ℕ) (v : Transfer) (h
     abbrev run : Read
     run = pay (suc (literals t)) (v .account) (v .meter)
 
-    pub carried-received : (k : Retained) (ws ps : List ℕ) →
-        retainEnd k ws ps ≡ receivedEnd (lent (p .header) slots postings) t (tier .«founded_outputs») hits (pay (suc (literals t)) (p .account) (p .meter)) →
+    pub carried-received : (k : Retention) (ws ps : List ℕ) →
+        retainEnd k ws ps ≡ receivedEnd (lent (p .header) slots postings) t (tier .«founded_outputs») hits
+        (pay (suc (literals t)) (p .account) (p .meter)) →
         Received n c p v k ws ps (receive tier hits t v)
     unfolding receive
     carried-received k ws ps e =
         let q : retainEnd k ws ps ≡ receivedEnd (lent (p .header) slots postings) t (tier .«founded_outputs») hits run
-        = e ∙ ap₂ (λ (a : Account) (m : Meter). receivedEnd (lent (p .header) slots postings) t (tier .«founded_outputs») hits (pay (suc (literals t)) a m)) (h .account) (h .meter) in
+        = e
+        ∙ ap₂ (λ (a : Account) (m : Meter). receivedEnd (lent (p .header) slots postings) t (tier .«founded_outputs») hits
+        (pay (suc (literals t)) a m)) (h .account) (h .meter) in
         let g = laid-stored (p .header .limits .atoms) row s in
         let few : most ≤ maxOutputs = let i = g .counted .most in let j = g .outputCount in omega arith in
         let stood : Stood (k .header) ws ps (retain (v .receiver) most hits t run .ledger)
-        = stood-retained (p .header) slots postings (v .receiver) (h .stood) most hits t run (k .header) ws ps few (T-true (isRow (p .header .limits .atoms) t) (s .row)) (ap (λ (x : End). x .ledger) q) in
+        = stood-retained (p .header) slots postings (v .receiver) (h .stood) most hits t run (k .header) ws ps few
+        (T-true (isRow (p .header .limits .atoms) t) (s .row)) (ap (λ (x : End). x .ledger) q) in
         record {
           stood = stood;
           outcome = ap (λ (x : End). x .outcome) q ∙ stood-outcome (p .header) slots postings (v .receiver) (h .stood) most hits t run;
           account = ap (λ (x : End). x .account) q ∙ stood-account (p .header) slots postings (v .receiver) (h .stood) most hits t run;
           meter = ap (λ (x : End). x .meter) q ∙ stood-meter (p .header) slots postings (v .receiver) (h .stood) most hits t run;
           over = ap (λ (x : LearningLimits). x .atoms) (retain-limits (v .receiver) hits t most run) ∙ h .over;
-          within = subst (λ (i : ℕ). Within i (retain (v .receiver) most hits t run .outcome)) (sym (stood-rows (k .header) ws ps (retain (v .receiver) most hits t run .ledger) stood)) (retain-within (v .receiver) hits t most run);
+          within = subst (λ (i : ℕ). Within i (retain (v .receiver) most hits t run .outcome))
+              (sym (stood-rows (k .header) ws ps (retain (v .receiver) most hits t run .ledger) stood))
+              (retain-within (v .receiver) hits t most run);
           added = h .added;
           few = h .few;
         }
 
 -- ---- at the start
-pub carried-start : (h : Header) (slots postings : List ℕ) (l : Ledger) → Stood h slots postings l → (a : Sharing) (m : Meter) → Carried (h .limits .atoms) 0 (startBy h a m) slots postings (starting l (Share a) m)
+pub carried-start : (h : Header) (slots postings : List ℕ) (l : Ledger) → Stood h slots postings l → (a : Sharing) (m : Meter)
+    → Carried (h .limits .atoms) 0 (startBy h a m) slots postings (starting l (Share a) m)
 unfolding starting
 carried-start h slots postings l s a m = record {
   stood = s;
   account = refl;
   meter = refl;
   added = refl;
-  reach = refl;
+  progress = refl;
   over = ap (λ (x : LearningLimits). x .atoms) (sym (stood-limits h slots postings l s));
   few = omega arith;
 }
 
 -- ---- a position is within the words
-pub place-fits : (h : Header) (slots postings : List ℕ) (l : Ledger) → Stood h slots postings l → (p : ℕ) → p < h .rows → (p < maxRows) × (slotWords * p + slotWords ≤ length slots)
+pub place-fits : (h : Header) (slots postings : List ℕ) (l : Ledger) → Stood h slots postings l → (p : ℕ) → p < h .rows
+    → (p < maxRows) × (slotWords * p + slotWords ≤ length slots)
 place-fits h slots postings l s p q =
     let a = stood-accepted h slots postings l s in
-    let f = a .few in let m = a .most in let n = a .long in (omega arith, omega arith)
+    let f = a .stands .few in let m = a .stands .most in let n = a .stands .long in (omega arith, omega arith)
 
 pub outputs-fit : (h : Header) (slots postings : List ℕ) (l : Ledger) → Stood h slots postings l → h .limits .«founded_outputs» ≤ maxOutputs
 outputs-fit h slots postings l s =
-    subst (λ (x : LearningLimits). x .«founded_outputs» ≤ maxOutputs) (sym (stood-limits h slots postings l s)) (most-ok (l .header .limits) (T-of {x = limitsOk (l .header .limits)} (s .good .limits)) .1)
+    subst (λ (x : LearningLimits). x .«founded_outputs» ≤ maxOutputs) (sym (stood-limits h slots postings l s))
+    (most-ok (l .header .limits) (T-of {x = limitsOk (l .header .limits)} (s .good .limits)) .1)

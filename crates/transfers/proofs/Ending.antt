@@ -14,22 +14,25 @@ use Rattle.meter.specs.Meter.{made}
 use Rattle.model.specs.declared.Header.{Header}
 use Rattle.model.specs.declared.TransferAnswer.{TransferAnswer}
 use Rattle.model.specs.declared.TransferResult.{TransferResult}
-use Rattle.model.specs.Records.{header, plus, withAccount, withSeeded, withDeliveries}
+use Rattle.model.specs.Records.{saturatingAdd, withAccount, withSeeded, withDeliveries}
 use Rattle.model.specs.Slots.{entriesIn}
-use Rattle.model.specs.Transfers.{Transfer, starting, seedRows, markFor, seeding, marked, seededTier, seededStore, Delivery, deliverRows, delivering, deliveredTier, deliveredStore}
+use Rattle.model.specs.Transfers.{Transfer, starting, seedRows, markFor, seeding, marked, seededTier, seededStore, Delivery, deliverRows}
+use Rattle.model.specs.Transfers.{delivering, deliveredTier, deliveredStore}
 use Rattle.model.specs.Transfers as transfers
 use Rattle.model.specs.Refusals.{Lent, refusal, accepts, ledgerIn, lentOf}
 use Rattle.model.specs.Operations.{TransferEnd, transferRefusal, untransferred, transferAnswer, transferEnd as endOf, seed, deliver}
-use Rattle.slots.specs.Layout.{Stored, slotAt}
-use Rattle.contents.specs.Lent.{lent, verdict}
+use Rattle.slots.specs.Layout.{RowsOver}
+use Rattle.slots.proofs.Rows.{stands-rows}
+use Rattle.model.proofs.Headers.{setDeliveries, setSeeded, deliveries-in, seeded-in}
+use Rattle.contents.specs.Lent.{lent, refusedBy}
 use Rattle.contents.specs.Accepted.{Accepted}
-use Rattle.contents.proofs.Accepting.{orElse, accepts-later, accept-refused, accept-passed, verdict-some}
-use Rattle.keeping.specs.Stood.{Stood}
-use Rattle.keeping.proofs.Headers.{account-lent, mark-lent, seeded-lent, deliveries-lent}
-use Rattle.transfers.specs.declared.receiving.Reach.{Reach}
-use Rattle.transfers.specs.declared.receiving.Reach.the-variants.{Whole, Declined, Stopped}
-use Rattle.transfers.specs.declared.receiving.Passage.{Passage}
-use Rattle.transfers.specs.Passage.{reachOf, Carried, Giving}
+use Rattle.contents.proofs.Accepting.{orElse, accepts-later, accept-refused, accept-passed, refusedBy-some}
+use Rattle.retain_keep.specs.Stood.{Stood}
+use Rattle.retain_keep.proofs.Headers.{account-lent, mark-lent, seeded-lent, deliveries-lent}
+use Rattle.transfers.specs.declared.receiving.Progress.{Progress}
+use Rattle.transfers.specs.declared.receiving.Progress.the-variants.{Whole, Declined, Stopped}
+use Rattle.transfers.specs.declared.receiving.TransferState.{TransferState}
+use Rattle.transfers.specs.Transfer.{progressOf, Carried}
 use Rattle.transfers.specs.Handing.{Delivered}
 use Rattle.transfers.specs.Ends.{transferEnd, untransferredBy, answerOf, markedBy, seededBy, deliveredBy}
 
@@ -38,26 +41,26 @@ module _ (t s : Lent) where
   abbrev seven : List (Bool × ℕ)
   seven = (eqb (t .header .limits .atoms) (s .header .limits .atoms), 7) ∷ []
 
-  module _ (n : ℕ) (e : verdict n ≡ refusal (accepts t true [])) where
-    pub tier-refused : (n ≡ 0 → ⊥) → verdict n ≡ transferRefusal t s
+  module _ (n : ℕ) (e : refusedBy n ≡ refusal (accepts t true [])) where
+    pub tier-refused : (n ≡ 0 → ⊥) → refusedBy n ≡ transferRefusal t s
     unfolding transferRefusal
-    tier-refused f = verdict-some n f ∙ sym (accept-refused t true (accepts s true seven) n e f)
+    tier-refused f = refusedBy-some n f ∙ sym (accept-refused t true (accepts s true seven) n e f)
 
-    module _ (z : n ≡ 0) (m : ℕ) (g : verdict m ≡ refusal (accepts s true [])) where
-      pub store-refused : (m ≡ 0 → ⊥) → verdict m ≡ transferRefusal t s
+    module _ (z : n ≡ 0) (m : ℕ) (g : refusedBy m ≡ refusal (accepts s true [])) where
+      pub store-refused : (m ≡ 0 → ⊥) → refusedBy m ≡ transferRefusal t s
       unfolding transferRefusal
-      store-refused f = verdict-some m f ∙ sym (accept-passed t true (accepts s true seven) n e z ∙ accept-refused s true seven m g f)
+      store-refused f = refusedBy-some m f ∙ sym (accept-passed t true (accepts s true seven) n e z ∙ accept-refused s true seven m g f)
 
       module _ (y : m ≡ 0) where
         last : transferRefusal t s ≡ refusal seven
         unfolding transferRefusal
         last = accept-passed t true (accepts s true seven) n e z ∙ accept-passed s true seven m g y
 
-        pub atoms-refused : (t .header .limits .atoms ≡ s .header .limits .atoms → ⊥) → verdict 7 ≡ transferRefusal t s
+        pub atoms-refused : (t .header .limits .atoms ≡ s .header .limits .atoms → ⊥) → refusedBy 7 ≡ transferRefusal t s
         unfolding refusal
         atoms-refused f = sym (last ∙ rw (ne-eqb (t .header .limits .atoms) (s .header .limits .atoms) f))
 
-        pub none-refused : t .header .limits .atoms ≡ s .header .limits .atoms → verdict 0 ≡ transferRefusal t s
+        pub none-refused : t .header .limits .atoms ≡ s .header .limits .atoms → refusedBy 0 ≡ transferRefusal t s
         unfolding refusal
         none-refused f = sym (last ∙ rw (eq-eqb (t .header .limits .atoms) (s .header .limits .atoms) f))
 
@@ -95,77 +98,76 @@ module _ (t s : Lent) (e : transferRefusal t s ≡ none) where
   store-accepted = rest .0
 
   pub atoms-same : t .header .limits .atoms ≡ s .header .limits .atoms
-  atoms-same = eqb-true (t .header .limits .atoms) (s .header .limits .atoms) (seven-none (eqb (t .header .limits .atoms) (s .header .limits .atoms)) (rest .1))
+  atoms-same =
+      eqb-true (t .header .limits .atoms) (s .header .limits .atoms)
+      (seven-none (eqb (t .header .limits .atoms) (s .header .limits .atoms)) (rest .1))
 
-pub giving : (n : ℕ) (h : Header) (slots postings : List ℕ) → Accepted h slots postings → n ≡ h .limits .atoms → Giving n (h .rows) slots
-giving n h slots postings a e = record {
-  few = let f = a .few in let m = a .most in omega arith;
-  long = let f = a .few in let l = a .long in omega arith;
-  stored = λ p l. subst (λ (k : ℕ). Stored k (slotAt slots p)) (sym e) (a .stored p l);
-}
+pub giving : (n : ℕ) (h : Header) (slots postings : List ℕ) → Accepted h slots postings → n ≡ h .limits .atoms → RowsOver n (h .rows) slots
+giving n h slots postings a e = subst (λ (k : ℕ). RowsOver k (h .rows) slots) (sym e) (stands-rows (a .stands))
 
-pub stood-now : (t : Header) (ts tp : List ℕ) → Stood t ts tp (ledgerIn (lent t ts tp)) → Stood t ts tp (record { header = t; entries = entriesIn (t .rows) ts })
+pub stood-now : (t : Header) (ts tp : List ℕ) → Stood t ts tp (ledgerIn (lent t ts tp))
+    → Stood t ts tp (record { header = t; entries = entriesIn (t .rows) ts })
 unfolding ledgerIn
 stood-now t ts tp s = s
 
 -- ---- the result
-answer-is : (x : Reach) → answerOf x ≡ transferAnswer (reachOf x)
+answer-is : (x : Progress) → answerOf x ≡ transferAnswer (progressOf x)
 unfolding transferAnswer
 answer-is Whole = refl
 answer-is Declined = refl
 answer-is Stopped = refl
 
-module _ (p : Passage) (h : Header) (m : Meter) {a : TransferAnswer} {s k : ℕ} (ea : a ≡ answerOf (p .reach)) (ek : k ≡ made m (p .meter)) where
-  pub seeded-is : {t u : Header} → u ≡ withAccount (p .header) (p .account) → t ≡ markedBy (p .reach) h u → s ≡ plus (h .seeded) (p .added) →
+module _ (p : TransferState) (h : Header) (m : Meter) {a : TransferAnswer} {s k : ℕ} (ea : a ≡ answerOf (p .progress))
+    (ek : k ≡ made m (p .meter)) where
+  pub seeded-is : {t u : Header} → u ≡ withAccount (p .header) (p .account) → t ≡ markedBy (p .progress) h u
+      → s ≡ saturatingAdd (h .seeded) (p .added) →
       _≡_ {A = TransferResult} (record {
         answer = a;
         tier = t;
-        store = header (h .limits) (h .number) (h .rows) (h .born) (h .epoch) (h .attempts) (h .remaining) (h .sharing) (h .evicted) (h .deliveries) s (h .stale) (h .full) (h .mark);
+        store = setSeeded h s;
         meter = p .meter;
         ticks = k;
       }) (seededBy p h m)
-  unfolding withSeeded
   seeded-is eu et es =
       ap₂ {C = TransferResult} (λ (x : TransferAnswer) (y : Header). record {
         answer = x;
         tier = y;
-        store = header (h .limits) (h .number) (h .rows) (h .born) (h .epoch) (h .attempts) (h .remaining) (h .sharing) (h .evicted) (h .deliveries) s (h .stale) (h .full) (h .mark);
+        store = setSeeded h s;
         meter = p .meter;
         ticks = k;
-      }) ea (et ∙ ap (markedBy (p .reach) h) eu)
-      ∙ ap₂ {C = TransferResult} (λ (x y : ℕ). record {
-        answer = answerOf (p .reach);
-        tier = markedBy (p .reach) h (withAccount (p .header) (p .account));
-        store = header (h .limits) (h .number) (h .rows) (h .born) (h .epoch) (h .attempts) (h .remaining) (h .sharing) (h .evicted) (h .deliveries) x (h .stale) (h .full) (h .mark);
+      }) ea (et ∙ ap (markedBy (p .progress) h) eu)
+      ∙ ap₂ {C = TransferResult} (λ (x : Header) (y : ℕ). record {
+        answer = answerOf (p .progress);
+        tier = markedBy (p .progress) h (withAccount (p .header) (p .account));
+        store = x;
         meter = p .meter;
         ticks = y;
-      }) es ek
+      }) (seeded-in h (p .added) es) ek
 
-  pub delivered-is : {t : Header} → t ≡ withAccount h (p .account) → s ≡ plus (p .header .deliveries) (p .added) →
+  pub delivered-is : {t : Header} → t ≡ withAccount h (p .account) → s ≡ saturatingAdd (p .header .deliveries) (p .added) →
       _≡_ {A = TransferResult} (record {
         answer = a;
         tier = t;
-        store = header (p .header .limits) (p .header .number) (p .header .rows) (p .header .born) (p .header .epoch) (p .header .attempts) (p .header .remaining) (p .header .sharing) (p .header .evicted) s (p .header .seeded) (p .header .stale) (p .header .full) (p .header .mark);
+        store = setDeliveries (p .header) s;
         meter = p .meter;
         ticks = k;
       }) (deliveredBy p h m)
-  unfolding withDeliveries
   delivered-is et es =
       let u : Header = p .header in
       ap₂ {C = TransferResult} (λ (x : TransferAnswer) (y : Header). record {
         answer = x;
         tier = y;
-        store = header (u .limits) (u .number) (u .rows) (u .born) (u .epoch) (u .attempts) (u .remaining) (u .sharing) (u .evicted) s (u .seeded) (u .stale) (u .full) (u .mark);
+        store = setDeliveries u s;
         meter = p .meter;
         ticks = k;
       }) ea et
-      ∙ ap₂ {C = TransferResult} (λ (x y : ℕ). record {
-        answer = answerOf (p .reach);
+      ∙ ap₂ {C = TransferResult} (λ (x : Header) (y : ℕ). record {
+        answer = answerOf (p .progress);
         tier = withAccount h (p .account);
-        store = header (u .limits) (u .number) (u .rows) (u .born) (u .epoch) (u .attempts) (u .remaining) (u .sharing) (u .evicted) x (u .seeded) (u .stale) (u .full) (u .mark);
+        store = x;
         meter = p .meter;
         ticks = y;
-      }) es ek
+      }) (deliveries-in u (p .added) es) ek
 
 -- ---- Seed
 module _ (t s : Header) (ts tp ss sp : List ℕ) (m : Meter) where
@@ -183,7 +185,8 @@ module _ (t s : Header) (ts tp ss sp : List ℕ) (m : Meter) where
   abbrev done : ℕ → Transfer
   done k = seedRows (t .limits) k (entriesIn (s .rows) ss) (starting (ledgerIn T) (Share (t .sharing)) m)
 
-  module _ (n c k : ℕ) (mark : k ≡ markFor (s .number) (t .mark)) (p : Passage) (ws ps : List ℕ) (h : Carried n c p ws ps (done k)) where
+  module _ (n c k : ℕ) (mark : k ≡ markFor (s .number) (t .mark)) (p : TransferState) (ws ps : List ℕ)
+      (h : Carried n c p ws ps (done k)) where
     abbrev v : Transfer
     v = done k
 
@@ -191,20 +194,24 @@ module _ (t s : Header) (ts tp ss sp : List ℕ) (m : Meter) where
     unfolding seeding ledgerIn
     the-seeding = ap done mark
 
-    tier-lent : (x : Reach) (a : Account) → lent (markedBy x s (withAccount (p .header) a)) ws ps
-        ≡ lentOf (record { header = marked (reachOf x) (ledgerIn S) (withAccount (v .receiver .header) a); entries = v .receiver .entries })
+    tier-lent : (x : Progress) (a : Account) → lent (markedBy x s (withAccount (p .header) a)) ws ps
+        ≡ lentOf
+        (record { header = marked (progressOf x) (ledgerIn S) (withAccount (v .receiver .header) a); entries = v .receiver .entries })
     unfolding marked ledgerIn
     tier-lent Whole a =
-        mark-lent (withAccount (p .header) a) ws ps (record { header = withAccount (v .receiver .header) a; entries = v .receiver .entries })
+        mark-lent (withAccount (p .header) a) ws ps
+        (record { header = withAccount (v .receiver .header) a; entries = v .receiver .entries })
         (account-lent (p .header) ws ps (v .receiver) (h .stood .same) a) (s .number) (s .born)
     tier-lent Declined a = account-lent (p .header) ws ps (v .receiver) (h .stood .same) a
     tier-lent Stopped a = account-lent (p .header) ws ps (v .receiver) (h .stood .same) a
 
-    tier-is : lent (markedBy (p .reach) s (withAccount (p .header) (p .account))) ws ps ≡ lentOf (seededTier (ledgerIn S) v)
+    tier-is : lent (markedBy (p .progress) s (withAccount (p .header) (p .account))) ws ps ≡ lentOf (seededTier (ledgerIn S) v)
     unfolding seededTier
     tier-is =
-        tier-lent (p .reach) (p .account)
-        ∙ ap₂ (λ (x : transfers.Reach) (a : Account). lentOf (record { header = marked x (ledgerIn S) (withAccount (v .receiver .header) a); entries = v .receiver .entries })) (h .reach) (h .account)
+        tier-lent (p .progress) (p .account)
+        ∙ ap₂ (λ (x : transfers.Progress) (a : Account). lentOf
+        (record { header = marked x (ledgerIn S) (withAccount (v .receiver .header) a); entries = v .receiver .entries })) (h .progress)
+        (h .account)
 
     store-is : S ≡ lentOf (ledgerIn S) → lent (withSeeded s (p .added)) ss sp ≡ lentOf (seededStore (ledgerIn S) v)
     unfolding seededStore ledgerIn
@@ -212,25 +219,48 @@ module _ (t s : Header) (ts tp ss sp : List ℕ) (m : Meter) where
         seeded-lent s ss sp (ledgerIn S) e (p .added)
         ∙ ap (λ (i : ℕ). lentOf (record { header = withSeeded s i; entries = ledgerIn S .entries })) (h .added)
 
-    end-is : S ≡ lentOf (ledgerIn S) → transferEnd (seededBy p s m) ws ps ss sp (endOf (seededTier (ledgerIn S) v) (seededStore (ledgerIn S) v) v m)
+    end-is : S ≡ lentOf (ledgerIn S)
+        → transferEnd (seededBy p s m) ws ps ss sp (endOf (seededTier (ledgerIn S) v) (seededStore (ledgerIn S) v) v m)
         ≡ endOf (seededTier (ledgerIn S) v) (seededStore (ledgerIn S) v) v m
     unfolding endOf
     end-is e =
-        ap₂ {C = TransferEnd} (λ (x y : Lent). record { answer = answerOf (p .reach); tier = x; store = y; meter = p .meter; ticks = made m (p .meter); took = v .took; evicts = v .evicts }) tier-is (store-is e)
-        ∙ ap₂ {C = TransferEnd} (λ (x : TransferAnswer) (y : Meter). record { answer = x; tier = lentOf (seededTier (ledgerIn S) v); store = lentOf (seededStore (ledgerIn S) v); meter = y; ticks = made m y; took = v .took; evicts = v .evicts })
-        (answer-is (p .reach) ∙ ap transferAnswer (h .reach)) (h .meter)
+        ap₂ {C =
+        TransferEnd}
+        (λ (x y : Lent). record {
+          answer = answerOf (p .progress);
+          tier = x;
+          store = y;
+          meter = p .meter;
+          ticks = made m (p .meter);
+          took = v .took;
+          evicts = v .evicts;
+        }) tier-is (store-is e)
+        ∙ ap₂ {C =
+        TransferEnd}
+        (λ (x : TransferAnswer) (y : Meter). record {
+          answer = x;
+          tier = lentOf (seededTier (ledgerIn S) v);
+          store = lentOf (seededStore (ledgerIn S) v);
+          meter = y;
+          ticks = made m y;
+          took = v .took;
+          evicts = v .evicts;
+        })
+        (answer-is (p .progress) ∙ ap transferAnswer (h .progress)) (h .meter)
 
     is-end : transferRefusal T S ≡ none → seed T S m ≡ endOf (seededTier (ledgerIn S) v) (seededStore (ledgerIn S) v) v m
     unfolding seed
     is-end e = rw (e, seed) (ap (λ (u : Transfer). endOf (seededTier (ledgerIn S) u) (seededStore (ledgerIn S) u) u m) (sym the-seeding))
 
-    pub seed-done : transferRefusal T S ≡ none → S ≡ lentOf (ledgerIn S) → {r : TransferResult} → r ≡ seededBy p s m → transferEnd r ws ps ss sp (seed T S m) ≡ seed T S m
+    pub seed-done : transferRefusal T S ≡ none → S ≡ lentOf (ledgerIn S) → {r : TransferResult} → r ≡ seededBy p s m
+        → transferEnd r ws ps ss sp (seed T S m) ≡ seed T S m
     seed-done e l q =
         ap (λ (r : TransferResult). transferEnd r ws ps ss sp (seed T S m)) q
         ∙ ap (transferEnd (seededBy p s m) ws ps ss sp) (is-end e) ∙ end-is l ∙ sym (is-end e)
 
   -- ---- Deliver
-  pub deliver-refused : (n : ℕ) → transferRefusal T S ≡ some n → transferEnd (untransferredBy n t s m) ts tp ss sp (deliver T S m) ≡ deliver T S m
+  pub deliver-refused : (n : ℕ) → transferRefusal T S ≡ some n
+      → transferEnd (untransferredBy n t s m) ts tp ss sp (deliver T S m) ≡ deliver T S m
   unfolding deliver untransferred
   deliver-refused n e = rw (e, deliver, untransferred)
 
@@ -238,7 +268,8 @@ module _ (t s : Header) (ts tp ss sp : List ℕ) (m : Meter) where
   abbrev over : Delivery
   over = deliverRows (t .limits) (entriesIn (t .rows) ts) (starting (ledgerIn S) (Share (t .sharing)) m)
 
-  module _ (n c : ℕ) (p : Passage) (xs ws ps : List ℕ) (h : Delivered n c p ws ps ts xs (entriesIn (t .rows) ts) over) (good : Stood t ts tp (record { header = t; entries = entriesIn (t .rows) ts })) where
+  module _ (n c : ℕ) (p : TransferState) (xs ws ps : List ℕ) (h : Delivered n c p ws ps ts xs (entriesIn (t .rows) ts) over)
+      (good : Stood t ts tp (record { header = t; entries = entriesIn (t .rows) ts })) where
     abbrev w : Transfer
     w = over .1
 
@@ -256,20 +287,43 @@ module _ (t s : Header) (ts tp ss sp : List ℕ) (m : Meter) where
     unfolding deliveredStore
     taker-is =
         deliveries-lent (p .header) ws ps (w .receiver) (h .carried .stood .same) (p .added)
-        ∙ ap (λ (i : ℕ). lentOf (record { header = withDeliveries (w .receiver .header) i; entries = w .receiver .entries })) (h .carried .added)
+        ∙ ap (λ (i : ℕ). lentOf (record { header = withDeliveries (w .receiver .header) i; entries = w .receiver .entries }))
+        (h .carried .added)
 
-    over-is : transferEnd (deliveredBy p t m) xs tp ws ps (endOf (deliveredTier (ledgerIn T) over) (deliveredStore over) w m) ≡ endOf (deliveredTier (ledgerIn T) over) (deliveredStore over) w m
+    over-is : transferEnd (deliveredBy p t m) xs tp ws ps (endOf (deliveredTier (ledgerIn T) over) (deliveredStore over) w m)
+        ≡ endOf (deliveredTier (ledgerIn T) over) (deliveredStore over) w m
     unfolding endOf
     over-is =
-        ap₂ {C = TransferEnd} (λ (x y : Lent). record { answer = answerOf (p .reach); tier = x; store = y; meter = p .meter; ticks = made m (p .meter); took = w .took; evicts = w .evicts }) giver-is taker-is
-        ∙ ap₂ {C = TransferEnd} (λ (x : TransferAnswer) (y : Meter). record { answer = x; tier = lentOf (deliveredTier (ledgerIn T) over); store = lentOf (deliveredStore over); meter = y; ticks = made m y; took = w .took; evicts = w .evicts })
-        (answer-is (p .reach) ∙ ap transferAnswer (h .carried .reach)) (h .carried .meter)
+        ap₂ {C =
+        TransferEnd}
+        (λ (x y : Lent). record {
+          answer = answerOf (p .progress);
+          tier = x;
+          store = y;
+          meter = p .meter;
+          ticks = made m (p .meter);
+          took = w .took;
+          evicts = w .evicts;
+        }) giver-is taker-is
+        ∙ ap₂ {C =
+        TransferEnd}
+        (λ (x : TransferAnswer) (y : Meter). record {
+          answer = x;
+          tier = lentOf (deliveredTier (ledgerIn T) over);
+          store = lentOf (deliveredStore over);
+          meter = y;
+          ticks = made m y;
+          took = w .took;
+          evicts = w .evicts;
+        })
+        (answer-is (p .progress) ∙ ap transferAnswer (h .carried .progress)) (h .carried .meter)
 
     is-over : transferRefusal T S ≡ none → deliver T S m ≡ endOf (deliveredTier (ledgerIn T) over) (deliveredStore over) w m
     unfolding deliver
     is-over e = rw (e, deliver) (ap (λ (d : Delivery). endOf (deliveredTier (ledgerIn T) d) (deliveredStore d) (d .1) m) (sym the-delivery))
 
-    pub deliver-done : transferRefusal T S ≡ none → {r : TransferResult} → r ≡ deliveredBy p t m → transferEnd r xs tp ws ps (deliver T S m) ≡ deliver T S m
+    pub deliver-done : transferRefusal T S ≡ none → {r : TransferResult} → r ≡ deliveredBy p t m
+        → transferEnd r xs tp ws ps (deliver T S m) ≡ deliver T S m
     deliver-done e q =
         ap (λ (r : TransferResult). transferEnd r xs tp ws ps (deliver T S m)) q
         ∙ ap (transferEnd (deliveredBy p t m) xs tp ws ps) (is-over e) ∙ over-is ∙ sym (is-over e)

@@ -1,8 +1,8 @@
 -- A retention leaves the limits, and tells the position of a row that is there. Assumes nothing.
-use mathlib.Core.Path.{_≡_, refl, sym, ap, _∙_, subst}
+use mathlib.Core.Path.{_≡_, refl, sym, _∙_, subst}
 use mathlib.Core.Bool.{Bool, true, false, _||_}
 use mathlib.Core.List.{List, [], _∷_}
-use Prim.Native.Nat.{ℕ, suc, _+_, _≤_, _<_}
+use Prim.Native.Nat.{ℕ, suc, _<_}
 use native.Mathlib.Omega.{arith}
 use lib.Dec.{ltb, leb}
 use lib.ListN.{length, set, length-set}
@@ -14,10 +14,14 @@ use Rattle.meter.specs.declared.Read.the-variants.{Paid, Declined, Stopped}
 use Rattle.meter.specs.Meter.{andThen, pay}
 use Rattle.model.specs.declared.LearningLimits.{LearningLimits}
 use Rattle.model.specs.declared.Header.{Header}
-use Rattle.model.specs.Records.{Row, Entry, Ledger, withAdded, plus}
+use Rattle.model.specs.Records.{Row, Entry, Ledger, withAdded, saturatingAdd}
 use Rattle.model.specs.Rows.{subsumes}
 use Rattle.model.specs.Union.{joins, grown}
-use Rattle.model.specs.Retention.{Compared, Pass, found, passed, noted, firstPass, secondPass, anyReplaced, before, victimFrom, victim, Verdict, subsumed, protected, placing, evicting, judge, judged, verdict, kept, place, placeOf, halved, settle, newborn, Outcome, Stops, Declines, Subsumes, Adds, Retained, untaken, carryOut, retained, retainReads, retain}
+use Rattle.model.specs.Retention.{Examined, Pass, found, passed, noted, firstPass, secondPass, anyReplaced, victim, Placement, subsumed}
+use Rattle.model.specs.Retention.{protected, placing, evicting, placementBy, placementAfter, placement, kept, place, placeOf, halved}
+use Rattle.model.specs.Retention.{settle, newborn}
+use Rattle.model.specs.Retention.{Outcome, Stops, Declines, Subsumes, Adds, Retention, untaken, carryOut, retained, retainReads, retain}
+use Rattle.model.proofs.Entries.{victim-held, halved-length}
 
 -- the position that an outcome tells is one of n
 abbrev pub Within : ℕ → Outcome → Type 0
@@ -42,80 +46,77 @@ pass-in m p [] = tt
 pass-in m p (e ∷ es) = go (subsumes (e .row) p) (joins m (e .row) p) (pass-in m (grown (e .row) p) es) (pass-in m p es)
   where
     go : (b c : Bool) → PassIn (length es) (firstPass m (grown (e .row) p) es) → PassIn (length es) (firstPass m p es)
-        → PassIn (suc (length es)) (elim b [ true ↦ found 0 | false ↦ elim c [ true ↦ noted true e (firstPass m (grown (e .row) p) es) | false ↦ noted false e (firstPass m p es) ] ])
+        → PassIn (suc (length es)) (elim b [
+          | true ↦ found 0
+          | false ↦ elim c [
+            | true ↦ noted true e (firstPass m (grown (e .row) p) es)
+            | false ↦ noted false e (firstPass m p es)
+          ]
+        ])
     go true c f h = omega arith
     go false true f h = noted-in true e (length es) (firstPass m (grown (e .row) p) es) f
     go false false f h = noted-in false e (length es) (firstPass m p es) h
 
-victim-from : (at : ℕ) (least : Entry) (i : ℕ) (es : List Entry) (n : ℕ) → at < n → i + length es ≤ n → victimFrom at least i es < n
-unfolding victimFrom
-victim-from at least i [] n h k = h
-victim-from at least i (e ∷ es) n h k = go (before e least) (victim-from i e (suc i) es n (omega arith) (omega arith)) (victim-from at least (suc i) es n h (omega arith))
-  where
-    go : (b : Bool) → victimFrom i e (suc i) es < n → victimFrom at least (suc i) es < n
-        → (elim b as (λ k. ℕ) [ true ↦ victimFrom i e (suc i) es | false ↦ victimFrom at least (suc i) es ]) < n
-    go true p q = p
-    go false p q = q
+abbrev PlacementIn : ℕ → Placement → Type 0
+PlacementIn n (subsumed p) = p < n
+PlacementIn n protected = Unit {0}
+PlacementIn n (placing ks p) = Unit {0}
+PlacementIn n (evicting v p) = v < n
 
-victim-in : (es : List Entry) → 0 < length es → victim es < length es
-unfolding victim
-victim-in [] h = absurd (omega arith)
-victim-in (e ∷ es) h = victim-from 0 e 1 es (suc (length es)) (omega arith) (omega arith)
-
-abbrev VerdictIn : ℕ → Verdict → Type 0
-VerdictIn n (subsumed p) = p < n
-VerdictIn n protected = Unit {0}
-VerdictIn n (placing ks p) = Unit {0}
-VerdictIn n (evicting v p) = v < n
-
-judge-in : (es : List Entry) (ks : List Compared) (p : Row) (a c : Bool) → (c ≡ false → 0 < length es)
-    → VerdictIn (length es) (elim a [ true ↦ placing ks p | false ↦ elim c [ true ↦ protected | false ↦ evicting (victim es) p ] ])
+judge-in : (es : List Entry) (ks : List Examined) (p : Row) (a c : Bool) → (c ≡ false → 0 < length es)
+    → PlacementIn (length es) (elim a [ true ↦ placing ks p | false ↦ elim c [ true ↦ protected | false ↦ evicting (victim es) p ] ])
 judge-in es ks p true c h = tt
 judge-in es ks p false true h = tt
-judge-in es ks p false false h = victim-in es (h refl)
+judge-in es ks p false false h = victim-held es (h refl)
 
-judged-in : (l : LearningLimits) (es : List Entry) (x : Pass) → PassIn (length es) x → VerdictIn (length es) (judged l es x)
-unfolding judged judge
-judged-in l es (found p) h = h
-judged-in l es (passed ks p) h =
-    judge-in es (secondPass p ks) p (anyReplaced (secondPass p ks) || ltb (length es) (l .«tier_rows»)) (leb (length es) (l .«founded_floor»))
+placementAfter-in : (l : LearningLimits) (es : List Entry) (x : Pass) → PassIn (length es) x
+    → PlacementIn (length es) (placementAfter l es x)
+unfolding placementAfter placementBy
+placementAfter-in l es (found p) h = h
+placementAfter-in l es (passed ks p) h =
+    judge-in es (secondPass p ks) p (anyReplaced (secondPass p ks) || ltb (length es) (l .«tier_rows»))
+    (leb (length es) (l .«founded_floor»))
     (λ e. let k = leb-false (length es) (l .«founded_floor») e in omega arith)
 
-verdict-in : (l : LearningLimits) (m : ℕ) (t : Row) (es : List Entry) → VerdictIn (length es) (verdict l m t es)
-unfolding verdict
-verdict-in l m t es = judged-in l es (firstPass m t es) (pass-in m t es)
+placement-in : (l : LearningLimits) (m : ℕ) (t : Row) (es : List Entry) → PlacementIn (length es) (placement l m t es)
+unfolding placement
+placement-in l m t es = placementAfter-in l es (firstPass m t es) (pass-in m t es)
 
 -- ---- what is placed is there
-place-in : (e : Entry) (ks : List Compared) → placeOf ks < length (place e ks)
+place-in : (e : Entry) (ks : List Examined) → placeOf ks < length (place e ks)
 unfolding place placeOf
 place-in e [] = omega arith
 place-in e (k ∷ ks) = go (k .replaced) (place-in e ks)
   where
     go : (b : Bool) → placeOf ks < length (place e ks)
-        → (elim b as (λ x. ℕ) [ true ↦ 0 | false ↦ suc (placeOf ks) ]) < length {A = Entry} (elim b as (λ x. List Entry) [ true ↦ e ∷ kept ks | false ↦ k .entry ∷ place e ks ])
+        → (elim b as (λ x. ℕ) [ true ↦ 0 | false ↦ suc (placeOf ks) ])
+        < length {A = Entry} (elim b as (λ x. List Entry) [ true ↦ e ∷ kept ks | false ↦ k .entry ∷ place e ks ])
     go true h = omega arith
     go false h = omega arith
 
-halved-length : (es : List Entry) → length (halved es) ≡ length es
-unfolding halved
-halved-length [] = refl
-halved-length (e ∷ es) = ap suc (halved-length es)
-
-settle-both : (h : Header) (es : List Entry) (v : ℕ) → (length (settle h es v .entries) ≡ length es) × (settle h es v .header .limits ≡ h .limits)
+settle-both : (h : Header) (es : List Entry) (v : ℕ)
+    → (length (settle h es v .entries) ≡ length es) × (settle h es v .header .limits ≡ h .limits)
 unfolding settle withAdded
 settle-both h es v = go (leb (h .limits .«tier_rows») (suc (h .epoch)))
   where
     go : (b : Bool) →
-        (length ((elim b as (λ x. Ledger) [ true ↦ record { header = withAdded h 0 v; entries = halved es } | false ↦ record { header = withAdded h (suc (h .epoch)) v; entries = es } ]) .entries) ≡ length es)
-        × ((elim b as (λ x. Ledger) [ true ↦ record { header = withAdded h 0 v; entries = halved es } | false ↦ record { header = withAdded h (suc (h .epoch)) v; entries = es } ]) .header .limits ≡ h .limits)
+        (length
+        ((elim b as (λ x. Ledger) [
+          | true ↦ record { header = withAdded h 0 v; entries = halved es }
+          | false ↦ record { header = withAdded h (suc (h .epoch)) v; entries = es }
+        ]) .entries) ≡ length es)
+        × ((elim b as (λ x. Ledger) [
+          | true ↦ record { header = withAdded h 0 v; entries = halved es }
+          | false ↦ record { header = withAdded h (suc (h .epoch)) v; entries = es }
+        ]) .header .limits ≡ h .limits)
     go true = (halved-length es, refl)
     go false = (refl, refl)
 
 module _ (l : Ledger) (hits : ℕ) (t : Row) where
-  abbrev Stays : Retained → Type 0
+  abbrev Stays : Retention → Type 0
   Stays d = Within (length (d .ledger .entries)) (d .outcome) × (d .ledger .header .limits ≡ l .header .limits)
 
-  carry-stays : (a : Account) (m : Meter) (v : Verdict) → VerdictIn (length (l .entries)) v → Stays (carryOut l t hits a m v)
+  carry-stays : (a : Account) (m : Meter) (v : Placement) → PlacementIn (length (l .entries)) v → Stays (carryOut l t hits a m v)
   unfolding carryOut untaken
   carry-stays a m (subsumed p) h = (h, refl)
   carry-stays a m protected h = (tt, refl)
@@ -125,13 +126,14 @@ module _ (l : Ledger) (hits : ℕ) (t : Row) where
       (subst (λ (n : ℕ). placeOf ks < n) (sym (s .0)) (place-in e ks), s .1)
   carry-stays a m (evicting v p) h =
       let e : Entry = newborn (l .header) p hits in
-      let s = settle-both (l .header) (set (l .entries) v e) (plus (l .header .evicted) 1) in
+      let s = settle-both (l .header) (set (l .entries) v e) (saturatingAdd (l .header .evicted) 1) in
       (subst (λ (n : ℕ). v < n) (sym (s .0 ∙ length-set (l .entries) v e)) h, s .1)
 
   module _ (most : ℕ) where
     retained-stays : (run : Read) → Stays (retained l most hits t run)
     unfolding retained untaken
-    retained-stays (Paid a m) = carry-stays a m (verdict (l .header .limits) most t (l .entries)) (verdict-in (l .header .limits) most t (l .entries))
+    retained-stays (Paid a m) =
+        carry-stays a m (placement (l .header .limits) most t (l .entries)) (placement-in (l .header .limits) most t (l .entries))
     retained-stays (Declined a m) = (tt, refl)
     retained-stays (Stopped a m) = (tt, refl)
 

@@ -5,38 +5,40 @@ use mathlib.Core.List.{List}
 use Prim.Native.Nat.{ℕ, max, _≤_}
 use native.Mathlib.Omega.{arith}
 use lib.ListN.{getD}
-use Rattle.words.proofs.Bools.{T-true}
+use Rattle.lists.proofs.Bools.{T-true}
 use Rattle.meter.specs.declared.Meter.{Meter}
 use Rattle.meter.specs.declared.Account.{Account}
 use Rattle.meter.specs.declared.Read.{Read}
 use Rattle.meter.specs.declared.Read.the-variants as read
 use Rattle.model.specs.declared.Header.{Header}
-use Rattle.model.specs.Records.{Row, isRow, maxOutputs}
+use Rattle.model.specs.Records.{Row, isRow, maxOutputs, outputsAt}
 use Rattle.model.specs.Slots.{rowIn}
 use Rattle.model.specs.Retention.{Declines, Stops, retain, retained, untaken}
 use Rattle.model.specs.Refusals.{Lent, ledgerIn}
 use Rattle.slots.specs.Layout.{Stored, proposal}
 use Rattle.slots.proofs.Storing.{laid-stored, row-proposal}
-use Rattle.proposals.specs.Proposed.{Proposed}
-use Rattle.proposals.proofs.Proposing.{proposed-row}
+use Rattle.row_propose.specs.Proposed.{Proposed}
 use Rattle.contents.specs.Lent.{lent}
 use Rattle.contents.specs.Accepted.{Accepted}
-use Rattle.keeping.proofs.Holding.{accepted-lent}
-use Rattle.retention.specs.declared.Retention.the-variants.{Declined, Stopped}
-use Rattle.retention.specs.Ends.{retainEnd, endOf}
+use Rattle.row_propose.proofs.Proposing.{proposed-over}
+use Rattle.retain_keep.proofs.Holding.{accepted-lent}
+use Rattle.retain.specs.declared.Retained.the-variants.{Declined, Stopped}
+use Rattle.retain.specs.Ends.{retainEnd, endOf}
 use Rattle.transfers.specs.Receiving.{receivedEnd}
 
 -- ---- a read is not paid: nothing changes
 module _ (h : Header) (slots postings : List ℕ) (a : Accepted h slots postings) (t : Row) (outputs hits : ℕ) where
   pub end-declined : (b : Account) (m : Meter) {run : Read} → read.Declined b m ≡ run →
-      retainEnd (record { answer = Declined; header = h; account = b; meter = m }) slots postings ≡ receivedEnd (lent h slots postings) t outputs hits run
+      retainEnd (record { answer = Declined; header = h; account = b; meter = m }) slots postings
+      ≡ receivedEnd (lent h slots postings) t outputs hits run
   unfolding retain retained untaken
   end-declined b m e =
       ap (λ (x : Lent). record { outcome = Declines; ledger = x; account = b; meter = m }) (accepted-lent h slots postings a)
       ∙ ap (receivedEnd (lent h slots postings) t outputs hits) e
 
   pub end-stopped : (b : Account) (m : Meter) {run : Read} → read.Stopped b m ≡ run →
-      retainEnd (record { answer = Stopped; header = h; account = b; meter = m }) slots postings ≡ receivedEnd (lent h slots postings) t outputs hits run
+      retainEnd (record { answer = Stopped; header = h; account = b; meter = m }) slots postings
+      ≡ receivedEnd (lent h slots postings) t outputs hits run
   unfolding retain retained untaken
   end-stopped b m e =
       ap (λ (x : Lent). record { outcome = Stops; ledger = x; account = b; meter = m }) (accepted-lent h slots postings a)
@@ -49,18 +51,18 @@ module _ (n : ℕ) (row : List ℕ) (s : Stored n row) (p : List ℕ) (q : p ≡
 
   pub literals-proposed : Proposed p
   literals-proposed =
-      let l = laid-stored n row s in
-      let k = l .counted in
-      subst Proposed (sym q) (proposed-row (rowIn row) (omega (arith, k .few, l .conditionCount)) (omega (arith, k .most, l .outputCount)))
+      subst Proposed (sym q) (proposed-over n (rowIn row) (s .atoms) (T-true (isRow n (rowIn row)) (s .row)))
 
   pub literals-row : isRow n (rowIn p) ≡ true
   literals-row = ap (isRow n) proposal-row ∙ T-true (isRow n (rowIn row)) (s .row)
 
-  module _ (outputs : ℕ) (most : ℕ) (x : most ≡ max (getD row 1 0) outputs) where
+  module _ (outputs : ℕ) (most : ℕ) (x : most ≡ max (getD row outputsAt 0) outputs) where
     pub most-fits : outputs ≤ maxOutputs → most ≤ maxOutputs
     most-fits o = let k = laid-stored n row s .counted .most in omega (arith, x)
 
-    pub literals-kept : (w : Lent) (hits : ℕ) {run r : Read} → run ≡ r → endOf (retain (ledgerIn w) most hits (rowIn p) run) ≡ receivedEnd w (rowIn row) outputs hits r
+    pub literals-kept : (w : Lent) (hits : ℕ) {run r : Read} → run ≡ r
+        → endOf (retain (ledgerIn w) most hits (rowIn p) run) ≡ receivedEnd w (rowIn row) outputs hits r
     literals-kept w hits {run} {r} e =
-        ap₂ (λ (k : ℕ) (y : Row). endOf (retain (ledgerIn w) k hits y run)) (x ∙ ap (λ (k : ℕ). max k outputs) (sym (laid-stored n row s .outputCount))) proposal-row
+        ap₂ (λ (k : ℕ) (y : Row). endOf (retain (ledgerIn w) k hits y run))
+        (x ∙ ap (λ (k : ℕ). max k outputs) (sym (laid-stored n row s .outputCount))) proposal-row
         ∙ ap (receivedEnd w (rowIn row) outputs hits) e

@@ -13,17 +13,17 @@ use Rattle.model.specs.declared.LearningLimits.{LearningLimits}
 use Rattle.model.specs.declared.Mark.{Mark}
 use Rattle.model.specs.declared.Mark.the-variants.{Unmarked, Marked}
 use Rattle.model.specs.Records.{Entry, Ledger, withDelivered}
-use Rattle.model.specs.Retention.{Outcome, Stops, Declines, Subsumes, Adds, Retained}
-use Rattle.model.specs.Transfers.{Transfer, Reach, whole, declined, stopped, ticked, receive, received, changeAt, seedRows, markFor}
+use Rattle.model.specs.Retention.{Outcome, Stops, Declines, Subsumes, Adds, Retention}
+use Rattle.model.specs.Transfers.{Transfer, Progress, whole, declined, stopped, ticked, receive, received, changeAt, seedRows, markFor}
 
 -- go on from a whole transfer
-abbrev pub onwardBy : Reach → Transfer → (Transfer → Transfer) → Transfer
+abbrev pub onwardBy : Progress → Transfer → (Transfer → Transfer) → Transfer
 onwardBy whole v f = f v
 onwardBy declined v f = v
 onwardBy stopped v f = v
 
 abbrev pub onward : (Transfer → Transfer) → Transfer → Transfer
-onward f v = onwardBy (v .reach) v f
+onward f v = onwardBy (v .progress) v f
 
 module _ (tier : LearningLimits) (mark : ℕ) where
   pub seed-end : (v : Transfer) → seedRows tier mark [] v ≡ v
@@ -31,7 +31,7 @@ module _ (tier : LearningLimits) (mark : ℕ) where
   seed-end v = refl
 
   module _ (e : Entry) (v : Transfer) where
-    abbrev d : Retained
+    abbrev d : Retention
     d = receive tier (e .hits) (e .row) v
 
     abbrev marks : ℕ → Ledger
@@ -83,12 +83,14 @@ module _ (tier : LearningLimits) (mark : ℕ) where
       abbrev then : Transfer → Transfer
       then = onward (seedRows tier mark es)
 
-      by-tick : (t : Tick) → leb (e .born) mark ≡ true → tickOf (v .meter) ≡ t → seedRows tier mark (e ∷ es) v ≡ then (seedRows tier mark (e ∷ []) v)
+      by-tick : (t : Tick) → leb (e .born) mark ≡ true → tickOf (v .meter) ≡ t
+          → seedRows tier mark (e ∷ es) v ≡ then (seedRows tier mark (e ∷ []) v)
       unfolding ticked
       by-tick (Stopped m) h q = past es (Stopped m) h q ∙ sym (ap then (seed-halted h m q))
       by-tick (Ticked m) h q = past es (Ticked m) h q ∙ sym (ap then (seed-past h m q))
 
-      by-outcome : (o : Outcome) → leb (e .born) mark ≡ false → o ≡ d .outcome → seedRows tier mark (e ∷ es) v ≡ then (seedRows tier mark (e ∷ []) v)
+      by-outcome : (o : Outcome) → leb (e .born) mark ≡ false → o ≡ d .outcome
+          → seedRows tier mark (e ∷ es) v ≡ then (seedRows tier mark (e ∷ []) v)
       unfolding received
       by-outcome Stops h q = row es Stops h (sym q) ∙ sym (ap then (seed-stops h q))
       by-outcome Declines h q = row es Declines h (sym q) ∙ sym (ap then (seed-declines h q))

@@ -1,5 +1,5 @@
--- 01, Seed and Deliver: their end, from what the code gives back and leaves in the lent slices. What was taken and whether it evicted is the
--- definition's to say: the code has no field for it. Assumes nothing.
+-- 01, Seed and Deliver: their end, from what the code gives back and leaves in the lent slices.
+-- What was taken and whether it evicted is the definition's to say: the code has no field for it. Assumes nothing.
 use mathlib.Core.List.{List}
 use Prim.Native.Nat.{ℕ}
 use Rattle.meter.specs.declared.Meter.{Meter}
@@ -11,9 +11,9 @@ use Rattle.model.specs.declared.TransferResult.{TransferResult}
 use Rattle.model.specs.Records.{withAccount, withMark, withSeeded, withDeliveries}
 use Rattle.model.specs.Operations.{TransferEnd}
 use Rattle.contents.specs.Lent.{lent}
-use Rattle.transfers.specs.declared.receiving.Reach.{Reach}
-use Rattle.transfers.specs.declared.receiving.Reach.the-variants.{Whole, Declined, Stopped}
-use Rattle.transfers.specs.declared.receiving.Passage.{Passage}
+use Rattle.transfers.specs.declared.receiving.Progress.{Progress}
+use Rattle.transfers.specs.declared.receiving.Progress.the-variants.{Whole, Declined, Stopped}
+use Rattle.transfers.specs.declared.receiving.TransferState.{TransferState}
 
 abbrev pub transferEnd : TransferResult → List ℕ → List ℕ → List ℕ → List ℕ → TransferEnd → TransferEnd
 transferEnd r tierSlots tierPostings storeSlots storePostings e = record {
@@ -31,31 +31,31 @@ abbrev pub untransferredBy : ℕ → Header → Header → Meter → TransferRes
 untransferredBy n tier store m = record { answer = transfer-answer.Refused n; tier = tier; store = store; meter = m; ticks = 0 }
 
 -- Done, also after a Declined row, or Stopped
-abbrev pub answerOf : Reach → TransferAnswer
+abbrev pub answerOf : Progress → TransferAnswer
 answerOf Whole = transfer-answer.Done
 answerOf Declined = transfer-answer.Done
 answerOf Stopped = transfer-answer.Stopped
 
 -- the mark moves only after a whole seeding
-abbrev pub markedBy : Reach → Header → Header → Header
+abbrev pub markedBy : Progress → Header → Header → Header
 markedBy Whole store h = withMark h (store .number) (store .born)
 markedBy Declined store h = h
 markedBy Stopped store h = h
 
 -- a seeding that is over, from the meter m on
-abbrev pub seededBy : Passage → Header → Meter → TransferResult
+abbrev pub seededBy : TransferState → Header → Meter → TransferResult
 seededBy p store m = record {
-  answer = answerOf (p .reach);
-  tier = markedBy (p .reach) store (withAccount (p .header) (p .account));
+  answer = answerOf (p .progress);
+  tier = markedBy (p .progress) store (withAccount (p .header) (p .account));
   store = withSeeded store (p .added);
   meter = p .meter;
   ticks = made m (p .meter);
 }
 
 -- a delivery that is over
-abbrev pub deliveredBy : Passage → Header → Meter → TransferResult
+abbrev pub deliveredBy : TransferState → Header → Meter → TransferResult
 deliveredBy p tier m = record {
-  answer = answerOf (p .reach);
+  answer = answerOf (p .progress);
   tier = withAccount tier (p .account);
   store = withDeliveries (p .header) (p .added);
   meter = p .meter;

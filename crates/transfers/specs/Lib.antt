@@ -1,4 +1,4 @@
 pub mod Receiving
-pub mod Passage
+pub mod Transfer
 pub mod Handing
 pub mod Ends

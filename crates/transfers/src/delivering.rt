@@ -5,7 +5,7 @@ ghost use mathlib.Core.List.{[], _∷_};
 ghost use Prim.Native.Nat.{ℕ, suc, _+_, _*_, _≤_};
 ghost use lib.Dec.{eqb, ltb};
 ghost use lib.ListN.{length, getD};
-ghost use Rattle.model.specs.Records.{slotWords};
+ghost use Rattle.model.specs.Records.{slotWords, conditionsAt, hitsAt, unsharedAt, deliveredAt};
 ghost use Rattle.meter.specs.declared.Account.the-variants.{Share};
 ghost use Rattle.model.specs.Slots.{entryIn, entriesIn};
 ghost use Rattle.model.specs.Transfers.{Transfer, starting, passesOver, deliverRows};
@@ -13,12 +13,12 @@ ghost use Rattle.model.specs.Refusals.{ledgerIn};
 ghost use Rattle.model.specs.Operations.{deliver};
 ghost use Rattle.slots.specs.Layout.{Laid, slotAt};
 ghost use Rattle.contents.specs.Lent.{lent};
-ghost use Rattle.keeping.specs.Stood.{Stood};
-ghost use Rattle.transfers.specs.Passage.{Carried, Ready};
+ghost use Rattle.retain_keep.specs.Stood.{Stood};
+ghost use Rattle.transfers.specs.Transfer.{Carried, Ready};
 ghost use Rattle.transfers.specs.Handing.{handed, Handed, Lends, Delivered};
 ghost use Rattle.transfers.specs.Ends.{deliveredBy, transferEnd};
-use crate::receiving::Passage;
-use crate::receiving::Reach;
+use crate::receiving::Progress;
+use crate::receiving::TransferState;
 use crate::receiving::answer;
 use crate::receiving::passed;
 use crate::receiving::receive;
@@ -26,37 +26,43 @@ use crate::receiving::start;
 use crate::receiving::tick_past;
 use crate::refusing::refusal;
 use crate::refusing::untransferred;
-use keeping::put_account;
 use meter::Meter;
+use model::CONDITIONS_AT;
+use model::DELIVERED_AT;
+use model::HITS_AT;
 use model::Header;
 use model::LearningLimits;
 use model::SLOT_WORDS;
 use model::TransferResult;
-use retention::Retention;
+use model::UNSHARED_AT;
+use model::saturating_add;
+use retain::Retained;
+use retain_keep::put_account;
 use tier::add_hits;
-use tier::saturating_add;
 use tier::share_out;
 
 // Whether a row was delivered and has no hit since.
 fn is_shared(row: &[u64]) -> bool
     requires { ⌜ length (now row) ≡ slotWords ⌝ }
-    ensures { λ r. ⌜ r ≡ (eqb (getD (now (row .entry)) 7 0) 1 && eqb (getD (now (row .entry)) 5 0) 0) ⌝ }
+    ensures { λ r. ⌜ r ≡ (eqb (getD (now (row .entry)) deliveredAt 0) 1 && eqb (getD (now (row .entry)) unsharedAt 0) 0) ⌝ }
 {
-    if row[7] != 1 {
+    if row[DELIVERED_AT] != 1 {
         return false;
     }
-    row[5] == 0
+    row[UNSHARED_AT] == 0
 }
 
 // Whether a row has more conditions than are shared, and too few hits to be shared all the same.
-fn is_narrow(limits: LearningLimits, row: &[u64]) -> bool
+fn fails_filter(limits: LearningLimits, row: &[u64]) -> bool
     requires { ⌜ length (now row) ≡ slotWords ⌝ }
-    ensures { λ r. ⌜ r ≡ (ltb (limits .«share_conditions») (getD (now (row .entry)) 0 0) && ltb (getD (now (row .entry)) 4 0) (limits .«share_hits»)) ⌝ }
+    ensures { λ r. ⌜ r
+        ≡ (ltb (limits .«share_conditions») (getD (now (row .entry)) conditionsAt 0)
+        && ltb (getD (now (row .entry)) hitsAt 0) (limits .«share_hits»)) ⌝ }
 {
-    if row[0] <= limits.share_conditions {
+    if row[CONDITIONS_AT] <= limits.share_conditions {
         return false;
     }
-    row[4] < limits.share_hits
+    row[HITS_AT] < limits.share_hits
 }
 
 // Whether a row of the tier is passed over.
@@ -67,32 +73,35 @@ fn passes_over(limits: LearningLimits, row: &[u64]) -> bool
     if is_shared(row) {
         return true;
     }
-    is_narrow(limits, row)
+    fails_filter(limits, row)
 }
 
-// The tier's row at a position is received by the store, with its unshared hits; where it is taken, it is delivered and so are its hits, which
-// go to the row that subsumes it.
+// The tier's row at a position is received by the store, with its unshared hits;
+// where it is taken, it is delivered and so are its hits, which go to the row that subsumes it.
 fn hand_over(
-    passage: Passage,
+    transfer: TransferState,
     store_slots: &mut [u64],
     store_postings: &mut [u64],
     tier_slots: &mut [u64],
     position: usize,
     limits: LearningLimits,
-) -> Passage
-    requires { ⌜ Ready passage (now «store_slots») (now «store_postings») (slotAt (now «tier_slots») position) (limits .«founded_outputs») ⌝
+) -> TransferState
+    requires { ⌜ Ready transfer (now «store_slots») (now «store_postings») (slotAt (now «tier_slots») position)
+        (limits .«founded_outputs») ⌝
         ∗ ⌜ slotWords * position + slotWords ≤ length (now «tier_slots») ⌝ }
-    ensures { λ r. ⌜ ((n c : ℕ) (v : Transfer) → Carried n c passage (now («store_slots» .entry)) (now («store_postings» .entry)) v
-        → Handed n (suc c) r (now («store_slots» .exit)) (now («store_postings» .exit)) position (now («tier_slots» .entry)) (now («tier_slots» .exit))
-        (entryIn (slotAt (now («tier_slots» .entry)) position)) (handed limits (entryIn (slotAt (now («tier_slots» .entry)) position)) v)) ⌝ }
+    ensures { λ r. ⌜ ((n c : ℕ) (v : Transfer) → Carried n c transfer (now («store_slots» .entry)) (now («store_postings» .entry)) v
+        → Handed n (suc c) r (now («store_slots» .exit)) (now («store_postings» .exit)) position (now («tier_slots» .entry))
+        (now («tier_slots» .exit))
+        (entryIn (slotAt (now («tier_slots» .entry)) position))
+        (handed limits (entryIn (slotAt (now («tier_slots» .entry)) position)) v)) ⌝ }
 {
-    let header = passage.header;
-    let account = passage.account;
-    let meter = passage.meter;
-    let added = passage.added;
+    let header = transfer.header;
+    let account = transfer.account;
+    let meter = transfer.meter;
+    let added = transfer.added;
     let a = SLOT_WORDS * position;
     let e = a + SLOT_WORDS;
-    let unshared = tier_slots[a + 5];
+    let unshared = tier_slots[a + UNSHARED_AT];
     let kept = receive(
         header,
         store_slots,
@@ -105,38 +114,41 @@ fn hand_over(
     );
     let answer = kept.answer;
     match answer {
-        Retention::Stopped => passed(kept, Reach::Stopped, added),
-        Retention::Declined => passed(kept, Reach::Declined, added),
-        Retention::Subsumed(at) => {
+        Retained::Stopped => passed(kept, Progress::Stopped, added),
+        Retained::Declined => passed(kept, Progress::Declined, added),
+        Retained::Subsumed(at) => {
             add_hits(store_slots, at as usize, unshared);
             share_out(tier_slots, position);
-            passed(kept, Reach::Whole, added)
+            passed(kept, Progress::Whole, added)
         }
-        Retention::Added(_) => {
+        Retained::Added(_) => {
             share_out(tier_slots, position);
-            passed(kept, Reach::Whole, added + 1)
+            passed(kept, Progress::Whole, added + 1)
         }
     }
 }
 
 // The tier's row at a position: one tick, then passed over or handed over.
 fn deliver_row(
-    passage: Passage,
+    transfer: TransferState,
     store_slots: &mut [u64],
     store_postings: &mut [u64],
     tier_slots: &mut [u64],
     position: usize,
     limits: LearningLimits,
-) -> Passage
-    requires { ⌜ Ready passage (now «store_slots») (now «store_postings») (slotAt (now «tier_slots») position) (limits .«founded_outputs») ⌝
+) -> TransferState
+    requires { ⌜ Ready transfer (now «store_slots») (now «store_postings») (slotAt (now «tier_slots») position)
+        (limits .«founded_outputs») ⌝
         ∗ ⌜ slotWords * position + slotWords ≤ length (now «tier_slots») ⌝ }
-    ensures { λ r. ⌜ ((n c : ℕ) (v : Transfer) → Carried n c passage (now («store_slots» .entry)) (now («store_postings» .entry)) v
-        → Handed n (suc c) r (now («store_slots» .exit)) (now («store_postings» .exit)) position (now («tier_slots» .entry)) (now («tier_slots» .exit))
-        (entryIn (slotAt (now («tier_slots» .entry)) position)) (deliverRows limits (entryIn (slotAt (now («tier_slots» .entry)) position) ∷ []) v)) ⌝ }
+    ensures { λ r. ⌜ ((n c : ℕ) (v : Transfer) → Carried n c transfer (now («store_slots» .entry)) (now («store_postings» .entry)) v
+        → Handed n (suc c) r (now («store_slots» .exit)) (now («store_postings» .exit)) position (now («tier_slots» .entry))
+        (now («tier_slots» .exit))
+        (entryIn (slotAt (now («tier_slots» .entry)) position))
+        (deliverRows limits (entryIn (slotAt (now («tier_slots» .entry)) position) ∷ []) v)) ⌝ }
 {
-    let next = tick_past(passage);
-    let reach = next.reach;
-    let Reach::Whole = reach else {
+    let next = tick_past(transfer);
+    let progress = next.progress;
+    let Progress::Whole = progress else {
         return next;
     };
     let a = SLOT_WORDS * position;
@@ -162,39 +174,42 @@ fn deliver_rows(
     store_slots: &mut [u64],
     store_postings: &mut [u64],
     work: Meter,
-) -> Passage
-    requires { ⌜ Lends tier (now «tier_slots») ⌝ ∗ ⌜ Stood store (now «store_slots») (now «store_postings») (ledgerIn (lent store (now «store_slots») (now «store_postings»))) ⌝
+) -> TransferState
+    requires { ⌜ Lends tier (now «tier_slots») ⌝
+        ∗ ⌜ Stood store (now «store_slots») (now «store_postings») (ledgerIn (lent store (now «store_slots») (now «store_postings»))) ⌝
         ∗ ⌜ tier .limits .atoms ≡ store .limits .atoms ⌝ }
-    ensures { λ r. ⌜ Delivered (tier .limits .atoms) (tier .rows) r (now («store_slots» .exit)) (now («store_postings» .exit)) (now («tier_slots» .entry)) (now («tier_slots» .exit))
-        (entriesIn (tier .rows) (now («tier_slots» .entry))) (deliverRows (tier .limits) (entriesIn (tier .rows) (now («tier_slots» .entry)))
+    ensures { λ r. ⌜ Delivered (tier .limits .atoms) (tier .rows) r (now («store_slots» .exit)) (now («store_postings» .exit))
+        (now («tier_slots» .entry)) (now («tier_slots» .exit))
+        (entriesIn (tier .rows) (now («tier_slots» .entry)))
+        (deliverRows (tier .limits) (entriesIn (tier .rows) (now («tier_slots» .entry)))
         (starting (ledgerIn (lent store (now («store_slots» .entry)) (now («store_postings» .entry)))) (Share (tier .sharing)) work)) ⌝ }
 {
     let limits = tier.limits;
     let sharing = tier.sharing;
     let rows = tier.rows as usize;
-    let mut passage = start(store, sharing, work);
+    let mut transfer = start(store, sharing, work);
     let mut i: usize = 0;
     while i < rows {
-        passage = deliver_row(passage, store_slots, store_postings, tier_slots, i, limits);
-        let reach = passage.reach;
-        let Reach::Whole = reach else {
-            return passage;
+        transfer = deliver_row(transfer, store_slots, store_postings, tier_slots, i, limits);
+        let progress = transfer.progress;
+        let Progress::Whole = progress else {
+            return transfer;
         };
         i += 1;
     }
-    passage
+    transfer
 }
 
 // The result of a delivery that is over: the account goes back to the tier, and the store counts the rows Added.
-fn delivered(passage: Passage, tier: Header, work: Meter) -> TransferResult
-    ensures { λ r. ⌜ r ≡ deliveredBy passage tier work ⌝ }
+fn delivered(transfer: TransferState, tier: Header, work: Meter) -> TransferResult
+    ensures { λ r. ⌜ r ≡ deliveredBy transfer tier work ⌝ }
 {
-    let reach = passage.reach;
-    let header = passage.header;
-    let account = passage.account;
-    let meter = passage.meter;
-    let added = passage.added;
-    let answer = answer(reach);
+    let progress = transfer.progress;
+    let header = transfer.header;
+    let account = transfer.account;
+    let meter = transfer.meter;
+    let added = transfer.added;
+    let answer = answer(progress);
     let tier = put_account(tier, account);
     let deliveries = saturating_add(header.deliveries, added);
     let ticks = meter.made(work);
@@ -211,8 +226,8 @@ fn delivered(passage: Passage, tier: Header, work: Meter) -> TransferResult
     }
 }
 
-// Delivers a tier's rows to a store: refused by the tier's 1, 2, 3, the store's 1, 2, 3, or 7 if they are over different numbers of atoms; Done,
-// also after a row Declined, or Stopped. The tier's postings are only read.
+// Delivers a tier's rows to a store: refused by the tier's 1, 2, 3, the store's 1, 2, 3, or 7 if they are over different numbers of atoms;
+// Done, also after a row Declined, or Stopped. The tier's postings are only read.
 pub fn deliver(
     tier: Header,
     tier_slots: &mut [u64],
@@ -222,9 +237,12 @@ pub fn deliver(
     store_postings: &mut [u64],
     work: Meter,
 ) -> TransferResult
-    ensures { λ r. ⌜ transferEnd r (now («tier_slots» .exit)) (now («tier_postings» .entry)) (now («store_slots» .exit)) (now («store_postings» .exit))
-        (deliver (lent tier (now («tier_slots» .entry)) (now («tier_postings» .entry))) (lent store (now («store_slots» .entry)) (now («store_postings» .entry))) work)
-        ≡ deliver (lent tier (now («tier_slots» .entry)) (now («tier_postings» .entry))) (lent store (now («store_slots» .entry)) (now («store_postings» .entry))) work ⌝ }
+    ensures { λ r. ⌜ transferEnd r (now («tier_slots» .exit)) (now («tier_postings» .entry)) (now («store_slots» .exit))
+        (now («store_postings» .exit))
+        (deliver (lent tier (now («tier_slots» .entry)) (now («tier_postings» .entry)))
+        (lent store (now («store_slots» .entry)) (now («store_postings» .entry))) work)
+        ≡ deliver (lent tier (now («tier_slots» .entry)) (now («tier_postings» .entry)))
+        (lent store (now («store_slots» .entry)) (now («store_postings» .entry))) work ⌝ }
 {
     let n = refusal(
         tier,
@@ -237,6 +255,6 @@ pub fn deliver(
     if n != 0 {
         return untransferred(n, tier, store, work);
     }
-    let passage = deliver_rows(tier, tier_slots, store, store_slots, store_postings, work);
-    delivered(passage, tier, work)
+    let transfer = deliver_rows(tier, tier_slots, store, store_slots, store_postings, work);
+    delivered(transfer, tier, work)
 }

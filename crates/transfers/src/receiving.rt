@@ -7,9 +7,9 @@ ghost use Rattle.model.specs.Slots.{rowIn};
 ghost use Rattle.slots.specs.Layout.{Stored};
 ghost use Rattle.contents.specs.Lent.{lent};
 ghost use Rattle.contents.specs.Accepted.{Accepted};
-ghost use Rattle.retention.specs.Ends.{retainEnd};
+ghost use Rattle.retain.specs.Ends.{retainEnd};
 ghost use Rattle.transfers.specs.Receiving.{receivedEnd};
-ghost use Rattle.transfers.specs.Passage.{startBy, passedBy, tickedBy};
+ghost use Rattle.transfers.specs.Transfer.{startBy, passedBy, tickedBy};
 ghost use Rattle.transfers.specs.Ends.{answerOf};
 use meter::Account;
 use meter::Meter;
@@ -18,23 +18,24 @@ use meter::Sharing;
 use meter::Tick;
 use meter::Verdict;
 use model::Header;
+use model::OUTPUTS_AT;
 use model::SLOT_WORDS;
 use model::TransferAnswer;
-use proposals::to_literals;
-use retention::Retained;
-use retention::Retention;
-use retention::retain;
+use retain::Retained;
+use retain::Retention;
+use retain::retain;
+use row_propose::to_literals;
 
 // How far a transfer came: to the end, to a Declined row, to a tick that was not made.
-pub enum Reach {
+pub enum Progress {
     Whole,
     Declined,
     Stopped,
 }
 
 // A transfer under way: how far it came, the receiver's header, the tier's sharing account, the meter, and how many rows were Added.
-pub struct Passage {
-    pub reach: Reach,
+pub struct TransferState {
+    pub progress: Progress,
     pub header: Header,
     pub account: Account,
     pub meter: Meter,
@@ -42,11 +43,11 @@ pub struct Passage {
 }
 
 // A transfer at its start, to be paid from the sharing account given.
-pub fn start(header: Header, sharing: Sharing, work: Meter) -> Passage
+pub fn start(header: Header, sharing: Sharing, work: Meter) -> TransferState
     ensures { λ r. ⌜ r ≡ startBy header sharing work ⌝ }
 {
-    Passage {
-        reach: Reach::Whole,
+    TransferState {
+        progress: Progress::Whole,
         header,
         account: Account::Share(sharing),
         meter: work,
@@ -64,8 +65,8 @@ fn larger(a: u64, b: u64) -> u64
     a
 }
 
-// The row in a slot is retained once its literals are paid for, one read each: Subsumed or Added and a position. Declined or Stopped where a
-// read is not paid; Declined where the rows are protected.
+// The row in a slot is retained once its literals are paid for, one read each: Subsumed or Added and a position.
+// Declined or Stopped where a read is not paid; Declined where the rows are protected.
 fn receive_literals(
     header: Header,
     slots: &mut [u64],
@@ -75,7 +76,7 @@ fn receive_literals(
     hits: u64,
     account: Account,
     work: Meter,
-) -> Retained
+) -> Retention
     requires { ⌜ Accepted header (now slots) (now postings) ⌝ ∗ ⌜ Stored (header .limits .atoms) (now row) ⌝ ∗ ⌜ outputs ≤ maxOutputs ⌝ }
     ensures { λ r. ⌜ retainEnd r (now (slots .exit)) (now (postings .exit))
         ≡ receivedEnd (lent header (now (slots .entry)) (now (postings .entry))) (rowIn (now (row .entry))) outputs hits
@@ -88,23 +89,23 @@ fn receive_literals(
     let meter = judged.meter;
     match verdict {
         Verdict::Yes => {
-            let most = larger(row[1], outputs);
+            let most = larger(row[OUTPUTS_AT], outputs);
             retain(header, slots, postings, &mut p, most, hits, account, meter)
         }
-        Verdict::Stopped => Retained {
-            answer: Retention::Stopped,
+        Verdict::Stopped => Retention {
+            answer: Retained::Stopped,
             header,
             account,
             meter,
         },
-        Verdict::Declined => Retained {
-            answer: Retention::Declined,
+        Verdict::Declined => Retention {
+            answer: Retained::Declined,
             header,
             account,
             meter,
         },
-        Verdict::No => Retained {
-            answer: Retention::Declined,
+        Verdict::No => Retention {
+            answer: Retained::Declined,
             header,
             account,
             meter,
@@ -112,7 +113,8 @@ fn receive_literals(
     }
 }
 
-// The row in a slot is received, with so many hits and at most as many outputs as it has or `outputs`: one read, one a literal, then `retain`.
+// The row in a slot is received, with so many hits and at most as many outputs as it has or `outputs`:
+// one read, one a literal, then `retain`.
 pub fn receive(
     header: Header,
     slots: &mut [u64],
@@ -122,7 +124,7 @@ pub fn receive(
     hits: u64,
     account: Account,
     work: Meter,
-) -> Retained
+) -> Retention
     requires { ⌜ Accepted header (now slots) (now postings) ⌝ ∗ ⌜ Stored (header .limits .atoms) (now row) ⌝ ∗ ⌜ outputs ≤ maxOutputs ⌝ }
     ensures { λ r. ⌜ retainEnd r (now (slots .exit)) (now (postings .exit))
         ≡ receivedEnd (lent header (now (slots .entry)) (now (postings .entry))) (rowIn (now (row .entry))) outputs hits
@@ -132,14 +134,14 @@ pub fn receive(
         Read::Paid(account, meter) => {
             receive_literals(header, slots, postings, row, outputs, hits, account, meter)
         }
-        Read::Declined(account, meter) => Retained {
-            answer: Retention::Declined,
+        Read::Declined(account, meter) => Retention {
+            answer: Retained::Declined,
             header,
             account,
             meter,
         },
-        Read::Stopped(account, meter) => Retained {
-            answer: Retention::Stopped,
+        Read::Stopped(account, meter) => Retention {
+            answer: Retained::Stopped,
             header,
             account,
             meter,
@@ -148,14 +150,14 @@ pub fn receive(
 }
 
 // The transfer after a retention.
-pub fn passed(kept: Retained, reach: Reach, added: u64) -> Passage
-    ensures { λ r. ⌜ r ≡ passedBy kept reach added ⌝ }
+pub fn passed(kept: Retention, progress: Progress, added: u64) -> TransferState
+    ensures { λ r. ⌜ r ≡ passedBy kept progress added ⌝ }
 {
     let header = kept.header;
     let account = kept.account;
     let meter = kept.meter;
-    Passage {
-        reach,
+    TransferState {
+        progress,
         header,
         account,
         meter,
@@ -164,23 +166,23 @@ pub fn passed(kept: Retained, reach: Reach, added: u64) -> Passage
 }
 
 // The transfer after one tick: Stopped where it is not made.
-pub fn tick_past(passage: Passage) -> Passage
-    ensures { λ r. ⌜ r ≡ tickedBy passage ⌝ }
+pub fn tick_past(transfer: TransferState) -> TransferState
+    ensures { λ r. ⌜ r ≡ tickedBy transfer ⌝ }
 {
-    let header = passage.header;
-    let account = passage.account;
-    let meter = passage.meter;
-    let added = passage.added;
+    let header = transfer.header;
+    let account = transfer.account;
+    let meter = transfer.meter;
+    let added = transfer.added;
     match meter.tick() {
-        Tick::Ticked(meter) => Passage {
-            reach: Reach::Whole,
+        Tick::Ticked(meter) => TransferState {
+            progress: Progress::Whole,
             header,
             account,
             meter,
             added,
         },
-        Tick::Stopped(meter) => Passage {
-            reach: Reach::Stopped,
+        Tick::Stopped(meter) => TransferState {
+            progress: Progress::Stopped,
             header,
             account,
             meter,
@@ -190,12 +192,12 @@ pub fn tick_past(passage: Passage) -> Passage
 }
 
 // The answer of a transfer that came so far: Done, also after a Declined row, or Stopped.
-pub fn answer(reach: Reach) -> TransferAnswer
-    ensures { λ r. ⌜ r ≡ answerOf reach ⌝ }
+pub fn answer(progress: Progress) -> TransferAnswer
+    ensures { λ r. ⌜ r ≡ answerOf progress ⌝ }
 {
-    match reach {
-        Reach::Whole => TransferAnswer::Done,
-        Reach::Declined => TransferAnswer::Done,
-        Reach::Stopped => TransferAnswer::Stopped,
+    match progress {
+        Progress::Whole => TransferAnswer::Done,
+        Progress::Declined => TransferAnswer::Done,
+        Progress::Stopped => TransferAnswer::Stopped,
     }
 }

@@ -1,7 +1,7 @@
 // What a transfer refuses: either ledger by 1, 2 or 3, the tier first; then 7 for ledgers over different numbers of atoms.
 ghost use mathlib.Core.Path.{_≡_};
 ghost use Rattle.model.specs.Operations.{transferRefusal};
-ghost use Rattle.contents.specs.Lent.{lent, verdict};
+ghost use Rattle.contents.specs.Lent.{lent, refusedBy};
 ghost use Rattle.transfers.specs.Ends.{untransferredBy};
 use contents::accept;
 use meter::Meter;
@@ -18,7 +18,7 @@ pub fn refusal(
     store_slots: &[u64],
     store_postings: &[u64],
 ) -> u64
-    ensures { λ r. ⌜ verdict r ≡ transferRefusal (lent tier (now («tier_slots» .entry)) (now («tier_postings» .entry)))
+    ensures { λ r. ⌜ refusedBy r ≡ transferRefusal (lent tier (now («tier_slots» .entry)) (now («tier_postings» .entry)))
         (lent store (now («store_slots» .entry)) (now («store_postings» .entry))) ⌝ }
 {
     let n = accept(tier, tier_slots, tier_postings, true);

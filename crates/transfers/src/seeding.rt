@@ -7,12 +7,13 @@ ghost use Rattle.model.specs.Slots.{entryIn, entriesIn};
 ghost use Rattle.model.specs.Transfers.{Transfer, starting, seedRows, markFor};
 ghost use Rattle.model.specs.Refusals.{ledgerIn};
 ghost use Rattle.model.specs.Operations.{seed};
+ghost use Rattle.slots.specs.Layout.{RowsOver};
 ghost use Rattle.contents.specs.Lent.{lent};
-ghost use Rattle.keeping.specs.Stood.{Stood};
-ghost use Rattle.transfers.specs.Passage.{Carried, Ready, Giving};
+ghost use Rattle.retain_keep.specs.Stood.{Stood};
+ghost use Rattle.transfers.specs.Transfer.{Carried, Ready};
 ghost use Rattle.transfers.specs.Ends.{markedBy, seededBy, transferEnd};
-use crate::receiving::Passage;
-use crate::receiving::Reach;
+use crate::receiving::Progress;
+use crate::receiving::TransferState;
 use crate::receiving::answer;
 use crate::receiving::passed;
 use crate::receiving::receive;
@@ -20,36 +21,39 @@ use crate::receiving::start;
 use crate::receiving::tick_past;
 use crate::refusing::refusal;
 use crate::refusing::untransferred;
-use keeping::put_account;
 use meter::Meter;
+use model::BORN_AT;
+use model::HITS_AT;
 use model::Header;
 use model::LearningLimits;
 use model::Mark;
 use model::SLOT_WORDS;
 use model::TransferResult;
-use retention::Retention;
+use model::saturating_add;
+use retain::Retained;
+use retain_keep::put_account;
 use tier::mark_delivered;
-use tier::saturating_add;
 
-// The store's row in a slot: ticked past where it was born up to the mark; else received with its hits, and marked delivered where it is Added.
+// The store's row in a slot: ticked past where it was born up to the mark;
+// else received with its hits, and marked delivered where it is Added.
 fn seed_row(
-    passage: Passage,
+    transfer: TransferState,
     slots: &mut [u64],
     postings: &mut [u64],
     row: &[u64],
     limits: LearningLimits,
     mark: u64,
-) -> Passage
-    requires { ⌜ Ready passage (now slots) (now postings) (now row) (limits .«founded_outputs») ⌝ }
-    ensures { λ r. ⌜ ((n c : ℕ) (v : Transfer) → Carried n c passage (now (slots .entry)) (now (postings .entry)) v
+) -> TransferState
+    requires { ⌜ Ready transfer (now slots) (now postings) (now row) (limits .«founded_outputs») ⌝ }
+    ensures { λ r. ⌜ ((n c : ℕ) (v : Transfer) → Carried n c transfer (now (slots .entry)) (now (postings .entry)) v
         → Carried n (suc c) r (now (slots .exit)) (now (postings .exit)) (seedRows limits mark (entryIn (now (row .entry)) ∷ []) v)) ⌝ }
 {
-    let header = passage.header;
-    let account = passage.account;
-    let meter = passage.meter;
-    let added = passage.added;
-    if row[6] <= mark {
-        return tick_past(passage);
+    let header = transfer.header;
+    let account = transfer.account;
+    let meter = transfer.meter;
+    let added = transfer.added;
+    if row[BORN_AT] <= mark {
+        return tick_past(transfer);
     }
     let kept = receive(
         header,
@@ -57,18 +61,18 @@ fn seed_row(
         postings,
         row,
         limits.founded_outputs,
-        row[4],
+        row[HITS_AT],
         account,
         meter,
     );
     let answer = kept.answer;
     match answer {
-        Retention::Stopped => passed(kept, Reach::Stopped, added),
-        Retention::Declined => passed(kept, Reach::Declined, added),
-        Retention::Subsumed(_) => passed(kept, Reach::Whole, added),
-        Retention::Added(at) => {
+        Retained::Stopped => passed(kept, Progress::Stopped, added),
+        Retained::Declined => passed(kept, Progress::Declined, added),
+        Retained::Subsumed(_) => passed(kept, Progress::Whole, added),
+        Retained::Added(at) => {
             mark_delivered(slots, at as usize);
-            passed(kept, Reach::Whole, added + 1)
+            passed(kept, Progress::Whole, added + 1)
         }
     }
 }
@@ -82,26 +86,28 @@ fn seed_rows(
     rows: usize,
     mark: u64,
     work: Meter,
-) -> Passage
-    requires { ⌜ Stood tier (now slots) (now postings) (ledgerIn (lent tier (now slots) (now postings))) ⌝ ∗ ⌜ Giving (tier .limits .atoms) rows (now given) ⌝ }
-    ensures { λ r. ⌜ Carried (tier .limits .atoms) rows r (now (slots .exit)) (now (postings .exit)) (seedRows (tier .limits) mark (entriesIn rows (now (given .entry)))
+) -> TransferState
+    requires { ⌜ Stood tier (now slots) (now postings) (ledgerIn (lent tier (now slots) (now postings))) ⌝
+        ∗ ⌜ RowsOver (tier .limits .atoms) rows (now given) ⌝ }
+    ensures { λ r. ⌜ Carried (tier .limits .atoms) rows r (now (slots .exit)) (now (postings .exit))
+        (seedRows (tier .limits) mark (entriesIn rows (now (given .entry)))
         (starting (ledgerIn (lent tier (now (slots .entry)) (now (postings .entry)))) (Share (tier .sharing)) work)) ⌝ }
 {
     let limits = tier.limits;
     let sharing = tier.sharing;
-    let mut passage = start(tier, sharing, work);
+    let mut transfer = start(tier, sharing, work);
     let mut i: usize = 0;
     while i < rows {
         let a = SLOT_WORDS * i;
         let e = a + SLOT_WORDS;
-        passage = seed_row(passage, slots, postings, &given[a..e], limits, mark);
-        let reach = passage.reach;
-        let Reach::Whole = reach else {
-            return passage;
+        transfer = seed_row(transfer, slots, postings, &given[a..e], limits, mark);
+        let progress = transfer.progress;
+        let Progress::Whole = progress else {
+            return transfer;
         };
         i += 1;
     }
-    passage
+    transfer
 }
 
 // The born of the store's row up to which a tier was seeded: 0 if its mark is none, or another store's.
@@ -120,33 +126,33 @@ fn mark_for(number: u64, mark: Mark) -> u64
 }
 
 // The tier's header, the mark moved to the store's born if the seeding was whole.
-fn mark_moved(reach: Reach, store: Header, header: Header) -> Header
-    ensures { λ r. ⌜ r ≡ markedBy reach store header ⌝ }
+fn mark_moved(progress: Progress, store: Header, header: Header) -> Header
+    ensures { λ r. ⌜ r ≡ markedBy progress store header ⌝ }
 {
-    match reach {
-        Reach::Whole => {
+    match progress {
+        Progress::Whole => {
             let mark = Mark::Marked {
                 number: store.number,
                 born: store.born,
             };
             Header { mark, ..header }
         }
-        Reach::Declined => header,
-        Reach::Stopped => header,
+        Progress::Declined => header,
+        Progress::Stopped => header,
     }
 }
 
 // The result of a seeding that is over: the account goes back to the tier, and the store counts the rows Added.
-fn seeded(passage: Passage, store: Header, work: Meter) -> TransferResult
-    ensures { λ r. ⌜ r ≡ seededBy passage store work ⌝ }
+fn seeded(transfer: TransferState, store: Header, work: Meter) -> TransferResult
+    ensures { λ r. ⌜ r ≡ seededBy transfer store work ⌝ }
 {
-    let reach = passage.reach;
-    let header = passage.header;
-    let account = passage.account;
-    let meter = passage.meter;
-    let added = passage.added;
-    let answer = answer(reach);
-    let tier = mark_moved(reach, store, put_account(header, account));
+    let progress = transfer.progress;
+    let header = transfer.header;
+    let account = transfer.account;
+    let meter = transfer.meter;
+    let added = transfer.added;
+    let answer = answer(progress);
+    let tier = mark_moved(progress, store, put_account(header, account));
     let seeded = saturating_add(store.seeded, added);
     let ticks = meter.made(work);
     let store = Header { seeded, ..store };
@@ -159,8 +165,8 @@ fn seeded(passage: Passage, store: Header, work: Meter) -> TransferResult
     }
 }
 
-// Seeds a tier from a store: refused by the tier's 1, 2, 3, the store's 1, 2, 3, or 7 if they are over different numbers of atoms; Done, also
-// after a row Declined, or Stopped. The store's slices are only read.
+// Seeds a tier from a store: refused by the tier's 1, 2, 3, the store's 1, 2, 3, or 7 if they are over different numbers of atoms;
+// Done, also after a row Declined, or Stopped. The store's slices are only read.
 pub fn seed(
     tier: Header,
     tier_slots: &mut [u64],
@@ -170,9 +176,12 @@ pub fn seed(
     store_postings: &[u64],
     work: Meter,
 ) -> TransferResult
-    ensures { λ r. ⌜ transferEnd r (now («tier_slots» .exit)) (now («tier_postings» .exit)) (now («store_slots» .entry)) (now («store_postings» .entry))
-        (seed (lent tier (now («tier_slots» .entry)) (now («tier_postings» .entry))) (lent store (now («store_slots» .entry)) (now («store_postings» .entry))) work)
-        ≡ seed (lent tier (now («tier_slots» .entry)) (now («tier_postings» .entry))) (lent store (now («store_slots» .entry)) (now («store_postings» .entry))) work ⌝ }
+    ensures { λ r. ⌜ transferEnd r (now («tier_slots» .exit)) (now («tier_postings» .exit)) (now («store_slots» .entry))
+        (now («store_postings» .entry))
+        (seed (lent tier (now («tier_slots» .entry)) (now («tier_postings» .entry)))
+        (lent store (now («store_slots» .entry)) (now («store_postings» .entry))) work)
+        ≡ seed (lent tier (now («tier_slots» .entry)) (now («tier_postings» .entry)))
+        (lent store (now («store_slots» .entry)) (now («store_postings» .entry))) work ⌝ }
 {
     let n = refusal(
         tier,
@@ -188,7 +197,7 @@ pub fn seed(
     let mark = tier.mark;
     let upto = mark_for(store.number, mark);
     let rows = store.rows as usize;
-    let passage = seed_rows(
+    let transfer = seed_rows(
         tier,
         tier_slots,
         tier_postings,
@@ -197,5 +206,5 @@ pub fn seed(
         upto,
         work,
     );
-    seeded(passage, store, work)
+    seeded(transfer, store, work)
 }

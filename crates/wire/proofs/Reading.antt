@@ -3,7 +3,8 @@ use mathlib.Core.Path.{_≡_, refl, sym, ap}
 use mathlib.Core.Bool.{Bool, true, false}
 use mathlib.Core.List.{List, [], _∷_}
 use Prim.Native.Nat.{ℕ}
-use lib.ListN.{getD}
+use native.Mathlib.Omega.{arith}
+use lib.ListN.{length, getD, take}
 use borrow.Author.Tests.{ne-eqb}
 use Rattle.meter.specs.declared.Meter.{Meter}
 use Rattle.model.specs.declared.LearningLimits.{LearningLimits}
@@ -11,8 +12,10 @@ use Rattle.model.specs.declared.Mark.{Mark}
 use Rattle.model.specs.declared.Mark.the-variants.{Unmarked, Marked}
 use Rattle.model.specs.declared.Header.{Header}
 use Rattle.model.specs.declared.OutputCursor.{OutputCursor}
-use Rattle.model.specs.Records.{header}
-use Rattle.wire.specs.Words.{flagWord, flagIn, limitsIn, markWords, markIn, headerWords, headerIn, meterWords, meterIn, cursorWords, cursorIn}
+use Rattle.wire.specs.declared.Reply.{Reply}
+use Rattle.wire.specs.Words.{flagWord, flagIn, limitsIn, markWords, markIn, headerWords, headerWith, headerIn, meterWords, meterIn}
+use Rattle.wire.specs.Words.{cursorWords, cursorIn, limitsLength, headerLength, meterLength, cursorLength, answerLength}
+use Rattle.wire.specs.Replies.{answerWords}
 
 flag-read : (b : Bool) → flagIn (flagWord b) ≡ b
 flag-read true = refl
@@ -33,8 +36,9 @@ mark-read Unmarked = refl
 mark-read (Marked n b) = refl
 
 -- a header of limits and a mark that were read, and of the words between
-pub header-parts : (ws : List ℕ) {l : LearningLimits} {m : Mark} → l ≡ limitsIn ws → m ≡ markIn (getD ws 22 0) (getD ws 23 0) (getD ws 24 0) →
-    header l (getD ws 10 0) (getD ws 11 0) (getD ws 12 0) (getD ws 13 0) (getD ws 14 0) (record { 0 = getD ws 15 0 }) (record { 0 = getD ws 16 0 }) (getD ws 17 0) (getD ws 18 0) (getD ws 19 0) (flagIn (getD ws 20 0)) (flagIn (getD ws 21 0)) m ≡ headerIn ws
+pub header-parts : (ws : List ℕ) {l : LearningLimits} {m : Mark} → l ≡ limitsIn ws → m ≡ markIn (getD ws 22 0) (getD ws 23 0) (getD ws 24 0)
+    →
+    headerWith l m ws ≡ headerIn ws
 unfolding headerIn
 header-parts ws e f = rw (e, f)
 
@@ -47,3 +51,25 @@ meter-read m = refl
 
 pub cursor-read : (k : OutputCursor) → cursorIn (cursorWords k) ≡ k
 cursor-read k = refl
+
+-- ---- as many words as each has
+mark-long : (m : Mark) → length (markWords m) ≡ 3
+mark-long Unmarked = refl
+mark-long (Marked n b) = refl
+
+pub header-long : (h : Header) → length (headerWords h) ≡ headerLength
+unfolding headerWords
+header-long h = let e = mark-long (h .mark) in omega arith
+
+pub limits-first : (h : Header) → limitsIn (take limitsLength (headerWords h)) ≡ h .limits
+unfolding limitsIn headerWords
+limits-first h = refl
+
+pub meter-long : (m : Meter) → length (meterWords m) ≡ meterLength
+meter-long m = refl
+
+pub cursor-long : (k : OutputCursor) → length (cursorWords k) ≡ cursorLength
+cursor-long k = refl
+
+pub answer-long : (t : Reply) (ticks : ℕ) → length (answerWords t ticks) ≡ answerLength
+answer-long t ticks = refl

@@ -13,6 +13,22 @@ use Rattle.model.specs.declared.Header.{Header}
 use Rattle.model.specs.declared.OutputCursor.{OutputCursor}
 use Rattle.model.specs.Records.{header}
 
+-- ---- how many words each has
+abbrev pub limitsLength : ℕ
+limitsLength = 10
+
+abbrev pub headerLength : ℕ
+headerLength = 25
+
+abbrev pub meterLength : ℕ
+meterLength = 2
+
+abbrev pub cursorLength : ℕ
+cursorLength = 4
+
+abbrev pub answerLength : ℕ
+answerLength = 3
+
 abbrev pub flagWord : Bool → ℕ
 flagWord true = 1
 flagWord false = 0
@@ -20,7 +36,7 @@ flagWord false = 0
 abbrev pub flagIn : ℕ → Bool
 flagIn w = not (eqb w 0)
 
--- ---- Limits: ten words, in 01's order
+-- ---- Limits, in 01's order
 unfoldable pub limitsIn : List ℕ → LearningLimits
 limitsIn ws = record {
   atoms = getD ws 0 0;
@@ -43,7 +59,7 @@ markWords (Marked number born) = 1 ∷ number ∷ born ∷ []
 abbrev pub markIn : ℕ → ℕ → ℕ → Mark
 markIn w number born = elim (flagIn w) [ true ↦ Marked number born | false ↦ Unmarked ]
 
--- ---- Header: 25 words, the limits first, then 01's order
+-- ---- Header: the limits first, then 01's order
 unfoldable pub headerWords : Header → List ℕ
 headerWords h =
     h .limits .atoms
@@ -70,11 +86,15 @@ headerWords h =
     ∷ flagWord (h .full)
     ∷ markWords (h .mark)
 
-unfoldable pub headerIn : List ℕ → Header
-headerIn ws =
-    header (limitsIn ws) (getD ws 10 0) (getD ws 11 0) (getD ws 12 0) (getD ws 13 0) (getD ws 14 0)
+-- a header of its limits and its mark, and of the words between
+abbrev pub headerWith : LearningLimits → Mark → List ℕ → Header
+headerWith l m ws =
+    header l (getD ws 10 0) (getD ws 11 0) (getD ws 12 0) (getD ws 13 0) (getD ws 14 0)
     (record { 0 = getD ws 15 0 }) (record { 0 = getD ws 16 0 }) (getD ws 17 0) (getD ws 18 0) (getD ws 19 0)
-    (flagIn (getD ws 20 0)) (flagIn (getD ws 21 0)) (markIn (getD ws 22 0) (getD ws 23 0) (getD ws 24 0))
+    (flagIn (getD ws 20 0)) (flagIn (getD ws 21 0)) m
+
+unfoldable pub headerIn : List ℕ → Header
+headerIn ws = headerWith (limitsIn ws) (markIn (getD ws 22 0) (getD ws 23 0) (getD ws 24 0)) ws
 
 -- ---- Meter: charged, limit
 abbrev pub meterWords : Meter → List ℕ

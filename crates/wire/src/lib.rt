@@ -1,8 +1,11 @@
 // The words that cross the C boundary: the header, the limits, the meter, the cursor, and the number and value of each answer.
 // Words are read whatever they are, and none asks anything of its caller.
 ghost use mathlib.Core.Path.{_≡_};
-ghost use Rattle.wire.specs.Words.{flagWord, limitsIn, markWords, markIn, headerWords, headerIn, meterWords, meterIn, cursorWords, cursorIn};
-ghost use Rattle.wire.specs.Replies.{refused as refusedBy, answered as answeredBy, answerWords, makeReply, madeWords, offerReply, hitReply, beginReply, deduceReply, nextReply, candidatesReply, closeReply, transferReply, decideReply};
+ghost use Rattle.wire.specs.Words.{flagWord, limitsIn, markWords, markIn, headerWords, headerIn, meterWords, meterIn, cursorWords};
+ghost use Rattle.wire.specs.Words.{cursorIn};
+ghost use Rattle.wire.specs.Replies.{refused as refusedBy, answered as answeredBy, answerWords, makeReply, madeWords, offerReply};
+ghost use Rattle.wire.specs.Replies.{hitReply, beginReply, deduceReply, nextReply, candidatesReply, closeReply, transferReply};
+ghost use Rattle.wire.specs.Replies.{decideReply};
 use meter::Capture;
 use meter::Meter;
 use meter::Sharing;
@@ -22,6 +25,17 @@ use model::OfferAnswer;
 use model::OutputCursor;
 use model::TransferAnswer;
 
+// The words of the limits, the header, the meter, the cursor, and an answer.
+pub const LIMITS_WORDS: usize = 10;
+
+pub const HEADER_WORDS: usize = 25;
+
+pub const METER_WORDS: usize = 2;
+
+pub const CURSOR_WORDS: usize = 4;
+
+pub const ANSWER_WORDS: usize = 3;
+
 // An answer as numbers: `refusal` is the number of a refusal, or 0; then `case` and `value` say which answer it is.
 pub struct Reply {
     pub refusal: u64,
@@ -39,8 +53,8 @@ pub fn flag_word(b: bool) -> u64
     0
 }
 
-// The limits in ten words.
-pub fn limits_of(words: &[u64; 10]) -> LearningLimits
+// The limits in their words.
+pub fn limits_of(words: &[u64; LIMITS_WORDS]) -> LearningLimits
     ensures { λ r. ⌜ r ≡ limitsIn (now (words .entry)) ⌝ }
 {
     LearningLimits {
@@ -77,8 +91,8 @@ pub fn mark_words(mark: Mark) -> [u64; 3]
     }
 }
 
-// The header in 25 words.
-pub fn header_of(words: &[u64; 25]) -> Header
+// The header in its words.
+pub fn header_of(words: &[u64; HEADER_WORDS]) -> Header
     ensures { λ r. ⌜ r ≡ headerIn (now (words .entry)) ⌝ }
 {
     let limits = limits_of(
@@ -114,8 +128,8 @@ pub fn header_of(words: &[u64; 25]) -> Header
     }
 }
 
-// Writes a header as 25 words.
-pub fn put_header(h: Header, words: &mut [u64; 25])
+// Writes a header as words.
+pub fn put_header(h: Header, words: &mut [u64; HEADER_WORDS])
     ensures { λ _. ⌜ now (words .exit) ≡ headerWords h ⌝ }
 {
     let stale = flag_word(h.stale);
@@ -154,8 +168,8 @@ pub fn put_header(h: Header, words: &mut [u64; 25])
     ];
 }
 
-// The meter in two words.
-pub fn meter_of(words: &[u64; 2]) -> Meter
+// The meter in its words.
+pub fn meter_of(words: &[u64; METER_WORDS]) -> Meter
     ensures { λ r. ⌜ r ≡ meterIn (now (words .entry)) ⌝ }
 {
     Meter {
@@ -164,15 +178,15 @@ pub fn meter_of(words: &[u64; 2]) -> Meter
     }
 }
 
-// Writes a meter as two words.
-pub fn put_meter(work: Meter, words: &mut [u64; 2])
+// Writes a meter as words.
+pub fn put_meter(work: Meter, words: &mut [u64; METER_WORDS])
     ensures { λ _. ⌜ now (words .exit) ≡ meterWords work ⌝ }
 {
     *words = [work.charged, work.limit];
 }
 
-// The cursor in four words.
-pub fn cursor_of(words: &[u64; 4]) -> OutputCursor
+// The cursor in its words.
+pub fn cursor_of(words: &[u64; CURSOR_WORDS]) -> OutputCursor
     ensures { λ r. ⌜ r ≡ cursorIn (now (words .entry)) ⌝ }
 {
     OutputCursor {
@@ -183,22 +197,22 @@ pub fn cursor_of(words: &[u64; 4]) -> OutputCursor
     }
 }
 
-// Writes a cursor as four words.
-pub fn put_cursor(cursor: OutputCursor, words: &mut [u64; 4])
+// Writes a cursor as words.
+pub fn put_cursor(cursor: OutputCursor, words: &mut [u64; CURSOR_WORDS])
     ensures { λ _. ⌜ now (words .exit) ≡ cursorWords cursor ⌝ }
 {
     *words = [cursor.next, cursor.word, cursor.present, cursor.absent];
 }
 
 // Writes an answer that is no refusal: case, value, ticks.
-pub fn put_answer(reply: Reply, ticks: u64, words: &mut [u64; 3])
+pub fn put_answer(reply: Reply, ticks: u64, words: &mut [u64; ANSWER_WORDS])
     ensures { λ _. ⌜ now (words .exit) ≡ answerWords reply ticks ⌝ }
 {
     *words = [reply.case, reply.value, ticks];
 }
 
 // Writes the header that was made; a refused Make leaves the words.
-pub fn put_made(answer: MakeAnswer, words: &mut [u64; 25])
+pub fn put_made(answer: MakeAnswer, words: &mut [u64; HEADER_WORDS])
     ensures { λ _. ⌜ now (words .exit) ≡ madeWords answer (now (words .entry)) ⌝ }
 {
     if let MakeAnswer::Made(h) = answer {
@@ -219,7 +233,7 @@ fn refused(n: u64) -> Reply
 }
 
 // An answer that is no refusal.
-fn answered(case: u64, value: u64) -> Reply
+fn reply_of(case: u64, value: u64) -> Reply
     ensures { λ r. ⌜ r ≡ answeredBy case value ⌝ }
 {
     Reply {
@@ -235,7 +249,7 @@ pub fn make_reply(a: MakeAnswer) -> Reply
 {
     match a {
         MakeAnswer::Refused(n) => refused(n),
-        MakeAnswer::Made(_) => answered(0, 0),
+        MakeAnswer::Made(_) => reply_of(0, 0),
     }
 }
 
@@ -245,11 +259,11 @@ pub fn offer_reply(a: OfferAnswer) -> Reply
 {
     match a {
         OfferAnswer::Refused(n) => refused(n),
-        OfferAnswer::Shut => answered(1, 0),
-        OfferAnswer::Stopped => answered(2, 0),
-        OfferAnswer::Declined => answered(3, 0),
-        OfferAnswer::Subsumed(p) => answered(4, p),
-        OfferAnswer::Added(p) => answered(5, p),
+        OfferAnswer::Shut => reply_of(1, 0),
+        OfferAnswer::Stopped => reply_of(2, 0),
+        OfferAnswer::Declined => reply_of(3, 0),
+        OfferAnswer::Subsumed(p) => reply_of(4, p),
+        OfferAnswer::Added(p) => reply_of(5, p),
     }
 }
 
@@ -259,7 +273,7 @@ pub fn hit_reply(a: HitAnswer) -> Reply
 {
     match a {
         HitAnswer::Refused(n) => refused(n),
-        HitAnswer::Done => answered(0, 0),
+        HitAnswer::Done => reply_of(0, 0),
     }
 }
 
@@ -269,7 +283,7 @@ pub fn begin_reply(a: BeginAnswer) -> Reply
 {
     match a {
         BeginAnswer::Refused(n) => refused(n),
-        BeginAnswer::Done => answered(0, 0),
+        BeginAnswer::Done => reply_of(0, 0),
     }
 }
 
@@ -279,11 +293,11 @@ pub fn deduce_reply(a: DeduceAnswer) -> Reply
 {
     match a {
         DeduceAnswer::Refused(n) => refused(n),
-        DeduceAnswer::Stopped => answered(2, 0),
+        DeduceAnswer::Stopped => reply_of(2, 0),
         DeduceAnswer::Deduced(d) => match d {
-            Deduction::Nothing => answered(0, 0),
-            Deduction::Force => answered(1, 0),
-            Deduction::Require(l) => answered(3, l.0 as u64),
+            Deduction::Nothing => reply_of(0, 0),
+            Deduction::Force => reply_of(1, 0),
+            Deduction::Require(l) => reply_of(3, l.0 as u64),
         },
     }
 }
@@ -294,9 +308,9 @@ pub fn next_reply(a: NextAnswer) -> Reply
 {
     match a {
         NextAnswer::Refused(n) => refused(n),
-        NextAnswer::Stopped => answered(2, 0),
-        NextAnswer::End => answered(0, 0),
-        NextAnswer::Output(l) => answered(1, l.0 as u64),
+        NextAnswer::Stopped => reply_of(2, 0),
+        NextAnswer::End => reply_of(0, 0),
+        NextAnswer::Output(l) => reply_of(1, l.0 as u64),
     }
 }
 
@@ -306,8 +320,8 @@ pub fn candidates_reply(a: CandidatesAnswer) -> Reply
 {
     match a {
         CandidatesAnswer::Refused(n) => refused(n),
-        CandidatesAnswer::Stopped => answered(2, 0),
-        CandidatesAnswer::Count(n) => answered(0, n),
+        CandidatesAnswer::Stopped => reply_of(2, 0),
+        CandidatesAnswer::Count(n) => reply_of(0, n),
     }
 }
 
@@ -317,9 +331,9 @@ pub fn close_reply(a: CloseAnswer) -> Reply
 {
     match a {
         CloseAnswer::Refused(n) => refused(n),
-        CloseAnswer::Stopped => answered(2, 0),
-        CloseAnswer::Conflict => answered(1, 0),
-        CloseAnswer::Closed => answered(0, 0),
+        CloseAnswer::Stopped => reply_of(2, 0),
+        CloseAnswer::Conflict => reply_of(1, 0),
+        CloseAnswer::Closed => reply_of(0, 0),
     }
 }
 
@@ -329,8 +343,8 @@ pub fn transfer_reply(a: TransferAnswer) -> Reply
 {
     match a {
         TransferAnswer::Refused(n) => refused(n),
-        TransferAnswer::Stopped => answered(2, 0),
-        TransferAnswer::Done => answered(0, 0),
+        TransferAnswer::Stopped => reply_of(2, 0),
+        TransferAnswer::Done => reply_of(0, 0),
     }
 }
 
@@ -340,6 +354,6 @@ pub fn decide_reply(a: DecideAnswer) -> Reply
 {
     match a {
         DecideAnswer::Refused(n) => refused(n),
-        DecideAnswer::Decided(b) => answered(flag_word(b), 0),
+        DecideAnswer::Decided(b) => reply_of(flag_word(b), 0),
     }
 }

@@ -10,10 +10,11 @@ use native.Mathlib.Omega.{arith}
 use lib.ListN.{length, getD}
 use lib.Dec.{eqb, ltb}
 use borrow.Author.Tests.{eq-eqb, ne-eqb, lt-ltb, le-ltb, ltb-true, not-true}
+use Rattle.lists.proofs.Bools.{and-both, or-left, false-of}
 use Rattle.words.specs.Bit.{testBit}
 use Rattle.words.specs.Literal.{atom, isPresent, code, opposite, wordOf}
-use Rattle.words.specs.Region.{has, mark, Region, region, holds, contradicts, markLiteral, decide, Decision, decision, decisionOn, answered, wordsFor}
-use Rattle.words.proofs.Bools.{and-both, false-of, or-left}
+use Rattle.words.specs.Region.{has, mark, Region, region, holds, contradicts, markLiteral, decide, Decision, decision, decisionOn}
+use Rattle.words.specs.Region.{decisionWith, wordsFor}
 use Rattle.words.proofs.Literals.{atom-code, present-code, same-sign, other-sign, opposite-code, atom-opposite, present-opposite}
 use Rattle.words.proofs.Regions.{Set, Sound, has-mark, length-mark, words-mark, at-place}
 
@@ -65,11 +66,13 @@ module _ (r : Region) (c : ℕ) where
 module _ (r : Region) (x i : ℕ) where
   pub holds-at-present : i < 64 → holds r (code (x * 64 + i) true) ≡ testBit (getD (r .held) x 0) i
   holds-at-present l =
-      holds-present r (code (x * 64 + i) true) (present-code (x * 64 + i) true) ∙ ap (has (r .held)) (atom-code (x * 64 + i) true) ∙ at-place (r .held) x i l
+      holds-present r (code (x * 64 + i) true) (present-code (x * 64 + i) true) ∙ ap (has (r .held)) (atom-code (x * 64 + i) true)
+      ∙ at-place (r .held) x i l
 
   pub holds-at-absent : i < 64 → holds r (code (x * 64 + i) false) ≡ testBit (getD (r .cut) x 0) i
   holds-at-absent l =
-      holds-absent r (code (x * 64 + i) false) (present-code (x * 64 + i) false) ∙ ap (has (r .cut)) (atom-code (x * 64 + i) false) ∙ at-place (r .cut) x i l
+      holds-absent r (code (x * 64 + i) false) (present-code (x * 64 + i) false) ∙ ap (has (r .cut)) (atom-code (x * 64 + i) false)
+      ∙ at-place (r .cut) x i l
 
 module _ (r : Region) (x i : ℕ) where
   pub contradicts-at-present : i < 64 → contradicts r (code (x * 64 + i) true) ≡ testBit (getD (r .cut) x 0) i
@@ -99,7 +102,10 @@ module _ (n : ℕ) (r : Region) (c : ℕ) where
   unfolding decide
   decide-some s e = go (ltb (atom c) n && not (contradicts r c)) refl e
     where
-      go : (b : Bool) → (ltb (atom c) n && not (contradicts r c)) ≡ b → elim b as (λ k. Option Region) [ true ↦ some (markLiteral r c) | false ↦ none ] ≡ some s
+      go : (b : Bool) → (ltb (atom c) n && not (contradicts r c)) ≡ b → elim b as (λ k. Option Region) [
+        | true ↦ some (markLiteral r c)
+        | false ↦ none
+      ] ≡ some s
           → (atom c < n) × (contradicts r c ≡ false) × (s ≡ markLiteral r c)
       go true t q =
           let both = and-both (ltb (atom c) n) (not (contradicts r c)) t in
@@ -157,7 +163,8 @@ module _ (n : ℕ) (r : Region) (c : ℕ) where
           (record {
             held = s .held;
             cut = set-mark n (r .cut) (atom c) (s .cut) h;
-            apart = λ b p q. apart-mark n (r .cut) (r .held) (atom c) (s .cut) h (sym (contradicts-absent r c e) ∙ free) (λ d x y. s .apart d y x) b q p;
+            apart = λ b p q. apart-mark n (r .cut) (r .held) (atom c) (s .cut) h (sym (contradicts-absent r c e) ∙ free)
+                (λ d x y. s .apart d y x) b q p;
           })
 
   -- it has the literal, and those it had
@@ -167,7 +174,8 @@ module _ (n : ℕ) (r : Region) (c : ℕ) where
     where
       same : (ws : List ℕ) → Set n ws → isPresent d ≡ isPresent c → has (mark ws (atom c)) (atom d) ≡ (has ws (atom d) || eqb d c)
       same ws t e =
-          has-mark ws (atom c) (atom d) (word-inside n (atom c) (length ws) (t .long) h) ∙ ap (λ (b : Bool). has ws (atom d) || b) (same-sign d c e)
+          has-mark ws (atom c) (atom d) (word-inside n (atom c) (length ws) (t .long) h)
+          ∙ ap (λ (b : Bool). has ws (atom d) || b) (same-sign d c e)
 
       other : (isPresent d ≡ isPresent c → ⊥) → holds r d ≡ (holds r d || eqb d c)
       other f = sym (ap (λ (b : Bool). holds r d || b) (other-sign d c f) ∙ or-false (holds r d))
@@ -212,18 +220,18 @@ module _ (n : ℕ) (held cut : List ℕ) (c : ℕ) (b : Bool) (held′ cut′ : 
   before = region held cut
 
   -- false: there is no decision, and the slices are as they were
-  pub answer-none : answered b held′ cut′ ≡ decisionOn n held cut c → b ≡ false
+  pub answer-none : decisionWith b held′ cut′ ≡ decisionOn n held cut c → b ≡ false
       → (decide n (region held cut) c ≡ none) × (held′ ≡ held) × (cut′ ≡ cut)
   answer-none e f = go (decide n before c) refl
     where
       go : (d : Option Region) → decide n before c ≡ d → (decide n before c ≡ none) × (held′ ≡ held) × (cut′ ≡ cut)
       go none q =
-          let k : answered b held′ cut′ ≡ decision before none = e ∙ ap (decision before) q in
+          let k : decisionWith b held′ cut′ ≡ decision before none = e ∙ ap (decision before) q in
           (q, ap (λ (x : Decision). x .after .held) k, ap (λ (x : Decision). x .after .cut) k)
       go (some s) q = absurd (false≢true (sym f ∙ ap (λ (x : Decision). x .answer) (e ∙ ap (decision before) q)))
 
   -- true: the slices are the region after the decision
-  pub answer-some : answered b held′ cut′ ≡ decisionOn n held cut c → b ≡ true → decide n (region held cut) c ≡ some (region held′ cut′)
+  pub answer-some : decisionWith b held′ cut′ ≡ decisionOn n held cut c → b ≡ true → decide n (region held cut) c ≡ some (region held′ cut′)
   answer-some e f = go (decide n before c) refl
     where
       go : (d : Option Region) → decide n before c ≡ d → decide n before c ≡ some (region held′ cut′)
@@ -235,7 +243,7 @@ module _ (n : ℕ) (held cut : List ℕ) (a : ℕ) (p : Bool) where
   abbrev start : Region
   start = region held cut
 
-  against : contradicts start (code a p) ≡ true → answered false held cut ≡ decisionOn n held cut (code a p)
+  against : contradicts start (code a p) ≡ true → decisionWith false held cut ≡ decisionOn n held cut (code a p)
   against e = sym (ap (decision start) (decide-against n start (code a p) e))
 
   marks : (s : Region) → a < n → contradicts start (code a p) ≡ false → markLiteral start (code a p) ≡ s
@@ -248,21 +256,21 @@ module _ (n : ℕ) (held cut : List ℕ) (a : ℕ) (p : Bool) where
   opposed-held : p ≡ false → contradicts start (code a p) ≡ has held a
   opposed-held e = contradicts-absent start (code a p) (present-code a p ∙ e) ∙ ap (has held) (atom-code a p)
 
-  pub way-out : n ≤ a → answered false held cut ≡ decisionOn n held cut (code a p)
+  pub way-out : n ≤ a → decisionWith false held cut ≡ decisionOn n held cut (code a p)
   way-out h = sym (ap (decision start) (decide-out n start (code a p) (rw (atom-code a p) h)))
 
-  pub way-cut : p ≡ true → has cut a ≡ true → answered false held cut ≡ decisionOn n held cut (code a p)
+  pub way-cut : p ≡ true → has cut a ≡ true → decisionWith false held cut ≡ decisionOn n held cut (code a p)
   way-cut e t = against (opposed-cut e ∙ t)
 
-  pub way-held : p ≡ false → has held a ≡ true → answered false held cut ≡ decisionOn n held cut (code a p)
+  pub way-held : p ≡ false → has held a ≡ true → decisionWith false held cut ≡ decisionOn n held cut (code a p)
   way-held e t = against (opposed-held e ∙ t)
 
-  pub way-hold : p ≡ true → a < n → has cut a ≡ false → answered true (mark held a) cut ≡ decisionOn n held cut (code a p)
+  pub way-hold : p ≡ true → a < n → has cut a ≡ false → decisionWith true (mark held a) cut ≡ decisionOn n held cut (code a p)
   way-hold e h t =
       marks (region (mark held a) cut) h (opposed-cut e ∙ t)
       (mark-present start (code a p) (present-code a p ∙ e) ∙ ap (λ (x : ℕ). region (mark held x) cut) (atom-code a p))
 
-  pub way-drop : p ≡ false → a < n → has held a ≡ false → answered true held (mark cut a) ≡ decisionOn n held cut (code a p)
+  pub way-drop : p ≡ false → a < n → has held a ≡ false → decisionWith true held (mark cut a) ≡ decisionOn n held cut (code a p)
   way-drop e h t =
       marks (region held (mark cut a)) h (opposed-held e ∙ t)
       (mark-absent start (code a p) (present-code a p ∙ e) ∙ ap (λ (x : ℕ). region held (mark cut x)) (atom-code a p))

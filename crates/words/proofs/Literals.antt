@@ -39,6 +39,14 @@ unfolding atom code
 atom-code a true = omega arith
 atom-code a false = omega arith
 
+pub atom-even : (a : ℕ) → atom (2 * a) ≡ a
+unfolding atom
+atom-even a = omega arith
+
+pub atom-odd : (a : ℕ) → atom (2 * a + 1) ≡ a
+unfolding atom
+atom-odd a = omega arith
+
 pub present-code : (a : ℕ) (p : Bool) → isPresent (code a p) ≡ p
 unfolding isPresent code
 present-code a true = eq-eqb ((2 * a + 1) % 2) 1 (omega arith)

@@ -11,9 +11,10 @@ use lib.Count.{trailing-of-zero}
 use lib.Dec.{eqb, ltb}
 use lib.Pow.{pow-pos, pow-lt}
 use borrow.Author.Tests.{eq-eqb, ne-eqb, eqb-true, lt-ltb, le-ltb}
+use Rattle.lists.proofs.Bools.{and-both}
 use Rattle.words.specs.Bit.{testBit, firstBit}
-use Rattle.words.proofs.Bools.{and-both}
-use Rattle.words.proofs.Bits.{bit-and, bit-or, bit-not, bit-zero, bit-pow, bit-pow-same, bit-mod, bit-ext, shl-one, some-bit, one-bit, tz-lt, tz-bit, tz-below}
+use Rattle.words.proofs.Bits.{bit-and, bit-or, bit-not, bit-zero, bit-pow, bit-pow-same, bit-mod, bit-ext, shl-one, some-bit}
+use Rattle.words.proofs.Bits.{one-bit, tz-lt, tz-bit, tz-below}
 
 -- a bit of a word that is zero
 pub bit-of-zero : (w i : ℕ) → w ≡ 0 → testBit w i ≡ false
@@ -115,7 +116,8 @@ mod-set w i e =
               ap₂ (λ (x y : Bool). (testBit w j && x) || y) (le-ltb j i (omega arith)) (eq-eqb j i s)
               ∙ ap (λ (x : Bool). x || true) (and-false (testBit w j))
               ∙ sym (ap₂ (λ (x y : Bool). x && y) (ap (testBit w) s ∙ e) (lt-ltb j (suc i) l))
-          | no f ↦ ap₂ (λ (x y : Bool). (testBit w j && x) || y) (sym (ltb-suc j i f)) (ne-eqb j i f) ∙ or-false (testBit w j && ltb j (suc i))
+          | no f ↦ ap₂ (λ (x y : Bool). (testBit w j && x) || y) (sym (ltb-suc j i f)) (ne-eqb j i f)
+              ∙ or-false (testBit w j && ltb j (suc i))
         ]
 
 pub mod-skip : (w i : ℕ) → testBit w i ≡ false → w % 2 ^ i ≡ w % 2 ^ suc i

@@ -12,25 +12,25 @@ use lib.ListN.{length, getD}
 use lib.Bits.{bitAnd, and-le-l}
 use lib.Dec.{leb}
 use borrow.Author.Tests.{le-leb, lt-leb, leb-true, lt-ltb}
-use Rattle.lists.specs.Lists.{first, select, count}
+use Rattle.lists.specs.Lists.{first, select, range}
+use Rattle.lists.proofs.Bools.{and-both, and-second}
 use Rattle.words.specs.Bit.{testBit, firstBit}
 use Rattle.words.specs.Literal.{wordOf}
 use Rattle.words.specs.Region.{has, nextFrom}
 use Rattle.words.proofs.Bits.{bit-and, bit-from, bit-ones}
-use Rattle.words.proofs.Bools.{and-both, and-second}
 use Rattle.words.proofs.Masks.{Lowest, first-bit-lowest, bit-of-zero}
 use Rattle.words.proofs.Places.{has-beyond}
 use Rattle.words.proofs.Regions.{Words, at-place}
 
 -- ---- the first of a run of numbers that passes a test
-first-none : (f : ℕ → Bool) (n i : ℕ) → ((j : ℕ) → i ≤ j → j < i + n → f j ≡ false) → first (select f (count i n)) ≡ none
-unfolding first select count
+first-none : (f : ℕ → Bool) (n i : ℕ) → ((j : ℕ) → i ≤ j → j < i + n → f j ≡ false) → first (select f (range i n)) ≡ none
+unfolding first select range
 first-none f zero i h = refl
 first-none f (suc n) i h = rw (h i (le-refl i) (omega arith)) (first-none f n (suc i) (λ j a b. h j (omega arith) (omega arith)))
 
 first-at : (f : ℕ → Bool) (n i t : ℕ) → i ≤ t → t < i + n → f t ≡ true → ((j : ℕ) → i ≤ j → j < t → f j ≡ false)
-    → first (select f (count i n)) ≡ some t
-unfolding first select count
+    → first (select f (range i n)) ≡ some t
+unfolding first select range
 first-at f zero i t a b e h = absurd (omega arith)
 first-at f (suc n) i t a b e h =
     ⊎-elim
@@ -89,7 +89,8 @@ module _ (ws : List ℕ) (a w mask : ℕ) where
             let l : i < t = omega arith in
             let k : i < 64 = omega arith in
             ap (has ws) (sym e)
-            ∙ and-second (has ws (w * 64 + i)) (leb a (w * 64 + i)) (sym (selected-bit s i k) ∙ f i l) (le-leb a (w * 64 + i) (omega arith)))
+            ∙ and-second (has ws (w * 64 + i)) (leb a (w * 64 + i)) (sym (selected-bit s i k) ∙ f i l)
+            (le-leb a (w * 64 + i) (omega arith)))
       ]
 
   lowest : Words ws → 0 < selected → Lowest selected (firstBit selected)
@@ -104,7 +105,8 @@ module _ (ws : List ℕ) (a w mask : ℕ) where
   -- the walk is past the words that reach below n
   pub seek-none : (n : ℕ) → Seeking ws a w mask → min (length ws) (n / 64 + 1) ≤ w → none ≡ nextFrom n ws a
   unfolding wordOf
-  seek-none n s h = sym (next-none n ws a (λ j p q. elim (decLt j (w * 64)) [ yes l ↦ s .passed j p l | no l ↦ has-beyond ws j (past j q l) ]))
+  seek-none n s h =
+      sym (next-none n ws a (λ j p q. elim (decLt j (w * 64)) [ yes l ↦ s .passed j p l | no l ↦ has-beyond ws j (past j q l) ]))
     where
       past : (j : ℕ) → j < n → (j < w * 64 → ⊥) → length ws ≤ wordOf j
       past j q l = omega arith

@@ -10,9 +10,9 @@ use lib.Seq.{drop-cons}
 use lib.Bits.{bitAnd, bitOr}
 use lib.Dec.{eqb, ltb, leb}
 use borrow.Author.Tests.{eq-eqb, ne-eqb, eqb-true, le-leb, lt-leb}
+use Rattle.lists.proofs.Bools.{and-both}
 use Rattle.words.specs.Literal.{wordOf, bitOf}
 use Rattle.words.specs.Region.{atomsOk, Region, wordsFor, isSet, apart, isRegion, maxAtoms}
-use Rattle.words.proofs.Bools.{and-both}
 use Rattle.words.proofs.Masks.{eqb-or}
 use Rattle.words.proofs.Places.{shl-bit}
 use Rattle.words.proofs.Regions.{Words, all-words}

@@ -120,15 +120,15 @@ fn closings(name: &str, start: &Both, regions: &[Marks]) {
                 verified: Box::new(|| {
                     let one = |marks: &Marks| {
                         let mut marks = marks.clone();
-                        lent.head = start.lent.head;
-                        lent.postings.copy_from_slice(&start.lent.postings);
+                        lent.0.head = start.lent.0.head;
+                        lent.0.postings.copy_from_slice(&start.lent.0.postings);
                         timed(|| lent.close(&mut marks.held, &mut marks.cut, &mut rows, &mut atoms))
                     };
                     regions.iter().map(one).collect()
                 }),
                 acceptance: Box::new(|| {
                     let accept = |_| {
-                        checked.head = start.lent.head;
+                        checked.0.head = start.lent.0.head;
                         timed(|| checked.begin())
                     };
                     regions.iter().map(accept).collect()

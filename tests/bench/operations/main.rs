@@ -4,6 +4,9 @@
 //!
 //!     operations operations | closing
 
+#[allow(dead_code)]
+#[path = "../../book.rs"]
+mod book;
 mod both;
 #[allow(dead_code)]
 #[path = "../../../bindings/rust/src/boundary.rs"]

@@ -135,12 +135,16 @@ fn searches(name: &str, rows: &[Row]) {
                     vec![timed(search)]
                 }),
                 verified: Box::new(|| {
-                    searched.lent.head = start.lent.head;
-                    searched.lent.postings.copy_from_slice(&start.lent.postings);
+                    searched.lent.0.head = start.lent.0.head;
+                    searched
+                        .lent
+                        .0
+                        .postings
+                        .copy_from_slice(&start.lent.0.postings);
                     vec![timed(|| searched.lent.candidates(&atoms, &mut found))]
                 }),
                 acceptance: Box::new(|| {
-                    checked.lent.head = start.lent.head;
+                    checked.lent.0.head = start.lent.0.head;
                     vec![timed(|| checked.lent.begin())]
                 }),
             },

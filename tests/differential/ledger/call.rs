@@ -4,6 +4,8 @@ use std::fmt::{self, Display, Formatter};
 
 use oracle::Limits;
 
+use crate::layout::limit_words;
+
 /// The ledgers of a script.
 pub const PLACES: usize = 4;
 
@@ -259,22 +261,6 @@ impl Display for Region {
     fn fmt(&self, f: &mut Formatter<'_>) -> fmt::Result {
         write!(f, "{} {}", List(&self.held), List(&self.cut))
     }
-}
-
-/// The ten limits in document 01's order.
-pub fn limit_words(limits: &Limits) -> [u64; 10] {
-    [
-        limits.atoms,
-        limits.tier_rows,
-        limits.founded_conditions,
-        limits.founded_outputs,
-        limits.founded_floor,
-        limits.founded_attempts,
-        limits.founded_work,
-        limits.share_work,
-        limits.share_conditions,
-        limits.share_hits,
-    ]
 }
 
 /// A line of the script language. What it has no word for stands in comments: a meter that does not begin at 0, a number

@@ -4,11 +4,12 @@ use std::array;
 
 use oracle::{Answer, Header, Ledger};
 
+use crate::book::Book;
 use crate::call::{Call, PLACES};
 use crate::end::End;
 use crate::fault::Fault;
 use crate::generate::Ledgers;
-use crate::host::{self, Book, Books};
+use crate::host::{self, Books};
 use crate::layout::{self, SLOT};
 use crate::rust::{self, Ended};
 use crate::unfit;

@@ -1,17 +1,9 @@
 //! The boundary as a ledger: the words that a caller keeps, and a call over them.
 
-use crate::call::{Call, Field, PLACES, limit_words};
+use crate::book::{Book, decide};
+use crate::call::{Call, Field, PLACES};
 use crate::end::{End, Scratch, USED, lengths};
-use crate::layout::{HEAD, SLOT};
-use crate::library;
-
-/// The words of a ledger.
-#[derive(Clone, Debug, Default, PartialEq, Eq)]
-pub struct Book {
-    pub head: [u64; HEAD],
-    pub slots: Vec<u64>,
-    pub postings: Vec<u64>,
-}
+use crate::layout::{HEAD, SLOT, limit_words};
 
 /// The ledgers of a script.
 pub type Books = [Option<Book>; PLACES];
@@ -84,26 +76,45 @@ pub fn pass(call: &Call, lent: &mut Lent) {
         rows,
         atoms,
     } = lent;
+    let End {
+        answer,
+        meter,
+        cursor,
+        region,
+        found,
+        ..
+    } = end;
     end.result = match call {
-        Call::Make { limits, number, .. } => {
-            library::make(&limit_words(limits), *number, tier, end)
-        }
+        Call::Make { limits, number, .. } => tier.make(&limit_words(limits), *number, answer),
         Call::Offer {
             conditions,
             outputs,
             ..
-        } => library::offer(tier, end, conditions, outputs),
-        Call::Hit { position, .. } => library::hit(tier, end, *position),
-        Call::Begin { .. } => library::begin(tier, end),
-        Call::Candidates { atoms, .. } => library::candidates(tier, end, atoms),
-        Call::Deduce { position, .. } => library::deduce(tier, end, *position),
-        Call::Next { position, .. } => library::next_output(tier, end, *position),
-        Call::Close { .. } => library::close(tier, end, rows, atoms),
+        } => tier.offer(conditions, outputs, answer, meter),
+        Call::Hit { position, .. } => tier.hit(*position, answer),
+        Call::Begin { .. } => tier.begin(answer),
+        Call::Candidates { atoms, .. } => tier.candidates(atoms, found, answer, meter),
+        Call::Deduce { position, .. } => {
+            tier.deduce(*position, &region.held, &region.cut, answer, meter)
+        }
+        Call::Next { position, .. } => {
+            let region = (&region.held[..], &region.cut[..]);
+            tier.next_output(*position, cursor, region, answer, meter)
+        }
+        Call::Close { .. } => {
+            let region = (&mut region.held[..], &mut region.cut[..]);
+            tier.close(region, (&mut *rows, &mut *atoms), answer, meter)
+        }
         Call::Decide {
             atoms, atom, value, ..
-        } => library::decide(end, *atoms, *atom, *value),
-        Call::Seed { .. } => library::seed(tier, store, end),
-        Call::Deliver { .. } => library::deliver(tier, store, end),
+        } => {
+            // Any word but 0 is true.
+            let value = if *value { atom | 1 } else { 0 };
+            let region = (&mut region.held[..], &mut region.cut[..]);
+            decide(*atoms, region, (*atom, value), answer)
+        }
+        Call::Seed { .. } => tier.seed(store, answer, meter),
+        Call::Deliver { .. } => tier.deliver(store, answer, meter),
         Call::Set { .. } | Call::Unfit { .. } => unreachable!("no call of the library"),
     };
     if let Call::Close { .. } = call {

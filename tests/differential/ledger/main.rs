@@ -6,6 +6,8 @@
 //! It ends with 'N calls compared, M differ', and with exit code 0 only if M is 0 and all that must occur did. With --damage the
 //! verified side is given a fault after another, each of which must be found and shown in a short script.
 
+#[path = "../../book.rs"]
+mod book;
 #[allow(dead_code)]
 #[path = "../../../bindings/rust/src/boundary.rs"]
 mod boundary;
@@ -16,8 +18,8 @@ mod end;
 mod fault;
 mod generate;
 mod host;
+#[path = "../../layout.rs"]
 mod layout;
-mod library;
 mod parts;
 #[path = "../../random.rs"]
 mod random;

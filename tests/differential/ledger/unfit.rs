@@ -4,10 +4,11 @@
 use oracle::literals::is_row;
 use oracle::{Answer, Row};
 
+use crate::book::Book;
 use crate::call::{Call, Role, Slice, Wound};
 use crate::compare::{Made, World};
 use crate::end::{End, lengths};
-use crate::host::{self, Book, Lent};
+use crate::host::{self, Lent};
 use crate::layout::{self, POSTINGS, SLOT};
 use crate::random::Random;
 

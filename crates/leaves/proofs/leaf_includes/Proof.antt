@@ -4,6 +4,22 @@ use Rattle.leaves.proofs.Fitting.{told}
 use Rattle.leaves.proofs.leaf_includes.Statement.{statement}
 use Rattle.leaves.proofs.leaf_includes.Tie as tie
 
+-- back from each place to the one before it that the proof names
+abbrev at-lay-from-b : tie.After-b → tie.After-lay
+at-lay-from-b c = c .before .before .before .before
+
+abbrev at-lay : tie.After-lay2 → tie.After-lay
+at-lay c = at-lay-from-b (c .before)
+
+abbrev at-lay2 : tie.Else2 → tie.After-lay2
+at-lay2 c = c .before .before
+
+abbrev at-else2-from-account-of : tie.After-account-of → tie.Else2
+at-else2-from-account-of c = c .before .before .before .before
+
+abbrev at-else2 : tie.After-meter-of → tie.Else2
+at-else2 c = at-else2-from-account-of (c .before)
+
 sub-lay : tie.Need-sub-lay
 sub-lay c = search needs
 
@@ -57,9 +73,10 @@ meter-of-requires c κs = search needs
 
 includes-times-requires : tie.Need-includes-times-requires
 includes-times-requires c κs =
-    let e = c .before .before .before .before .before in
-    let d = e .before .before .before .before .before in
-    (told _ (d .before .before .lay .ensures) (d .if1 .left), told _ (e .before .before .lay2 .ensures) (e .if2 .left))
+    let e = at-else2 c in
+    let lay2 = at-lay2 e in
+    let d = lay2 .before .before .before in
+    (told _ (at-lay lay2 .lay .ensures) (d .if1 .left), told _ (lay2 .lay2 .ensures) (e .if2 .left))
 
 put-judged-requires : tie.Need-put-judged-requires
 put-judged-requires c κs = search needs

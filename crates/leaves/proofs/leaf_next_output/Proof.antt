@@ -13,11 +13,11 @@ store-requires c κs = search needs
 returns : tie.Need-returns
 returns c = search needs
 
-slice-aggregate-publish : tie.Need-slice-aggregate-publish
-slice-aggregate-publish c = search needs
+slice-aggregate-publish-all : tie.Need-slice-aggregate-publish-all
+slice-aggregate-publish-all c = search needs
 
-publish-requires : tie.Need-publish-requires
-publish-requires c κs =
+publish-all-requires : tie.Need-publish-all-requires
+publish-all-requires c κs =
     let d = c .before .before .before in
     told _ (d .before .before .store .ensures) (d .if1 .left)
 
@@ -31,6 +31,6 @@ leaf-next-output-spec =
     slice-aggregate-store
     store-requires
     returns
-    slice-aggregate-publish
-    publish-requires
+    slice-aggregate-publish-all
+    publish-all-requires
     returns-2)

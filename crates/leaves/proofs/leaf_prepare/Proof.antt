@@ -4,6 +4,16 @@ use Rattle.leaves.proofs.Fitting.{told, offered-proposed}
 use Rattle.leaves.proofs.leaf_prepare.Statement.{statement}
 use Rattle.leaves.proofs.leaf_prepare.Tie as tie
 
+-- back from each place to the one before it that the proof names
+abbrev at-propose : tie.Else1 → tie.After-propose
+at-propose c = c .before .before
+
+abbrev at-else1-from-account-of : tie.After-account-of → tie.Else1
+at-else1-from-account-of c = c .before .before .before .before
+
+abbrev at-else1 : tie.After-meter-of → tie.Else1
+at-else1 c = at-else1-from-account-of (c .before)
+
 slice-aggregate-propose : tie.Need-slice-aggregate-propose
 slice-aggregate-propose c = search needs
 
@@ -27,8 +37,8 @@ meter-of-requires c κs = search needs
 
 prepare-times-requires : tie.Need-prepare-times-requires
 prepare-times-requires c κs =
-    let e = c .before .before .before .before .before in
-    (offered-proposed _ _ (told _ (e .before .before .propose .ensures) (e .if1 .left)), search needs)
+    let e = at-else1 c in
+    (offered-proposed _ _ (told _ (at-propose e .propose .ensures) (e .if1 .left)), search needs)
 
 put-judged-requires : tie.Need-put-judged-requires
 put-judged-requires c κs = search needs

@@ -4,6 +4,25 @@ use Rattle.leaves.proofs.Fitting.{told}
 use Rattle.leaves.proofs.leaf_subsumes.Statement.{statement}
 use Rattle.leaves.proofs.leaf_subsumes.Tie as tie
 
+-- back from each place to the one before it that the proof names
+abbrev at-lay : tie.After-lay2 → tie.After-lay
+at-lay c = c .before .before .before .before
+
+abbrev at-lay2 : tie.Else2 → tie.After-lay2
+at-lay2 c = c .before .before
+
+abbrev at-else2-from-account-of : tie.After-account-of → tie.Else2
+at-else2-from-account-of c = c .before .before .before .before
+
+abbrev at-else2-from-account-of2 : tie.After-account-of2 → tie.Else2
+at-else2-from-account-of2 c = c .before .before .before .before
+
+abbrev at-else2 : tie.After-meter-of → tie.Else2
+at-else2 c = at-else2-from-account-of (c .before)
+
+abbrev at-else2-from-meter-of2 : tie.After-meter-of2 → tie.Else2
+at-else2-from-meter-of2 c = at-else2-from-account-of2 (c .before)
+
 slice-aggregate-lay : tie.Need-slice-aggregate-lay
 slice-aggregate-lay c = search needs
 
@@ -36,9 +55,10 @@ meter-of-requires c κs = search needs
 
 subsumes-times-requires : tie.Need-subsumes-times-requires
 subsumes-times-requires c κs =
-    let e = c .before .before .before .before .before in
-    let d = e .before .before .before .before in
-    (told _ (e .before .before .lay2 .ensures) (e .if2 .left), told _ (d .before .before .lay .ensures) (d .if1 .left))
+    let e = at-else2 c in
+    let lay2 = at-lay2 e in
+    let d = lay2 .before .before in
+    (told _ (lay2 .lay2 .ensures) (e .if2 .left), told _ (at-lay lay2 .lay .ensures) (d .if1 .left))
 
 put-judged-requires : tie.Need-put-judged-requires
 put-judged-requires c κs = search needs
@@ -60,9 +80,10 @@ meter-of-requires-2 c κs = search needs
 
 subsumes-times-requires-2 : tie.Need-subsumes-times-requires-2
 subsumes-times-requires-2 c κs =
-    let e = c .before .before .before .before .before in
-    let d = e .before .before .before .before in
-    (told _ (d .before .before .lay .ensures) (d .if1 .left), told _ (e .before .before .lay2 .ensures) (e .if2 .left))
+    let e = at-else2-from-meter-of2 c in
+    let lay2 = at-lay2 e in
+    let d = lay2 .before .before in
+    (told _ (at-lay lay2 .lay .ensures) (d .if1 .left), told _ (lay2 .lay2 .ensures) (e .if2 .left))
 
 put-judged-requires-2 : tie.Need-put-judged-requires-2
 put-judged-requires-2 c κs = search needs

@@ -1,8 +1,21 @@
 -- `leaf_union_outputs` calls with a row that is laid out and lists within the limits: both passed the test. Assumes nothing.
 use borrow.Author.Needs.{needs}
-use Rattle.leaves.proofs.Fitting.{told, fit-few, fit-many}
+use Rattle.leaves.proofs.Fitting.{told, fit-most}
 use Rattle.leaves.proofs.leaf_union_outputs.Statement.{statement}
 use Rattle.leaves.proofs.leaf_union_outputs.Tie as tie
+
+-- back from each place to the one before it that the proof names
+abbrev at-lay : tie.After-is-row → tie.After-lay
+at-lay c = c .before .before .before
+
+abbrev at-is-row : tie.Else2 → tie.After-is-row
+at-is-row c = c .before
+
+abbrev at-else2-from-union-times-arg : tie.After-union-times-arg → tie.Else2
+at-else2-from-union-times-arg c = c .before .before .before .before
+
+abbrev at-else2 : tie.After-meter-of → tie.Else2
+at-else2 c = at-else2-from-union-times-arg (c .before .before)
 
 slice-aggregate-lay : tie.Need-slice-aggregate-lay
 slice-aggregate-lay c = search needs
@@ -36,10 +49,11 @@ meter-of-requires c κs = search needs
 
 union-times-requires : tie.Need-union-times-requires
 union-times-requires c κs =
-    let e = c .before .before .before .before .before .before in
-    let d = e .before .before in
-    let f = told _ (e .before .is-row .ensures) (e .if2 .left) in
-    (told _ (d .before .before .lay .ensures) (d .if1 .left), (fit-few _ _ _ f, (fit-many _ _ _ f, (search needs, search needs))))
+    let e = at-else2 c in
+    let is-row = at-is-row e in
+    let d = is-row .before in
+    let f = told _ (is-row .is-row .ensures) (e .if2 .left) in
+    (told _ (at-lay is-row .lay .ensures) (d .if1 .left), (fit-most _ _ _ f, (search needs, search needs)))
 
 put-judged-requires : tie.Need-put-judged-requires
 put-judged-requires c κs = search needs

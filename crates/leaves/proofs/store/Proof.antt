@@ -4,6 +4,16 @@ use Rattle.leaves.proofs.Fitting.{untold, told, offered-proposed, offer
 use Rattle.leaves.proofs.store.Statement.{statement}
 use Rattle.leaves.proofs.store.Tie as tie
 
+-- back from each place to the one before it that the proof names
+abbrev at-propose : tie.Else1 → tie.After-propose
+at-propose c = c .before .before
+
+abbrev at-else1-from-form-of : tie.After-form-of → tie.Else1
+at-else1-from-form-of c = c .before .before .before .before
+
+abbrev at-else1 : tie.After-write-row → tie.Else1
+at-else1 c = at-else1-from-form-of (c .before)
+
 slice-aggregate-propose : tie.Need-slice-aggregate-propose
 slice-aggregate-propose c = search needs
 
@@ -33,9 +43,11 @@ same-length : tie.Need-same-length
 same-length c = search needs
 
 returns-2 : tie.Need-returns-2
-returns-2 c = λ _.
-    let e = c .before .before .before .before .before .before .before in
-    offered-stored _ _ (told _ (e .before .before .propose .ensures) (e .if1 .left)) _ (c .before .before .write-row .ensures)
+returns-2 c =
+    let write-row = c .before .before in
+    let e = at-else1 write-row in
+    λ _.
+    offered-stored _ _ (told _ (at-propose e .propose .ensures) (e .if1 .left)) _ (write-row .write-row .ensures)
 
 pub store-spec : {M : Type 1} → statement M
 store-spec =

@@ -1,16 +1,38 @@
 -- `unite` meets its contract: what is laid out from the lists is a proposal. Assumes nothing.
 use borrow.Author.Needs.{needs}
+use Rattle.words.specs.Region.{maxAtoms}
+use Rattle.model.proofs.Rows.{row-parts}
+use Rattle.row_propose.specs.Offered.{rowOf}
 use Rattle.leaves.proofs.Fitting.{proposed-of}
 use Rattle.leaves.proofs.unite.Statement.{statement}
 use Rattle.leaves.proofs.unite.Tie as tie
 
+-- back from each place to the one before it that the proof names
+abbrev at-start-from-slice-known : tie.After-slice-known → tie.Start
+at-start-from-slice-known c = c .before .before .before .before
+
+abbrev at-start-from-propose-arg : tie.After-propose-arg → tie.Start
+at-start-from-propose-arg c = at-start-from-slice-known (c .before)
+
+abbrev at-start : tie.After-propose → tie.Start
+at-start c = at-start-from-slice-known (c .before .before)
+
 propose-requires : tie.Need-propose-requires
-propose-requires c κs = search needs
+propose-requires c κs =
+    let s = at-start-from-propose-arg c in
+    let p = row-parts maxAtoms (rowOf (s .args .conditions .now) (s .args .outputs .now)) (s .pre .1 .0) in
+    (search needs, (p .few, p .many))
 
 union-outputs-requires : tie.Need-union-outputs-requires
 union-outputs-requires c κs =
-    let s = c .before .before .before .before .before .before .before .before .before in
-    (search needs, (proposed-of (s .args .conditions .now) (s .args .outputs .now) _ (search needs) (search needs) (c .before .before .before .propose .ensures), search needs))
+    let propose = c .before .before .before in
+    let s = at-start propose in (
+      search needs,
+      (
+        proposed-of (s .args .conditions .now) (s .args .outputs .now) _ (s .pre .1 .0) (propose .propose .ensures),
+        search needs,
+      ),
+    )
 
 same-length : tie.Need-same-length
 same-length c = search needs

@@ -9,13 +9,13 @@ use native.Mathlib.Omega.{arith}
 use lib.ListN.{length, getD, set, take, length-set}
 use lib.Seq.{getD-set-other, take-suc-set, take-set-le, append-snoc, length-take-le}
 use borrow.Author.Tests.{eq-eqb, ne-eqb}
-use Rattle.lists.specs.Lists.{select, count, upTo}
+use Rattle.lists.specs.Lists.{select, range, upTo}
 use Rattle.lists.specs.Marks.{isMarked, marked}
-use Rattle.lists.proofs.Selects.{select-yes, select-no, count-turn, upTo-more}
+use Rattle.lists.proofs.Selects.{select-yes, select-no, range-turn, upTo-more}
 
 -- the marked positions from p on
 abbrev pub later : List ℕ → ℕ → List ℕ
-later ms p = select (isMarked ms) (count p (length ms - p))
+later ms p = select (isMarked ms) (range p (length ms - p))
 
 pub record Gathered (ms out : List ℕ) (k p : ℕ) : Type 0 where
   pub long : length out ≡ length ms
@@ -32,14 +32,14 @@ gathered-start ms =
       long = refl;
       behind = omega arith;
       far = omega arith;
-      whole = ap (λ (n : ℕ). select (isMarked ms) (count 0 n)) e;
+      whole = ap (λ (n : ℕ). select (isMarked ms) (range 0 n)) e;
       rest = λ q h. refl;
     }
 
 module _ (ms out : List ℕ) (k p : ℕ) where
   turn : Gathered ms out k p → p < length out →
-      later ms p ≡ select (isMarked ms) (p ∷ count (p + 1) (length ms - (p + 1)))
-  turn g l = ap (select (isMarked ms)) (count-turn p (length ms) (omega (arith, g .long)))
+      later ms p ≡ select (isMarked ms) (p ∷ range (p + 1) (length ms - (p + 1)))
+  turn g l = ap (select (isMarked ms)) (range-turn p (length ms) (omega (arith, g .long)))
 
   stays : Gathered ms out k p → (q : ℕ) → p + 1 ≤ q → getD (set out k p) q 0 ≡ getD ms q 0
   stays g q h = getD-set-other out k q p 0 (λ e. omega (arith, g .behind)) ∙ g .rest q (omega arith)
@@ -53,7 +53,7 @@ module _ (ms out : List ℕ) (k p : ℕ) where
       let t : take (k + 1) (set out k p) ≡ take k out ++ (p ∷ []) =
       ap (λ (j : ℕ). take j (set out k p)) (add-one k) ∙ take-suc-set out k p (omega (arith, g .behind)) in
       let s : later ms p ≡ p ∷ later ms (p + 1) =
-      turn g l ∙ select-yes (isMarked ms) p (count (p + 1) (length ms - (p + 1))) y in
+      turn g l ∙ select-yes (isMarked ms) p (range (p + 1) (length ms - (p + 1))) y in
       record {
         long = length-set out k p ∙ g .long;
         behind = omega (arith, g .behind);
@@ -69,7 +69,7 @@ module _ (ms out : List ℕ) (k p : ℕ) where
       let m : getD ms p 0 ≡ 0 = sym (g .rest p (omega arith)) ∙ e in
       let y : isMarked ms p ≡ false = rw (eq-eqb (getD ms p 0) 0 m) in
       let s : later ms p ≡ later ms (p + 1) =
-      turn g l ∙ select-no (isMarked ms) p (count (p + 1) (length ms - (p + 1))) y in
+      turn g l ∙ select-no (isMarked ms) p (range (p + 1) (length ms - (p + 1))) y in
       record {
         long = length-set out k p ∙ g .long;
         behind = omega (arith, g .behind);
@@ -79,10 +79,10 @@ module _ (ms out : List ℕ) (k p : ℕ) where
       }
 
 pub gathered-end : (ms out : List ℕ) (k p : ℕ) → Gathered ms out k p → length out ≤ p → take k out ≡ marked ms
-unfolding select count
+unfolding select range
 gathered-end ms out k p g h =
     let e : length ms - p ≡ 0 = omega (arith, g .long) in
-    sym (append-nil (take k out)) ∙ ap (λ (n : ℕ). take k out ++ select (isMarked ms) (count p n)) (sym e) ∙ g .whole
+    sym (append-nil (take k out)) ∙ ap (λ (n : ℕ). take k out ++ select (isMarked ms) (range p n)) (sym e) ∙ g .whole
 
 pub gathered-count : (ms out : List ℕ) (k p : ℕ) → Gathered ms out k p → length out ≤ p → k ≡ length (marked ms)
 gathered-count ms out k p g h =

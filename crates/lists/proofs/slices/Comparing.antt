@@ -28,13 +28,13 @@ xor-none a b e =
     omega arith
 
 -- after the first i words of two lists
-pub record Compared (xs ys : List ℕ) (bits i : ℕ) : Type 0 where
+pub record ComparedTo (xs ys : List ℕ) (bits i : ℕ) : Type 0 where
   pub far : i ≤ length xs
   pub long : length xs ≡ length ys
   pub agree : bits ≡ 0 → (k : ℕ) → k < i → getD xs k 0 ≡ getD ys k 0
   pub differ : (bits ≡ 0 → ⊥) → xs ≡ ys → ⊥
 
-pub compared-start : (xs ys : List ℕ) → length xs ≡ length ys → Compared xs ys 0 0
+pub compared-start : (xs ys : List ℕ) → length xs ≡ length ys → ComparedTo xs ys 0 0
 compared-start xs ys e = record {
   far = omega arith;
   long = e;
@@ -43,8 +43,8 @@ compared-start xs ys e = record {
 }
 
 module _ (xs ys : List ℕ) (bits i : ℕ) where
-  more : Compared xs ys bits i → i < length xs → (word : ℕ) → (word ≡ 0 → getD xs i 0 ≡ getD ys i 0) →
-      (getD xs i 0 ≡ getD ys i 0 → word ≡ 0) → Compared xs ys (bitOr bits word) (i + 1)
+  more : ComparedTo xs ys bits i → i < length xs → (word : ℕ) → (word ≡ 0 → getD xs i 0 ≡ getD ys i 0) →
+      (getD xs i 0 ≡ getD ys i 0 → word ≡ 0) → ComparedTo xs ys (bitOr bits word) (i + 1)
   more c l word f g = record { far = omega arith; long = c .long; agree = agree; differ = differ }
     where
       agree : bitOr bits word ≡ 0 → (k : ℕ) → k < i + 1 → getD xs k 0 ≡ getD ys k 0
@@ -61,17 +61,17 @@ module _ (xs ys : List ℕ) (bits i : ℕ) where
           go (inl z) = n (rw (z, g (ap (λ (r : List ℕ). getD r i 0) e)))
           go (inr m) = c .differ m e
 
-  pub compared-xor : Compared xs ys bits i → i < length xs →
-      Compared xs ys (bitOr bits (bitXor (getD xs i 0) (getD ys i 0))) (i + 1)
+  pub compared-xor : ComparedTo xs ys bits i → i < length xs →
+      ComparedTo xs ys (bitOr bits (bitXor (getD xs i 0) (getD ys i 0))) (i + 1)
   compared-xor c l =
       more c l (bitXor (getD xs i 0) (getD ys i 0)) (xor-none (getD xs i 0) (getD ys i 0))
       (λ e. rw e (xor-self (getD ys i 0)))
 
-  pub compared-zero : Compared xs ys bits i → i < length xs → getD ys i 0 ≡ 0 →
-      Compared xs ys (bitOr bits (getD xs i 0)) (i + 1)
+  pub compared-zero : ComparedTo xs ys bits i → i < length xs → getD ys i 0 ≡ 0 →
+      ComparedTo xs ys (bitOr bits (getD xs i 0)) (i + 1)
   compared-zero c l z = more c l (getD xs i 0) (λ e. e ∙ sym z) (λ e. e ∙ z)
 
-pub compared-end : (xs ys : List ℕ) (bits i : ℕ) → Compared xs ys bits i → length xs ≤ i → eqb bits 0 ≡ same xs ys
+pub compared-end : (xs ys : List ℕ) (bits i : ℕ) → ComparedTo xs ys bits i → length xs ≤ i → eqb bits 0 ≡ same xs ys
 compared-end xs ys bits i c l = go (same-or bits 0)
   where
     go : (bits ≡ 0) ⊎ (bits ≡ 0 → ⊥) → eqb bits 0 ≡ same xs ys

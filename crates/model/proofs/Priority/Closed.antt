@@ -9,6 +9,7 @@ use native.Mathlib.Omega.{arith}
 use lib.ListN.{length}
 use lib.Dec.{T, eqb, leb, T-not, leb→le, le→leb}
 use Rattle.lists.specs.Lists.{any, select}
+use Rattle.lists.proofs.Bools.{T-true, or-l, or-r}
 use Rattle.words.specs.Literal.{atom, isPresent, opposite}
 use Rattle.words.specs.Region.{Region, has, holds, contradicts, isRegion, atomsOk}
 use Rattle.model.specs.declared.Deduction.{Deduction}
@@ -26,7 +27,8 @@ unfolding failing select
 failing-in r [] x m = absurd m
 failing-in r (c ∷ cs) x m = go (holds r c) refl m (failing-in r cs x)
   where
-    go : (b : Bool) → holds r c ≡ b → In x (elim (not b) as (λ k. List ℕ) [ true ↦ c ∷ select (λ y. not (holds r y)) cs | false ↦ select (λ y. not (holds r y)) cs ])
+    go : (b : Bool) → holds r c ≡ b
+        → In x (elim (not b) as (λ k. List ℕ) [ true ↦ c ∷ select (λ y. not (holds r y)) cs | false ↦ select (λ y. not (holds r y)) cs ])
         → (In x (select (λ y. not (holds r y)) cs) → In x cs × (T (holds r x) → ⊥)) → In x (c ∷ cs) × (T (holds r x) → ⊥)
     go true e i f = let h = f i in (inr (h .0), h .1)
     go false e (inl q) f = (inl q, λ t. subst T (ap (holds r) q ∙ e) t)
@@ -43,14 +45,6 @@ failing-has r (c ∷ cs) x m n = go (holds r c) refl m (failing-has r cs x)
     go true e (inr i) f = f i n
     go false e (inl q) f = inl q
     go false e (inr i) f = inr (f i n)
-
-or-l : (a b : Bool) → T a → T (a || b)
-or-l true b u = tt
-or-l false b u = absurd u
-
-or-r : (a b : Bool) → T b → T (a || b)
-or-r true b u = tt
-or-r false b u = u
 
 any-in : (f : ℕ → Bool) (xs : List ℕ) → T (any f xs) → (x : ℕ) × In x xs × T (f x)
 unfolding any
@@ -97,10 +91,6 @@ force-all r s f = go (failing r (s .conditions)) (failing-in r (s .conditions))
     go [] g = from-none r s
     go (c ∷ cs) g = let h = g c (inl refl) in absurd (h .1 (f c (h .0)))
 
-T-true : (b : Bool) → T b → b ≡ true
-T-true true t = refl
-T-true false t = absurd t
-
 T-false : (b : Bool) → (T b → ⊥) → b ≡ false
 T-false true f = absurd (f tt)
 T-false false f = refl
@@ -109,11 +99,17 @@ pub require-one : (r : Region) (s : Row) (c : ℕ) → Requires r s c → deduct
 unfolding deduction deduceFrom idle
 require-one r s c q =
     ap (deduceFrom r s) (q .one)
-    ∙ ap (λ (b : Bool). elim (not b && contradicted r (s .outputs)) as (λ k. Deduction) [ true ↦ Require (record { 0 = opposite c }) | false ↦ Nothing ]) (no-idle (q .free))
-    ∙ ap (λ (b : Bool). elim b as (λ k. Deduction) [ true ↦ Require (record { 0 = opposite c }) | false ↦ Nothing ]) (T-true (contradicted r (s .outputs)) (q .clash))
+    ∙ ap (λ (b : Bool). elim (not b && contradicted r (s .outputs)) as (λ k. Deduction) [
+      | true ↦ Require (record { 0 = opposite c })
+      | false ↦ Nothing
+    ]) (no-idle (q .free))
+    ∙ ap (λ (b : Bool). elim b as (λ k. Deduction) [ true ↦ Require (record { 0 = opposite c }) | false ↦ Nothing ])
+    (T-true (contradicted r (s .outputs)) (q .clash))
   where
     no-idle : (T (contradicts r c) → ⊥) → (leb 2 (length (c ∷ [])) || contradicted r (c ∷ [])) ≡ false
-    no-idle f = T-false (leb 2 (length (c ∷ [])) || contradicted r (c ∷ [])) (λ t. only (or-split (leb 2 (length (c ∷ []))) (contradicted r (c ∷ [])) t))
+    no-idle f =
+        T-false (leb 2 (length (c ∷ [])) || contradicted r (c ∷ []))
+        (λ t. only (or-split (leb 2 (length (c ∷ []))) (contradicted r (c ∷ [])) t))
       where
         only : T (leb 2 (length (c ∷ []))) ⊎ T (contradicted r (c ∷ [])) → ⊥
         only (inl t) = let h = leb→le 2 (length (c ∷ [])) t in bad h
@@ -135,8 +131,14 @@ Saying r s x = (((c : ℕ) → In c (s .conditions) → T (holds r c)) × In x (
 
 not-idle : (r : Region) (c : ℕ) (cs : List ℕ) → T (not (idle r (c ∷ cs))) → (cs ≡ []) × (T (contradicts r c) → ⊥)
 unfolding idle
-not-idle r c [] t = (refl, λ u. T-not (leb 2 (length (c ∷ [])) || contradicted r (c ∷ [])) t (or-r (leb 2 (length (c ∷ []))) (contradicted r (c ∷ [])) (in-contradicted r (c ∷ []) c (inl refl) u)))
-not-idle r c (d ∷ ds) t = absurd (T-not (leb 2 (length (c ∷ d ∷ ds)) || contradicted r (c ∷ d ∷ ds)) t (or-l (leb 2 (length (c ∷ d ∷ ds))) (contradicted r (c ∷ d ∷ ds)) (le→leb 2 (length (c ∷ d ∷ ds)) (suc-le-suc (suc-le-suc zero-le)))))
+not-idle r c [] t = (
+  refl,
+  λ u. T-not (leb 2 (length (c ∷ [])) || contradicted r (c ∷ [])) t
+      (or-r (leb 2 (length (c ∷ []))) (contradicted r (c ∷ [])) (in-contradicted r (c ∷ []) c (inl refl) u)),
+)
+not-idle r c (d ∷ ds) t =
+    absurd (T-not (leb 2 (length (c ∷ d ∷ ds)) || contradicted r (c ∷ d ∷ ds)) t
+    (or-l (leb 2 (length (c ∷ d ∷ ds))) (contradicted r (c ∷ d ∷ ds)) (le→leb 2 (length (c ∷ d ∷ ds)) (suc-le-suc (suc-le-suc zero-le)))))
 
 says-from : (r : Region) (s : Row) (x : ℕ) (fs : List ℕ) → failing r (s .conditions) ≡ fs → Says (deduceFrom r s fs) s x → Saying r s x
 unfolding deduceFrom
@@ -160,7 +162,8 @@ unfolding deduction
 says r s x m = says-from r s x (failing r (s .conditions)) refl m
 
 -- ---- the only failing condition of a clean list
-pub single : (n f : ℕ) (r : Region) (cs : List ℕ) → Clean n cs → ((x : ℕ) → In x cs → (T (holds r x) → ⊥) → x ≡ f) → In f cs → (T (holds r f) → ⊥) → failing r cs ≡ f ∷ []
+pub single : (n f : ℕ) (r : Region) (cs : List ℕ) → Clean n cs → ((x : ℕ) → In x cs → (T (holds r x) → ⊥) → x ≡ f) → In f cs
+    → (T (holds r f) → ⊥) → failing r cs ≡ f ∷ []
 unfolding failing select
 single n f r [] k u m h = absurd m
 single n f r (c ∷ cs) k u m h = go (holds r c) refl (single n f r cs (k .2) (λ x i. u x (inr i)))
@@ -169,12 +172,19 @@ single n f r (c ∷ cs) k u m h = go (holds r c) refl (single n f r cs (k .2) (�
     none-left e [] g = refl
     none-left e (x ∷ xs) g = step (holds r x) refl (none-left e xs (λ y i. g y (inr i)))
       where
-        step : (b : Bool) → holds r x ≡ b → select (λ y. not (holds r y)) xs ≡ [] → _≡_ {A = List ℕ} (elim (not b) as (λ z. List ℕ) [ true ↦ x ∷ select (λ y. not (holds r y)) xs | false ↦ select (λ y. not (holds r y)) xs ]) []
+        step : (b : Bool) → holds r x ≡ b → select (λ y. not (holds r y)) xs ≡ []
+            → _≡_ {A = List ℕ} (elim (not b) as (λ z. List ℕ) [
+              | true ↦ x ∷ select (λ y. not (holds r y)) xs
+              | false ↦ select (λ y. not (holds r y)) xs
+            ]) []
         step true q i = i
         step false q i = absurd (k .1 x (g x (inl refl)) (ap atom (u x (inr (g x (inl refl))) (λ t. subst T q t) ∙ sym e)))
 
     go : (b : Bool) → holds r c ≡ b → (In f cs → (T (holds r f) → ⊥) → select (λ y. not (holds r y)) cs ≡ f ∷ [])
-        → _≡_ {A = List ℕ} (elim (not b) as (λ z. List ℕ) [ true ↦ c ∷ select (λ y. not (holds r y)) cs | false ↦ select (λ y. not (holds r y)) cs ]) (f ∷ [])
+        → _≡_ {A = List ℕ} (elim (not b) as (λ z. List ℕ) [
+          | true ↦ c ∷ select (λ y. not (holds r y)) cs
+          | false ↦ select (λ y. not (holds r y)) cs
+        ]) (f ∷ [])
     go true q ih = ih (rest m) h
       where
         rest : In f (c ∷ cs) → In f cs
@@ -226,13 +236,19 @@ closed-covered n us vs ov cv r apart cl s m x d = go (says r s x d)
         held-or f q c i ne true e = subst T (sym e) tt
         held-or f q c i ne false e = absurd (ne (fails-only f q c i (λ t. subst T e t)))
 
-        require : (f : ℕ) → Requires r s f → (o : ℕ) → T (contradicts r o) → (g : Gives us (s .conditions) o) → In f (g .by .conditions) ⊎ (In f (g .by .conditions) → ⊥) → T (holds r (opposite f))
+        require : (f : ℕ) → Requires r s f → (o : ℕ) → T (contradicts r o) → (g : Gives us (s .conditions) o)
+            → In f (g .by .conditions) ⊎ (In f (g .by .conditions) → ⊥) → T (holds r (opposite f))
         require f q o k g (inl i) =
             cl (g .by) (g .isRow) (opposite f)
             (subst (λ (e : Deduction). Says e (g .by) (opposite f)) (sym (require-one r (g .by) f (record {
-              one = single n f r (g .by .conditions) (row-clean n (g .by) (ov (g .by) (g .isRow))) (λ x j h. fails-only f q x (g .within x j) h) i (failing-in r (s .conditions) f (subst (In f) (sym (q .one)) (inl refl)) .1);
+              one = single n f r (g .by .conditions) (row-clean n (g .by) (ov (g .by) (g .isRow)))
+                  (λ x j h. fails-only f q x (g .within x j) h) i
+                  (failing-in r (s .conditions) f (subst (In f) (sym (q .one)) (inl refl)) .1);
               free = q .free;
               clash = in-contradicted r (g .by .outputs) o (g .gives) k;
             }))) refl)
         require f q o k g (inr no′) =
-            absurd (apart o (forced (g .by) (g .isRow) (λ c i. held-or f q c (g .within c i) (λ e. no′ (subst (λ (y : ℕ). In y (g .by .conditions)) e i)) (holds r c) refl) o (g .gives)) (unfold-con r o k))
+            absurd (apart o
+            (forced (g .by) (g .isRow)
+            (λ c i. held-or f q c (g .within c i) (λ e. no′ (subst (λ (y : ℕ). In y (g .by .conditions)) e i)) (holds r c) refl) o
+            (g .gives)) (unfold-con r o k))

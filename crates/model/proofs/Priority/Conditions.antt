@@ -1,5 +1,5 @@
 -- The region of a row's conditions has exactly those literals; so forcing alike on all regions is mutual cover. Assumes nothing.
-use mathlib.Core.Path.{_≡_, refl, sym, ap, ap₂, _∙_, subst}
+use mathlib.Core.Path.{_≡_, sym, ap, ap₂, _∙_, subst}
 use mathlib.Core.Logic.{_⊎_, inl, inr, _↔_, _≢_}
 use mathlib.Core.Bool.{Bool, true, false, not, _&&_, _||_, true≢false, false≢true}
 use mathlib.Core.List.{List, [], _∷_, map}
@@ -7,17 +7,15 @@ use Prim.Native.Nat.{ℕ, zero, suc, _+_, _-_, _*_, _/_, _%_, _^_, _≤_, _<_}
 use native.Mathlib.Nat.{le-refl, le-trans}
 use native.Mathlib.Decide.{ℕ-discrete}
 use native.Mathlib.Omega.{arith}
-use lib.ListN.{length, getD, replicate, length-replicate}
+use lib.ListN.{length, replicate, length-replicate}
 use lib.Dec.{T, eqb, ltb, leb, eqb→eq, ltb→lt, lit<}
 use borrow.Author.Tests.{eq-eqb, ne-eqb, eqb-true, eqb-false}
 use Rattle.lists.specs.Lists.{all, below, ascending, above}
-use Rattle.words.specs.Bit.{testBit}
-use Rattle.words.specs.Literal.{atom, isPresent, opposite, wordOf, bitOf}
+use Rattle.lists.proofs.Bools.{false-of, T-true, T-of, or-l, or-r}
+use Rattle.words.specs.Literal.{atom, isPresent, opposite}
 use Rattle.words.specs.Region.{atomsOk, has, Region, holds, contradicts, markLiteral, wordsFor, isRegion}
-use Rattle.words.proofs.Bits.{bit-zero}
-use Rattle.words.proofs.Bools.{false-of, T-true, T-of}
 use Rattle.words.proofs.Literals.{atom-opposite, present-opposite}
-use Rattle.words.proofs.Regions.{Words, Set, Sound, region-test}
+use Rattle.words.proofs.Regions.{Words, Set, Sound, region-test, has-zero}
 use Rattle.words.proofs.Deciding.{sound-mark, holds-mark as holds-marked}
 use Rattle.model.specs.Records.{Row, isRowOver}
 use Rattle.model.specs.Priority.{In, Forces, ForceAlike, Gives, Covers}
@@ -35,15 +33,6 @@ zero-words : (k : ℕ) → Words (replicate k 0)
 zero-words zero i = lit< tt
 zero-words (suc k) zero = lit< tt
 zero-words (suc k) (suc i) = zero-words k i
-
-get-zero : (k i : ℕ) → _≡_ {A = ℕ} (getD (replicate k 0) i 0) 0
-get-zero zero i = refl
-get-zero (suc k) zero = refl
-get-zero (suc k) (suc i) = get-zero k i
-
-has-zero : (k a : ℕ) → has (replicate k 0) a ≡ false
-unfolding has
-has-zero k a = ap (λ (w : ℕ). testBit w (bitOf a)) (get-zero k (wordOf a)) ∙ bit-zero (bitOf a)
 
 zero-set : (n : ℕ) → Set n (replicate (wordsFor n) 0)
 zero-set n = record {
@@ -97,17 +86,6 @@ pub record Of (n : ℕ) (cs : List ℕ) (r : Region) : Type 0 where
   pub only : (x : ℕ) → T (holds r x) → In x cs
   pub each : (x : ℕ) → In x cs → T (holds r x)
 
-pub opposite-atom : (c : ℕ) → atom (opposite c) ≡ atom c
-opposite-atom c = atom-opposite c
-
-or-left : (a b : Bool) → T a → T (a || b)
-or-left true b t = tt
-or-left false b t = absurd t
-
-or-right : (a b : Bool) → T b → T (a || b)
-or-right true b t = tt
-or-right false b t = t
-
 pub region-of : (n : ℕ) (cs : List ℕ) → Clean n cs → Of n cs (regionOf n cs)
 unfolding regionOf
 region-of n [] h = record { sound = blank-sound n; only = λ x t. absurd (blank-holds n x t); each = λ x m. absurd m }
@@ -115,7 +93,7 @@ region-of n (c ∷ cs) h = next (region-of n cs (h .2))
   where
     next : Of n cs (regionOf n cs) → Of n (c ∷ cs) (markLiteral (regionOf n cs) c)
     next g = record {
-      sound = mark-sound n (regionOf n cs) c (g .sound) (h .0) (λ t. h .1 (opposite c) (g .only (opposite c) t) (opposite-atom c));
+      sound = mark-sound n (regionOf n cs) c (g .sound) (h .0) (λ t. h .1 (opposite c) (g .only (opposite c) t) (atom-opposite c));
       only = λ x t. up x (or-split (holds (regionOf n cs) x) (eqb x c) (subst T (holds-mark n (regionOf n cs) c x (g .sound) (h .0)) t));
       each = λ x m. subst T (sym (holds-mark n (regionOf n cs) c x (g .sound) (h .0))) (down x m);
     }
@@ -125,8 +103,8 @@ region-of n (c ∷ cs) h = next (region-of n cs (h .2))
         up x (inr t) = inl (eqb→eq x c t)
 
         down : (x : ℕ) → In x (c ∷ cs) → T (holds (regionOf n cs) x || eqb x c)
-        down x (inl e) = or-right (holds (regionOf n cs) x) (eqb x c) (T-of (eq-eqb x c e))
-        down x (inr m) = or-left (holds (regionOf n cs) x) (eqb x c) (g .each x m)
+        down x (inl e) = or-r (holds (regionOf n cs) x) (eqb x c) (T-of (eq-eqb x c e))
+        down x (inr m) = or-l (holds (regionOf n cs) x) (eqb x c) (g .each x m)
 
 -- ---- the conditions of a row over n atoms
 atoms-above : (k : ℕ) (cs : List ℕ) → Asc k (map atom cs) → (x : ℕ) → In x cs → k ≤ atom x
@@ -149,17 +127,22 @@ clean-of n k (c ∷ cs) t a = (
 pub row-clean : (n : ℕ) (r : Row) → T (isRowOver n r) → Clean n (r .conditions)
 unfolding isRowOver
 row-clean n r t =
-    clean-of n 0 (r .conditions) (and-left (below (2 * n) (r .conditions)) (below (2 * n) (r .outputs)) (and-left (below (2 * n) (r .conditions) && below (2 * n) (r .outputs)) _ t))
-    (ascending-asc (map atom (r .conditions)) (and-left (ascending (map atom (r .conditions))) (ascending (r .outputs)) (and-right (below (2 * n) (r .conditions) && below (2 * n) (r .outputs)) _ t)))
+    clean-of n 0 (r .conditions) (and-left (below (2 * n) (r .conditions)) (below (2 * n) (r .outputs))
+    (and-left (below (2 * n) (r .conditions) && below (2 * n) (r .outputs)) _ t))
+    (ascending-asc (map atom (r .conditions))
+    (and-left (ascending (map atom (r .conditions))) (ascending (r .outputs))
+    (and-right (below (2 * n) (r .conditions) && below (2 * n) (r .outputs)) _ t)))
 
 -- ---- forcing and covering
-forces-covers : (n : ℕ) (us vs : List Row) → T (atomsOk n) → Over n vs → ((r : Region) → T (isRegion n r) → (o : ℕ) → Forces vs r o → Forces us r o) → Covers us vs
+forces-covers : (n : ℕ) (us vs : List Row) → T (atomsOk n) → Over n vs
+    → ((r : Region) → T (isRegion n r) → (o : ℕ) → Forces vs r o → Forces us r o) → Covers us vs
 forces-covers n us vs t c f = record { at = at }
   where
     at : (s : Row) → In s vs → (o : ℕ) → In o (s .outputs) → Gives us (s .conditions) o
     at s m o h =
         let d = region-of n (s .conditions) (row-clean n s (c s m)) in
-        let g = f (regionOf n (s .conditions)) (region-test n (regionOf n (s .conditions)) t (d .sound)) o (record { by = s; isRow = m; gives = h; holding = d .each }) in
+        let g = f (regionOf n (s .conditions)) (region-test n (regionOf n (s .conditions)) t (d .sound)) o
+        (record { by = s; isRow = m; gives = h; holding = d .each }) in
         record { by = g .by; isRow = g .isRow; gives = g .gives; within = λ x i. d .only x (g .holding x i) }
 
 -- two lists of rows force the same on every region exactly if each covers the other

@@ -4,15 +4,16 @@ use mathlib.Core.Logic.{_⊎_, inl, inr}
 use mathlib.Core.Bool.{Bool, true, false, _&&_}
 use mathlib.Core.List.{List, [], _∷_, map}
 use Prim.Native.Nat.{ℕ, zero, suc, compare, Ordering, Ordering·lt, Ordering·eq, Ordering·gt}
-use lib.Dec.{T, eqb, leb, isEq, eqb→eq}
+use lib.Dec.{T, eqb, leb, eqb→eq}
 use lib.ListN.{length}
 use Rattle.lists.specs.Lists.{same}
 use Rattle.model.specs.Records.{Row, Entry}
 use Rattle.model.specs.Rows.{includes, lengthsFit, subsumes}
 use Rattle.model.specs.Union.{into, union, mayJoin, joins, grown}
-use Rattle.model.specs.Retention.{Compared, Pass, found, passed, noted, firstPass}
+use Rattle.model.specs.Retention.{Examined, Pass, found, passed, noted, firstPass}
 use Rattle.model.specs.Priority.{In, Gives, Covers}
 use Rattle.model.proofs.Cover.{and-left, and-right}
+use Rattle.model.proofs.Union.{union-out, cmp-eq}
 
 -- the rows of entries
 abbrev pub rowsE : List Entry → List Row
@@ -59,9 +60,6 @@ pub gives-more : {A : List Row} {t : Row} {c : List ℕ} {o : ℕ} → Gives A c
 gives-more g = record { by = g .by; isRow = inr (g .isRow); gives = g .gives; within = g .within }
 
 -- ── the tests are sound
-pub cmp-eq : (m n : ℕ) → compare m n ≡ Ordering·eq → m ≡ n
-cmp-eq m n e = eqb→eq m n (subst (λ (o : Ordering). T (isEq o)) (sym e) tt)
-
 incl-step :
     (c w : ℕ) (cs ws : List ℕ) (o : Ordering)
     → compare c w ≡ o
@@ -87,8 +85,10 @@ unfolding subsumes
 subs-sound r s t =
     let u = and-right (lengthsFit r s) (includes (s .conditions) (r .conditions) && includes (r .outputs) (s .outputs)) t in
     record {
-      less = incl-sound (s .conditions) (r .conditions) (and-left (includes (s .conditions) (r .conditions)) (includes (r .outputs) (s .outputs)) u);
-      more = incl-sound (r .outputs) (s .outputs) (and-right (includes (s .conditions) (r .conditions)) (includes (r .outputs) (s .outputs)) u);
+      less = incl-sound (s .conditions) (r .conditions)
+          (and-left (includes (s .conditions) (r .conditions)) (includes (r .outputs) (s .outputs)) u);
+      more = incl-sound (r .outputs) (s .outputs)
+          (and-right (includes (s .conditions) (r .conditions)) (includes (r .outputs) (s .outputs)) u);
     }
 
 same-step : (a b : ℕ) (as′ bs : List ℕ) (c : Bool) → (T c → a ≡ b) → (T (same as′ bs) → as′ ≡ bs)
@@ -110,41 +110,7 @@ join-sound m r p t =
     (and-left (same (r .conditions) (p .conditions)) (leb (length (grown r p .outputs)) m)
     (and-right (mayJoin m r p) (same (r .conditions) (p .conditions) && leb (length (grown r p .outputs)) m) t))
 
--- ── the union has the members of both, and no other
-abbrev Out : List ℕ → List ℕ → List ℕ → Type 0
-Out a b u = (x : ℕ) → In x u → In x a ⊎ In x b
-
-out-cons : {A B C : Type 0} → A ⊎ B → (C ⊎ A) ⊎ B
-out-cons (inl m) = inl (inr m)
-out-cons (inr m) = inr m
-
-out-skip : {A B C : Type 0} → A ⊎ B → A ⊎ (C ⊎ B)
-out-skip (inl m) = inl m
-out-skip (inr m) = inr (inr m)
-
-into-out-step :
-    (a b : ℕ) (as′ bs : List ℕ) (rest : List ℕ → List ℕ) (o : Ordering)
-    → ((k : List ℕ) → Out as′ k (rest k))
-    → Out (a ∷ as′) bs (into a rest bs)
-    → Out (a ∷ as′) (b ∷ bs) (elim o [ Ordering·lt ↦ a ∷ rest (b ∷ bs) | Ordering·eq ↦ a ∷ rest bs | Ordering·gt ↦ b ∷ into a rest bs ])
-into-out-step a b as′ bs rest Ordering·lt f g x (inl e) = inl (inl e)
-into-out-step a b as′ bs rest Ordering·lt f g x (inr m) = out-cons (f (b ∷ bs) x m)
-into-out-step a b as′ bs rest Ordering·eq f g x (inl e) = inl (inl e)
-into-out-step a b as′ bs rest Ordering·eq f g x (inr m) = out-skip (out-cons (f bs x m))
-into-out-step a b as′ bs rest Ordering·gt f g x (inl e) = inr (inl e)
-into-out-step a b as′ bs rest Ordering·gt f g x (inr m) = out-skip (g x m)
-
-into-out : (a : ℕ) (as′ : List ℕ) (rest : List ℕ → List ℕ) → ((k : List ℕ) → Out as′ k (rest k)) → (bs : List ℕ) → Out (a ∷ as′) bs (into a rest bs)
-unfolding into
-into-out a as′ rest f [] x (inl e) = inl (inl e)
-into-out a as′ rest f [] x (inr m) = out-cons (f [] x m)
-into-out a as′ rest f (b ∷ bs) x m = into-out-step a b as′ bs rest (compare a b) f (into-out a as′ rest f bs) x m
-
-pub union-out : (a b : List ℕ) → Out a b (union a b)
-unfolding union
-union-out [] b x m = inr m
-union-out (a ∷ as′) b x m = into-out a as′ (λ k. union as′ k) (union-out as′) b x m
-
+-- ── the union has the members of both
 into-has-step :
     (a b : ℕ) (as′ bs : List ℕ) (rest : List ℕ → List ℕ) (o : Ordering) → compare a b ≡ o
     → ((k : List ℕ) → Sub as′ (rest k)) → ((k : List ℕ) → Sub k (rest k))
@@ -182,14 +148,14 @@ union-has (a ∷ as′) b x m =
     into-has a as′ (λ k. union as′ k) (λ k y i. union-has as′ k y (inl i)) (λ k y i. union-has as′ k y (inr i)) b x m
 
 -- ── the first pass
-abbrev pub rowsM : List Compared → List Row
+abbrev pub rowsM : List Examined → List Row
 rowsM ks = map (λ k. k .entry .row) ks
 
-abbrev pub GoneOk : Row → List Compared → Type 0
+abbrev pub GoneOk : Row → List Examined → Type 0
 GoneOk p [] = Unit {0}
 GoneOk p (k ∷ ks) = (T (k .replaced) → Dom p (k .entry .row)) × GoneOk p ks
 
-pub record Grown (p : Row) (es : List Entry) (ks : List Compared) (q : Row) : Type 0 where
+pub record Grown (p : Row) (es : List Entry) (ks : List Examined) (q : Row) : Type 0 where
   pub conditions : q .conditions ≡ p .conditions
   pub outputs : Sub (p .outputs) (q .outputs)
   pub from : Cov (p ∷ rowsE es) q
@@ -220,7 +186,8 @@ swap-in {A} {p} e = covers-sub go
     go r (inl q) = inl q
     go r (inr m) = inr (inr m)
 
-mark-joined : (e : Entry) (p : Row) (es : List Entry) (x : Pass) → e .row .conditions ≡ p .conditions → PassOk (grown (e .row) p) es x → PassOk p (e ∷ es) (noted true e x)
+mark-joined : (e : Entry) (p : Row) (es : List Entry) (x : Pass) → e .row .conditions ≡ p .conditions → PassOk (grown (e .row) p) es x
+    → PassOk p (e ∷ es) (noted true e x)
 unfolding noted grown
 mark-joined e p es (found n) q c = λ o m. gives-more (grow-cov (e .row) p c o m)
 mark-joined e p es (passed ks g) q h = record {

@@ -2,7 +2,7 @@
 use mathlib.Core.Path.{_≡_, refl, sym, ap, ap₂, _∙_, subst}
 use mathlib.Core.Logic.{_⊎_, inl, inr}
 use mathlib.Core.Bool.{Bool, true, false, not, _&&_, _||_}
-use mathlib.Core.List.{List, [], _∷_, _++_, map}
+use mathlib.Core.List.{List, [], _∷_, map}
 use Prim.Native.Nat.{ℕ, zero, suc, _≤_, _<_, zero-le, suc-le-suc}
 use native.Mathlib.Nat.{le-refl, le-trans, not-suc-le-zero, le-of-suc-le-suc}
 use native.Mathlib.Omega.{arith}
@@ -19,11 +19,12 @@ use Rattle.model.specs.declared.OutputCursor.{OutputCursor}
 use Rattle.model.specs.Records.{Row}
 use Rattle.model.specs.Rows.{groups, packed}
 use Rattle.model.specs.Slots.{indexOf, bitsOf, codesOf}
-use Rattle.model.specs.Deduction.{Next, stopped, end, output, Published, published, startCursor, scalarNext, failing, pending, loaded, givenOut, give, packedNext, nextOutput}
+use Rattle.model.specs.Deduction.{Next, stopped, end, output, Published, published, startCursor, scalarNext, failing, pending, loaded}
+use Rattle.model.specs.Deduction.{givenOut, give, packedNext, nextOutput}
 use Rattle.model.specs.Priority.{In}
 use Rattle.model.proofs.Packing.{Asc, asc-less, OneWord, Fits, codes-group, groups-fit, concat-groups}
 use Rattle.model.proofs.Priority.Closed.{failing-in}
-use Rattle.model.proofs.Priority.Steps.{in-split}
+use Rattle.model.proofs.Priority.Steps.{in-split, in-left, in-right}
 
 -- ---- choosing keeps the order and the word
 select-asc : (f : ℕ → Bool) (k : ℕ) (xs : List ℕ) → Asc k xs → Asc k (select f xs)
@@ -98,19 +99,15 @@ abbrev pub GoodGroups : Row → List (List ℕ) → Type 0
 GoodGroups r [] = Unit {0}
 GoodGroups r (g ∷ gs) = OneWord (indexOf g) g × Asc 0 g × ((x : ℕ) → In x g → In x (r .outputs)) × GoodGroups r gs
 
-pub in-left : (a b : List ℕ) (x : ℕ) → In x a → In x (a ++ b)
-in-left [] b x m = absurd m
-in-left (y ∷ ys) b x (inl e) = inl e
-in-left (y ∷ ys) b x (inr m) = inr (in-left ys b x m)
-
-pub in-right : (a b : List ℕ) (x : ℕ) → In x b → In x (a ++ b)
-in-right [] b x m = m
-in-right (y ∷ ys) b x m = inr (in-right ys b x m)
-
 pub good-groups : (r : Row) (k : ℕ) (gs : List (List ℕ)) → Fits k gs → ((x : ℕ) → In x (concat gs) → In x (r .outputs)) → GoodGroups r gs
 unfolding concat
 good-groups r k [] f h = tt
-good-groups r k (g ∷ gs) f h = (f .0, asc-less 0 k g zero-le (f .1), λ x m. h x (in-left g (concat gs) x m), good-groups r 0 gs (f .2) (λ x m. h x (in-right g (concat gs) x m)))
+good-groups r k (g ∷ gs) f h = (
+  f .0,
+  asc-less 0 k g zero-le (f .1),
+  λ x m. h x (in-left g (concat gs) x m),
+  good-groups r 0 gs (f .2) (λ x m. h x (in-right g (concat gs) x m)),
+)
 
 pub drop-groups : (r : Row) (j : ℕ) (gs : List (List ℕ)) → GoodGroups r gs → GoodGroups r (drop j gs)
 drop-groups r zero gs h = h
@@ -123,7 +120,8 @@ give-gives r c cs k (Stopped m) g e = quiet-gives r stopped k m (λ z. z) g
 give-gives r c cs k (Ticked m) g e =
     let w : OneWord (k .word) (c ∷ cs) = subst (OneWord (k .word)) (sym (g .are) ∙ e) (g .word) in
     let a : Asc 0 (c ∷ cs) = subst (Asc 0) (sym (g .are) ∙ e) (g .asc) in
-    let f : ((x : ℕ) → In x (c ∷ cs) → In x (r .outputs)) = subst (λ (l : List ℕ). (x : ℕ) → In x l → In x (r .outputs)) (sym (g .are) ∙ e) (g .from) in
+    let f : ((x : ℕ) → In x (c ∷ cs) → In x (r .outputs)) =
+    subst (λ (l : List ℕ). (x : ℕ) → In x l → In x (r .outputs)) (sym (g .are) ∙ e) (g .from) in
     output-gives r c _ m (f c (inl refl)) (record {
       codes = cs;
       are = codes-group (k .word) (suc c) cs (w .1) (a .1);
@@ -140,7 +138,8 @@ pub failing-asc : (q : Region) (g : List ℕ) → Asc 0 g → Asc 0 (failing q g
 unfolding failing
 failing-asc q g h = select-asc (λ c. not (holds q c)) 0 g h
 
-pub load-good : (q : Region) (r : Row) (g : List ℕ) (k : OutputCursor) → OneWord (indexOf g) g → Asc 0 g → ((x : ℕ) → In x g → In x (r .outputs)) → Good r (loaded q g k)
+pub load-good : (q : Region) (r : Row) (g : List ℕ) (k : OutputCursor) → OneWord (indexOf g) g → Asc 0 g
+    → ((x : ℕ) → In x g → In x (r .outputs)) → Good r (loaded q g k)
 unfolding loaded pending
 load-good q r g k w a f = record {
   codes = failing q g;
@@ -156,7 +155,8 @@ load-good q r g k w a f = record {
     asc-of : Asc 0 g → Asc 0 (failing q g)
     asc-of h = failing-asc q g h
 
-packed-gives : (q : Region) (r : Row) (gs : List (List ℕ)) (k : OutputCursor) (m : Meter) → GoodGroups r gs → Good r k → Gives r (packedNext q gs k m)
+packed-gives : (q : Region) (r : Row) (gs : List (List ℕ)) (k : OutputCursor) (m : Meter) → GoodGroups r gs → Good r k
+    → Gives r (packedNext q gs k m)
 unfolding packedNext
 packed-gives q r [] k m h g = go (pending k) refl
   where
@@ -165,12 +165,19 @@ packed-gives q r [] k m h g = go (pending k) refl
     go (c ∷ cs) e = give-gives r c cs k (tickOf m) g e
 packed-gives q r (b ∷ gs) k m h g = go (pending k) refl (λ l n i. packed-gives q r gs l n (h .3) i)
   where
-    ticking : (t : Tick) → ((l : OutputCursor) (n : Meter) → Good r l → Gives r (packedNext q gs l n)) → Gives r (elim t as (λ z. Published) [ Stopped n ↦ published stopped k n | Ticked n ↦ packedNext q gs (loaded q b k) n ])
+    ticking : (t : Tick) → ((l : OutputCursor) (n : Meter) → Good r l → Gives r (packedNext q gs l n))
+        → Gives r (elim t as (λ z. Published) [ Stopped n ↦ published stopped k n | Ticked n ↦ packedNext q gs (loaded q b k) n ])
     ticking (Stopped n) ih = quiet-gives r stopped k n (λ z. z) g
     ticking (Ticked n) ih = ih (loaded q b k) n (load-good q r b k (h .0) (h .1) (h .2))
 
     go : (l : List ℕ) → pending k ≡ l → ((l : OutputCursor) (n : Meter) → Good r l → Gives r (packedNext q gs l n))
-        → Gives r (elim l as (λ z. Published) [ [] ↦ elim (tickOf m) [ Stopped n ↦ published stopped k n | Ticked n ↦ packedNext q gs (loaded q b k) n ] | c ∷ cs ↦ give c cs k (tickOf m) ])
+        → Gives r (elim l as (λ z. Published) [
+          | [] ↦ elim (tickOf m) [
+            | Stopped n ↦ published stopped k n
+            | Ticked n ↦ packedNext q gs (loaded q b k) n
+          ]
+          | c ∷ cs ↦ give c cs k (tickOf m)
+        ])
     go [] e ih = ticking (tickOf m) ih
     go (c ∷ cs) e ih = give-gives r c cs k (tickOf m) g e
 
@@ -178,10 +185,20 @@ pub next-gives : (q : Region) (r : Row) (k : OutputCursor) (m : Meter) → Asc 0
 unfolding nextOutput
 next-gives q r k m a g = form (packed r)
   where
-    more : (b : Bool) → leb (length (r .outputs)) (k .next) ≡ b → Gives r (elim b as (λ z. Published) [ true ↦ published end k m | false ↦ scalarNext (r .outputs) k (tickOf m) ])
+    more : (b : Bool) → leb (length (r .outputs)) (k .next) ≡ b
+        → Gives r (elim b as (λ z. Published) [ true ↦ published end k m | false ↦ scalarNext (r .outputs) k (tickOf m) ])
     more true e = quiet-gives r end k m (λ z. z) g
-    more false e = scalar-gives r k (tickOf m) (nleb→lt (length (r .outputs)) (k .next) (not-T (leb (length (r .outputs)) (k .next)) (λ t. subst T e t))) g
+    more false e =
+        scalar-gives r k (tickOf m) (nleb→lt (length (r .outputs)) (k .next)
+        (not-T (leb (length (r .outputs)) (k .next)) (λ t. subst T e t))) g
 
-    form : (b : Bool) → Gives r (elim b as (λ z. Published) [ true ↦ packedNext q (drop (k .next) (groups (r .outputs))) k m | false ↦ elim (leb (length (r .outputs)) (k .next)) [ true ↦ published end k m | false ↦ scalarNext (r .outputs) k (tickOf m) ] ])
-    form true = packed-gives q r (drop (k .next) (groups (r .outputs))) k m (drop-groups r (k .next) (groups (r .outputs)) (good-groups r 0 (groups (r .outputs)) (groups-fit 0 (r .outputs) a) (λ x i. subst (In x) (concat-groups (r .outputs)) i))) g
+    form : (b : Bool)
+        → Gives r (elim b as (λ z. Published) [
+          | true ↦ packedNext q (drop (k .next) (groups (r .outputs))) k m
+          | false ↦ elim (leb (length (r .outputs)) (k .next)) [ true ↦ published end k m | false ↦ scalarNext (r .outputs) k (tickOf m) ]
+        ])
+    form true =
+        packed-gives q r (drop (k .next) (groups (r .outputs))) k m
+        (drop-groups r (k .next) (groups (r .outputs))
+        (good-groups r 0 (groups (r .outputs)) (groups-fit 0 (r .outputs) a) (λ x i. subst (In x) (concat-groups (r .outputs)) i))) g
     form false = more (leb (length (r .outputs)) (k .next)) refl

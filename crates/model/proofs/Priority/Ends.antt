@@ -7,14 +7,14 @@ use mathlib.Core.Option.{Option, none, some}
 use Prim.Native.Nat.{ℕ}
 use lib.Dec.{T, eqb}
 use lib.ListN.{length}
-use Rattle.words.specs.Region.{Region, isRegion, atomsOk}
+use Rattle.words.specs.Region.{Region, isRegion, atomsOk, region}
 use Rattle.words.proofs.Regions.{Sound, sound-of, region-test}
 use Rattle.meter.specs.declared.Meter.{Meter}
 use Rattle.model.specs.declared.CloseAnswer.{CloseAnswer}
 use Rattle.model.specs.declared.CloseAnswer.the-variants.{Refused, Stopped, Conflict, Closed}
 use Rattle.model.specs.Records.{Row, rowsOf, limitsOk}
 use Rattle.model.specs.Refusals.{Lent, ledgerIn, refusal, accepts}
-use Rattle.model.specs.Operations.{CloseEnd, closeEnd, close, region, regionOk}
+use Rattle.model.specs.Operations.{CloseEnd, closeEnd, close, regionOk}
 use Rattle.model.specs.Closing.{State, Turn, going, conflict, halted, closing}
 use Rattle.model.specs.Priority.{In, Contains, ClosedFor, NoneClosed}
 use Rattle.model.proofs.Cover.{and-left}
@@ -44,8 +44,13 @@ IsConflict Stopped = ⊥
 IsConflict Conflict = Unit {0}
 IsConflict Closed = ⊥
 
-turn-end : (n : ℕ) (rows : List Row) (over : Over n rows) (fine : Fine rows) (r : Region) (x y : List ℕ) (m : Meter) (t : Turn) → T (atomsOk n) → TurnIn n rows over fine r t
-    → EndOk n rows r (elim t as (λ k. CloseEnd) [ going u ↦ closeEnd Closed u x y m | conflict u ↦ closeEnd Conflict u x y m | halted u ↦ closeEnd Stopped u x y m ])
+turn-end : (n : ℕ) (rows : List Row) (over : Over n rows) (fine : Fine rows) (r : Region) (x y : List ℕ) (m : Meter) (t : Turn)
+    → T (atomsOk n) → TurnIn n rows over fine r t
+    → EndOk n rows r (elim t as (λ k. CloseEnd) [
+      | going u ↦ closeEnd Closed u x y m
+      | conflict u ↦ closeEnd Conflict u x y m
+      | halted u ↦ closeEnd Stopped u x y m
+    ])
 unfolding closeEnd
 turn-end n rows over fine r x y m (going u) a i = record {
   ifClosed = λ e. record {
@@ -82,20 +87,42 @@ refused-end n rows r e k q = record {
   ifConflict = λ z. absurd (subst IsConflict (sym z ∙ q) tt);
 }
 
-pub close-end : (s : Lent) (held cut x y : List ℕ) (m : Meter) → EndOk (s .header .limits .atoms) (rowsOf (ledgerIn s)) (region held cut) (close s held cut x y m)
+pub close-end : (s : Lent) (held cut x y : List ℕ) (m : Meter)
+    → EndOk (s .header .limits .atoms) (rowsOf (ledgerIn s)) (region held cut) (close s held cut x y m)
 unfolding close rowsOf
 close-end s held cut x y m = go (refusal tests) refl
   where
     tests : List (Bool × ℕ)
-    tests = accepts s (eqb (length x) (s .header .limits .«tier_rows») && eqb (length y) (s .header .limits .atoms)) ((regionOk s held cut, 6) ∷ [])
+    tests =
+        accepts s (eqb (length x) (s .header .limits .«tier_rows») && eqb (length y) (s .header .limits .atoms))
+        ((regionOk s held cut, 6) ∷ [])
 
-    go : (o : Option ℕ) → refusal tests ≡ o → EndOk (s .header .limits .atoms) (rowsE (ledgerIn s .entries)) (region held cut) (elim o as (λ k. CloseEnd) [
-      | some n ↦ record { answer = Refused n; ledger = s; region = region held cut; rowScratch = x; atomScratch = y; meter = m; ticks = 0 }
-      | none ↦ elim (closing (ledgerIn s) (region held cut) m) [ going t ↦ closeEnd Closed t x y m | conflict t ↦ closeEnd Conflict t x y m | halted t ↦ closeEnd Stopped t x y m ]
-    ])
-    go (some k) e = refused-end (s .header .limits .atoms) (rowsE (ledgerIn s .entries)) (region held cut) (record { answer = Refused k; ledger = s; region = region held cut; rowScratch = x; atomScratch = y; meter = m; ticks = 0 }) k refl
+    go : (o : Option ℕ) → refusal tests ≡ o
+        → EndOk (s .header .limits .atoms) (rowsE (ledgerIn s .entries)) (region held cut) (elim o as (λ k. CloseEnd) [
+          | some n ↦ record {
+            answer = Refused n;
+            ledger = s;
+            region = region held cut;
+            rowScratch = x;
+            atomScratch = y;
+            meter = m;
+            ticks = 0;
+          }
+          | none ↦ elim (closing (ledgerIn s) (region held cut) m) [
+            | going t ↦ closeEnd Closed t x y m
+            | conflict t ↦ closeEnd Conflict t x y m
+            | halted t ↦ closeEnd Stopped t x y m
+          ]
+        ])
+    go (some k) e =
+        refused-end (s .header .limits .atoms) (rowsE (ledgerIn s .entries)) (region held cut)
+        (record { answer = Refused k; ledger = s; region = region held cut; rowScratch = x; atomScratch = y; meter = m; ticks = 0 }) k refl
     go none e =
-        let a = accepted s (eqb (length x) (s .header .limits .«tier_rows») && eqb (length y) (s .header .limits .atoms)) ((regionOk s held cut, 6) ∷ []) e in
-        let over : Over (s .header .limits .atoms) (rowsE (ledgerIn s .entries)) = λ r i. row-over (s .header .limits .atoms) r (rows-ok s (a .0) r i) in
-        turn-end (s .header .limits .atoms) (rowsE (ledgerIn s .entries)) over (fine-in s (a .0)) (region held cut) x y m (closing (ledgerIn s) (region held cut) m) (atoms-ok s (a .0))
-        (closing-in (s .header .limits .atoms) (rowsE (ledgerIn s .entries)) over (fine-in s (a .0)) (region held cut) (ledgerIn s) m (atoms-in s) refl (region-ok s held cut (refusal-cons (regionOk s held cut) 6 [] (a .1) .0)))
+        let a = accepted s (eqb (length x) (s .header .limits .«tier_rows») && eqb (length y) (s .header .limits .atoms))
+        ((regionOk s held cut, 6) ∷ []) e in
+        let over : Over (s .header .limits .atoms) (rowsE (ledgerIn s .entries)) =
+        λ r i. row-over (s .header .limits .atoms) r (rows-ok s (a .0) r i) in
+        turn-end (s .header .limits .atoms) (rowsE (ledgerIn s .entries)) over (fine-in s (a .0)) (region held cut) x y m
+        (closing (ledgerIn s) (region held cut) m) (atoms-ok s (a .0))
+        (closing-in (s .header .limits .atoms) (rowsE (ledgerIn s .entries)) over (fine-in s (a .0)) (region held cut) (ledgerIn s) m
+        (atoms-in s) refl (region-ok s held cut (refusal-cons (regionOk s held cut) 6 [] (a .1) .0)))

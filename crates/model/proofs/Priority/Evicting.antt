@@ -3,7 +3,7 @@ use mathlib.Core.Path.{_≡_, refl, sym, _∙_, ap, subst}
 use mathlib.Core.Logic.{_⊎_, inl, inr}
 use mathlib.Core.Bool.{Bool, true, false, _||_, false≢true}
 use mathlib.Core.List.{List, [], _∷_, map}
-use Prim.Native.Nat.{ℕ, zero, suc, _+_, _≤_, _<_}
+use Prim.Native.Nat.{ℕ, zero, suc, _<_}
 use native.Mathlib.Omega.{arith}
 use lib.Dec.{T, leb, ltb}
 use lib.ListN.{length, getD, set}
@@ -15,50 +15,40 @@ use Rattle.meter.specs.declared.Read.the-variants.{Paid, Declined, Stopped}
 use Rattle.meter.specs.Meter.{andThen, pay}
 use Rattle.model.specs.declared.LearningLimits.{LearningLimits}
 use Rattle.model.specs.Records.{Row, Entry, Ledger, rowsOf, rowAt}
-use Rattle.model.specs.Retention.{Compared, Pass, found, passed, firstPass, secondPass, anyReplaced, before, victimFrom, victim, judge, judged, verdict, Verdict, subsumed, protected, placing, evicting, newborn, Retained, untaken, carryOut, retained, retainReads, retain}
+use Rattle.model.specs.Retention.{Examined, Pass, found, passed, firstPass, secondPass, anyReplaced, victim, placementBy}
+use Rattle.model.specs.Retention.{placementAfter, placement}
+use Rattle.model.specs.Retention.{Placement, subsumed, protected, placing, evicting, newborn, Retention, untaken, carryOut, retained}
+use Rattle.model.specs.Retention.{retainReads, retain}
 use Rattle.model.specs.Priority.{In, Covers, EvictionLoses}
 use Rattle.model.proofs.Priority.Covering.{rowsE, Dom, covers-cons, covers-sub, dom-cov}
-use Rattle.model.proofs.Priority.Retaining.{VerdictOk, verdict-ok, settle-rows}
+use Rattle.model.proofs.Priority.Retaining.{PlacementOk, placement-ok, settle-rows}
+use Rattle.model.proofs.Entries.{victim-held}
 
 -- ---- the victim is a row held
-victim-from : (at : ℕ) (least : Entry) (i : ℕ) (es : List Entry) (n : ℕ) → at < n → i + length es ≤ n → victimFrom at least i es < n
-unfolding victimFrom
-victim-from at least i [] n h k = h
-victim-from at least i (e ∷ es) n h k = go (before e least) (victim-from i e (suc i) es n (omega arith) (omega arith)) (victim-from at least (suc i) es n h (omega arith))
-  where
-    go : (b : Bool) → victimFrom i e (suc i) es < n → victimFrom at least (suc i) es < n
-        → (elim b as (λ k. ℕ) [ true ↦ victimFrom i e (suc i) es | false ↦ victimFrom at least (suc i) es ]) < n
-    go true p q = p
-    go false p q = q
-
-victim-held : (es : List Entry) → 0 < length es → victim es < length es
-unfolding victim
-victim-held [] h = absurd (omega arith)
-victim-held (e ∷ es) h = victim-from 0 e 1 es (suc (length es)) (omega arith) (omega arith)
-
 -- a verdict that evicts gives the victim's place away
-abbrev Gives-up : List Entry → Verdict → Type 0
+abbrev Gives-up : List Entry → Placement → Type 0
 Gives-up es (subsumed n) = Unit {0}
 Gives-up es protected = Unit {0}
 Gives-up es (placing ks p) = Unit {0}
 Gives-up es (evicting v p) = (v ≡ victim es) × (v < length es)
 
-judge-gives-up : (es : List Entry) (ks : List Compared) (p : Row) (a c : Bool) → (c ≡ false → 0 < length es)
+judge-gives-up : (es : List Entry) (ks : List Examined) (p : Row) (a c : Bool) → (c ≡ false → 0 < length es)
     → Gives-up es (elim a [ true ↦ placing ks p | false ↦ elim c [ true ↦ protected | false ↦ evicting (victim es) p ] ])
 judge-gives-up es ks p true c h = tt
 judge-gives-up es ks p false true h = tt
 judge-gives-up es ks p false false h = (refl, victim-held es (h refl))
 
-pass-gives-up : (l : LearningLimits) (es : List Entry) (x : Pass) → Gives-up es (judged l es x)
-unfolding judged judge
+pass-gives-up : (l : LearningLimits) (es : List Entry) (x : Pass) → Gives-up es (placementAfter l es x)
+unfolding placementAfter placementBy
 pass-gives-up l es (found n) = tt
 pass-gives-up l es (passed ks p) =
-    judge-gives-up es (secondPass p ks) p (anyReplaced (secondPass p ks) || ltb (length es) (l .«tier_rows»)) (leb (length es) (l .«founded_floor»))
+    judge-gives-up es (secondPass p ks) p (anyReplaced (secondPass p ks) || ltb (length es) (l .«tier_rows»))
+    (leb (length es) (l .«founded_floor»))
     (λ e. let h = leb-false (length es) (l .«founded_floor») e in omega arith)
 
-verdict-gives-up : (l : LearningLimits) (m : ℕ) (t : Row) (es : List Entry) → Gives-up es (verdict l m t es)
-unfolding verdict
-verdict-gives-up l m t es = pass-gives-up l es (firstPass m t es)
+placement-gives-up : (l : LearningLimits) (m : ℕ) (t : Row) (es : List Entry) → Gives-up es (placement l m t es)
+unfolding placement
+placement-gives-up l m t es = pass-gives-up l es (firstPass m t es)
 
 -- ---- a place given to another row: what stood there, and all else, is there still
 set-has : (v : ℕ) (e : Entry) (es : List Entry) → v < length es → In (e .row) (rowsE (set es v e))
@@ -82,15 +72,14 @@ swapped : (v : ℕ) (e : Entry) (es : List Entry) (d t : Row) → v < length es 
 swapped v e es d t h k = covers-cons (dom-cov {s = t} (inr (set-has v e es h)) k) (covers-sub (set-keeps v e es d))
 
 -- ---- retention
-empty-row : Row
-empty-row = record { conditions = []; outputs = [] }
-
-abbrev LosesVictim : Ledger → Row → Retained → Type 0
+abbrev LosesVictim : Ledger → Row → Retention → Type 0
 LosesVictim l t d =
     d .evicts ≡ true
-    → Covers (getD (rowsE (l .entries)) (victim (l .entries)) (record { conditions = []; outputs = [] }) ∷ rowsE (d .ledger .entries)) (t ∷ rowsE (l .entries))
+    → Covers (getD (rowsE (l .entries)) (victim (l .entries)) (record { conditions = []; outputs = [] }) ∷ rowsE (d .ledger .entries))
+    (t ∷ rowsE (l .entries))
 
-carry-loses : (l : Ledger) (t : Row) (h : ℕ) (a : Account) (m : Meter) (v : Verdict) → VerdictOk t (l .entries) v → Gives-up (l .entries) v → LosesVictim l t (carryOut l t h a m v)
+carry-loses : (l : Ledger) (t : Row) (h : ℕ) (a : Account) (m : Meter) (v : Placement) → PlacementOk t (l .entries) v
+    → Gives-up (l .entries) v → LosesVictim l t (carryOut l t h a m v)
 unfolding carryOut untaken newborn
 carry-loses l t h a m (subsumed p) c g e = absurd (false≢true e)
 carry-loses l t h a m protected c g e = absurd (false≢true e)
@@ -100,8 +89,8 @@ carry-loses l t h a m (evicting v p) c g e = rw (settle-rows, ← g .0) (swapped
 retained-loses : (l : Ledger) (m h : ℕ) (t : Row) (r : Read) → LosesVictim l t (retained l m h t r)
 unfolding retained untaken
 retained-loses l m h t (Paid a k) =
-    carry-loses l t h a k (verdict (l .header .limits) m t (l .entries)) (verdict-ok (l .header .limits) m t (l .entries))
-    (verdict-gives-up (l .header .limits) m t (l .entries))
+    carry-loses l t h a k (placement (l .header .limits) m t (l .entries)) (placement-ok (l .header .limits) m t (l .entries))
+    (placement-gives-up (l .header .limits) m t (l .entries))
 retained-loses l m h t (Declined a k) = λ e. absurd (false≢true e)
 retained-loses l m h t (Stopped a k) = λ e. absurd (false≢true e)
 

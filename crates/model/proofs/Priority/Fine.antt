@@ -1,14 +1,13 @@
 -- Retentions of valid rows leave valid rows, and the limits. Assumes nothing.
-use mathlib.Core.Path.{_≡_, refl, sym, _∙_, ap, subst}
+use mathlib.Core.Path.{_≡_, refl, sym, _∙_, subst}
 use mathlib.Core.Logic.{_⊎_, inl, inr}
 use mathlib.Core.Bool.{Bool, true, false, _&&_, _||_, not, false≢true, true≢false}
 use mathlib.Core.List.{List, [], _∷_, _++_, map}
-use Prim.Native.Nat.{ℕ, zero, suc, _+_, min, _≤_, _<_, compare, Ordering, Ordering·lt, Ordering·eq, Ordering·gt}
+use Prim.Native.Nat.{ℕ, zero, suc, _+_, min, _≤_, _<_}
 use native.Mathlib.Nat.{le-refl, le-trans}
 use native.Mathlib.Omega.{arith}
-use lib.Dec.{T, eqb, leb, ltb, isLe, isEq, eqb→eq, leb→le, nleb→lt}
+use lib.Dec.{T, eqb, leb, ltb, eqb→eq, leb→le}
 use lib.ListN.{length, set}
-use borrow.Author.Tests.{eq-eqb}
 use Rattle.lists.specs.Lists.{same}
 use Rattle.meter.specs.declared.Meter.{Meter}
 use Rattle.meter.specs.declared.Account.{Account}
@@ -17,47 +16,20 @@ use Rattle.meter.specs.declared.Read.the-variants.{Paid, Declined, Stopped}
 use Rattle.meter.specs.Meter.{andThen, pay}
 use Rattle.model.specs.declared.LearningLimits.{LearningLimits}
 use Rattle.model.specs.declared.Header.{Header}
-use Rattle.model.specs.Records.{Row, Entry, Ledger, header, plus, withAdded, withHits, maxOutputs}
-use Rattle.model.specs.Union.{into, union, mayJoin, joins, grown}
+use Rattle.model.specs.Records.{Row, Entry, Ledger, saturatingAdd, withAdded, withHits, maxOutputs}
+use Rattle.model.specs.Union.{union, mayJoin, joins, grown}
 use Rattle.model.specs.Rows.{subsumes}
-use Rattle.model.specs.Retention.{Compared, Pass, found, passed, noted, firstPass, secondPass, anyReplaced, kept, place, judge, judged, verdict, Verdict, subsumed, protected, placing, evicting, victim, halved, settle, newborn, Retained, untaken, carryOut, retained, retainReads, retain}
+use Rattle.model.specs.Retention.{Examined, Pass, found, passed, noted, firstPass, secondPass, anyReplaced, kept, place, placementBy}
+use Rattle.model.specs.Retention.{placementAfter, placement, Placement, subsumed, protected, placing, evicting, victim, halved}
+use Rattle.model.specs.Retention.{settle, newborn, Retention, untaken, carryOut, retained, retainReads, retain}
 use Rattle.model.specs.Priority.{In, Covers}
 use Rattle.model.proofs.Cover.{and-left, and-right}
-use Rattle.model.proofs.Packing.{Asc, asc-less}
+use Rattle.model.proofs.Packing.{asc-less}
 use Rattle.model.proofs.Slots.{Valid}
-use Rattle.model.proofs.Priority.Covering.{rowsE, rowsM, cmp-eq, Grown, PassOk, pass-ok, Cov, covers-refl, covers-trans, covers-cons, covers-sub}
-use Rattle.model.proofs.Priority.Retaining.{VerdictOk, verdict-ok, place-in, placed, halve-rows, settle-rows}
-
--- ---- the union of ascending lists ascends
-cmp-lt : (a b : ℕ) → compare a b ≡ Ordering·lt → a < b
-cmp-lt a b e =
-    let l : a ≤ b = leb→le a b (subst (λ (o : Ordering). T (isLe o)) (sym e) tt) in
-    let n : (a ≡ b → ⊥) = λ q. false≢true (sym (ap isEq e) ∙ eq-eqb a b q) in
-    lt-of a b l n
-  where
-    lt-of : (a b : ℕ) → a ≤ b → (a ≡ b → ⊥) → a < b
-    lt-of a b l n = omega arith
-
-cmp-gt : (a b : ℕ) → compare a b ≡ Ordering·gt → b < a
-cmp-gt a b e = nleb→lt a b (subst (λ (o : Ordering). T (not (isLe o))) (sym e) tt)
-
-into-asc-step : (k a b : ℕ) (rest : List ℕ → List ℕ) (bs : List ℕ) (o : Ordering) → compare a b ≡ o
-    → ((cs : List ℕ) → Asc (suc a) cs → Asc (suc a) (rest cs)) → k ≤ a → Asc k (b ∷ bs)
-    → ((j : ℕ) → j ≤ a → Asc j bs → Asc j (into a rest bs))
-    → Asc k (elim o [ Ordering·lt ↦ a ∷ rest (b ∷ bs) | Ordering·eq ↦ a ∷ rest bs | Ordering·gt ↦ b ∷ into a rest bs ])
-into-asc-step k a b rest bs Ordering·lt e f h g i = (h, f (b ∷ bs) (cmp-lt a b e, g .1))
-into-asc-step k a b rest bs Ordering·eq e f h g i = (h, f bs (subst (λ (x : ℕ). Asc (suc x) bs) (sym (cmp-eq a b e)) (g .1)))
-into-asc-step k a b rest bs Ordering·gt e f h g i = (g .0, i (suc b) (cmp-gt a b e) (g .1))
-
-into-asc : (a : ℕ) (rest : List ℕ → List ℕ) → ((cs : List ℕ) → Asc (suc a) cs → Asc (suc a) (rest cs)) → (bs : List ℕ) (k : ℕ) → k ≤ a → Asc k bs → Asc k (into a rest bs)
-unfolding into
-into-asc a rest f [] k h g = (h, f [] tt)
-into-asc a rest f (b ∷ bs) k h g = into-asc-step k a b rest bs (compare a b) refl f h g (λ j. into-asc a rest f bs j)
-
-pub union-asc : (a b : List ℕ) (k : ℕ) → Asc k a → Asc k b → Asc k (union a b)
-unfolding union
-union-asc [] b k g h = h
-union-asc (a ∷ as′) b k g h = into-asc a (union as′) (λ cs i. union-asc as′ cs (suc a) (g .1) i) b k (g .0) h
+use Rattle.model.proofs.Priority.Covering.{rowsE, rowsM, Grown, PassOk, pass-ok, Cov, covers-refl, covers-trans, covers-cons}
+use Rattle.model.proofs.Priority.Covering.{covers-sub}
+use Rattle.model.proofs.Priority.Retaining.{PlacementOk, placement-ok, place-in, placed, halve-rows, settle-rows}
+use Rattle.model.proofs.Union.{union-asc}
 
 -- ---- a grown proposal is valid
 grown-valid : (m : ℕ) (r p : Row) → m ≤ maxOutputs → T (joins m r p) → Valid r → Valid p → Valid (grown r p)
@@ -66,7 +38,10 @@ grown-valid m r p l t v w = record {
   conditions = w .conditions;
   outputs = union-asc (r .outputs) (p .outputs) 0 (v .outputs) (w .outputs);
   few = w .few;
-  many = le-trans (leb→le (length (union (r .outputs) (p .outputs))) m (and-right (same (r .conditions) (p .conditions)) (leb (length (union (r .outputs) (p .outputs))) m) (and-right (mayJoin m r p) _ t))) l;
+  many =
+      le-trans (leb→le (length (union (r .outputs) (p .outputs))) m
+      (and-right (same (r .conditions) (p .conditions)) (leb (length (union (r .outputs) (p .outputs))) m) (and-right (mayJoin m r p) _ t)))
+      l;
 }
 
 -- each row of the list is valid
@@ -78,11 +53,11 @@ abbrev PassKeeps : (Row → Type 0) → Pass → Type 0
 PassKeeps P (found n) = Unit {0}
 PassKeeps P (passed ks p) = P p
 
-abbrev pub VerdictKeeps : (Row → Type 0) → Verdict → Type 0
-VerdictKeeps P (subsumed p) = Unit {0}
-VerdictKeeps P protected = Unit {0}
-VerdictKeeps P (placing ks p) = P p
-VerdictKeeps P (evicting v p) = P p
+abbrev pub PlacementKeeps : (Row → Type 0) → Placement → Type 0
+PlacementKeeps P (subsumed p) = Unit {0}
+PlacementKeeps P protected = Unit {0}
+PlacementKeeps P (placing ks p) = P p
+PlacementKeeps P (evicting v p) = P p
 
 module _ (P : Row → Type 0) (m : ℕ) (join : (r p : Row) → T (joins m r p) → P r → P p → P (grown r p)) where
   noted-keeps : (b : Bool) (e : Entry) (x : Pass) → PassKeeps P x → PassKeeps P (noted b e x)
@@ -92,7 +67,13 @@ module _ (P : Row → Type 0) (m : ℕ) (join : (r p : Row) → T (joins m r p) 
 
   pass-keeps-step : (p : Row) (e : Entry) (es : List Entry) (b c : Bool)
       → (T c → PassKeeps P (firstPass m (grown (e .row) p) es)) → PassKeeps P (firstPass m p es)
-      → PassKeeps P (elim b [ true ↦ found 0 | false ↦ elim c [ true ↦ noted true e (firstPass m (grown (e .row) p) es) | false ↦ noted false e (firstPass m p es) ] ])
+      → PassKeeps P (elim b [
+        | true ↦ found 0
+        | false ↦ elim c [
+          | true ↦ noted true e (firstPass m (grown (e .row) p) es)
+          | false ↦ noted false e (firstPass m p es)
+        ]
+      ])
   pass-keeps-step p e es true c f g = tt
   pass-keeps-step p e es false true f g = noted-keeps true e (firstPass m (grown (e .row) p) es) (f tt)
   pass-keeps-step p e es false false f g = noted-keeps false e (firstPass m p es) g
@@ -105,21 +86,23 @@ module _ (P : Row → Type 0) (m : ℕ) (join : (r p : Row) → T (joins m r p) 
       (λ t. pass-keeps (grown (e .row) p) es (join (e .row) p t (f (e .row) (inl refl)) v) (λ r i. f r (inr i)))
       (pass-keeps p es v (λ r i. f r (inr i)))
 
-  judge-keeps-step : (es : List Entry) (ks : List Compared) (p : Row) (a c : Bool) → P p
-      → VerdictKeeps P (elim a [ true ↦ placing ks p | false ↦ elim c [ true ↦ protected | false ↦ evicting (victim es) p ] ])
+  judge-keeps-step : (es : List Entry) (ks : List Examined) (p : Row) (a c : Bool) → P p
+      → PlacementKeeps P (elim a [ true ↦ placing ks p | false ↦ elim c [ true ↦ protected | false ↦ evicting (victim es) p ] ])
   judge-keeps-step es ks p true c v = v
   judge-keeps-step es ks p false true v = tt
   judge-keeps-step es ks p false false v = v
 
-  judged-keeps : (l : LearningLimits) (es : List Entry) (x : Pass) → PassKeeps P x → VerdictKeeps P (judged l es x)
-  unfolding judged judge
-  judged-keeps l es (found n) f = tt
-  judged-keeps l es (passed ks p) f =
-      judge-keeps-step es (secondPass p ks) p (anyReplaced (secondPass p ks) || ltb (length es) (l .«tier_rows»)) (leb (length es) (l .«founded_floor»)) f
+  placementAfter-keeps : (l : LearningLimits) (es : List Entry) (x : Pass) → PassKeeps P x → PlacementKeeps P (placementAfter l es x)
+  unfolding placementAfter placementBy
+  placementAfter-keeps l es (found n) f = tt
+  placementAfter-keeps l es (passed ks p) f =
+      judge-keeps-step es (secondPass p ks) p (anyReplaced (secondPass p ks) || ltb (length es) (l .«tier_rows»))
+      (leb (length es) (l .«founded_floor»)) f
 
-  pub verdict-keeps : (l : LearningLimits) (t : Row) (es : List Entry) → P t → ((r : Row) → In r (rowsE es) → P r) → VerdictKeeps P (verdict l m t es)
-  unfolding verdict
-  verdict-keeps l t es v f = judged-keeps l es (firstPass m t es) (pass-keeps t es v f)
+  pub placement-keeps : (l : LearningLimits) (t : Row) (es : List Entry) → P t → ((r : Row) → In r (rowsE es) → P r)
+      → PlacementKeeps P (placement l m t es)
+  unfolding placement
+  placement-keeps l t es v f = placementAfter-keeps l es (firstPass m t es) (pass-keeps t es v f)
 
 -- ---- the entries after
 set-in : (v : ℕ) (e : Entry) (es : List Entry) (r : Row) → In r (rowsE (set es v e)) → In r (e .row ∷ rowsE es)
@@ -142,8 +125,8 @@ pub record Counted (evicts : Bool) (n k : ℕ) : Type 0 where
 pub none-counted : (n : ℕ) → Counted false n n
 none-counted n = record { calm = λ e. refl; some = λ e. absurd (false≢true e); more = λ h. h }
 
-one-counted : (n k : ℕ) → k ≡ plus n 1 → Counted true n k
-unfolding plus
+one-counted : (n k : ℕ) → k ≡ saturatingAdd n 1 → Counted true n k
+unfolding saturatingAdd
 one-counted n k e = record { calm = λ q. absurd (true≢false q); some = λ q. omega arith; more = λ h. omega arith }
 
 pub both-counted : (a b : Bool) (n k m : ℕ) → Counted b n k → Counted a k m → Counted (a || b) n m
@@ -155,7 +138,7 @@ both-counted false b n k m p q = record {
 }
 
 -- a retention, all of it: limits, rows, what was taken, and the count of evictions
-pub record RetainedFine (l : Ledger) (t : Row) (d : Retained) : Type 0 where
+pub record RetainedFine (l : Ledger) (t : Row) (d : Retention) : Type 0 where
   pub limits : d .ledger .header .limits ≡ l .header .limits
   pub fine : Fine (rowsE (d .ledger .entries))
   pub took : (r : Row) → In r (d .took) → r ≡ t
@@ -166,7 +149,11 @@ settle-limits : (h : Header) (es : List Entry) (n : ℕ) → settle h es n .head
 unfolding settle withAdded
 settle-limits h es n = go (leb (h .limits .«tier_rows») (suc (h .epoch)))
   where
-    go : (b : Bool) → (elim b as (λ k. Ledger) [ true ↦ record { header = withAdded h 0 n; entries = halved es } | false ↦ record { header = withAdded h (suc (h .epoch)) n; entries = es } ]) .header .limits ≡ h .limits
+    go : (b : Bool)
+        → (elim b as (λ k. Ledger) [
+          | true ↦ record { header = withAdded h 0 n; entries = halved es }
+          | false ↦ record { header = withAdded h (suc (h .epoch)) n; entries = es }
+        ]) .header .limits ≡ h .limits
     go true = refl
     go false = refl
 
@@ -174,7 +161,11 @@ settle-evicted : (h : Header) (es : List Entry) (n : ℕ) → settle h es n .hea
 unfolding settle withAdded
 settle-evicted h es n = go (leb (h .limits .«tier_rows») (suc (h .epoch)))
   where
-    go : (b : Bool) → (elim b as (λ k. Ledger) [ true ↦ record { header = withAdded h 0 n; entries = halved es } | false ↦ record { header = withAdded h (suc (h .epoch)) n; entries = es } ]) .header .evicted ≡ n
+    go : (b : Bool)
+        → (elim b as (λ k. Ledger) [
+          | true ↦ record { header = withAdded h 0 n; entries = halved es }
+          | false ↦ record { header = withAdded h (suc (h .epoch)) n; entries = es }
+        ]) .header .evicted ≡ n
     go true = refl
     go false = refl
 
@@ -186,33 +177,46 @@ only : (t r : Row) → In r (t ∷ []) → r ≡ t
 only t r (inl e) = e
 only t r (inr m) = absurd m
 
-carry-fine : (l : Ledger) (t : Row) (h : ℕ) (a : Account) (m : Meter) (v : Verdict) → Fine (rowsE (l .entries)) → VerdictOk t (l .entries) v → VerdictKeeps Valid v → RetainedFine l t (carryOut l t h a m v)
+carry-fine : (l : Ledger) (t : Row) (h : ℕ) (a : Account) (m : Meter) (v : Placement) → Fine (rowsE (l .entries))
+    → PlacementOk t (l .entries) v → PlacementKeeps Valid v → RetainedFine l t (carryOut l t h a m v)
 unfolding carryOut untaken newborn
-carry-fine l t h a m (subsumed p) f o v = record { limits = refl; fine = f; took = only t; from = covers-sub (λ r i. inr i); counted = none-counted _ }
-carry-fine l t h a m protected f o v = record { limits = refl; fine = f; took = λ r i. absurd i; from = covers-refl (rowsE (l .entries)); counted = none-counted _ }
+carry-fine l t h a m (subsumed p) f o v =
+    record { limits = refl; fine = f; took = only t; from = covers-sub (λ r i. inr i); counted = none-counted _ }
+carry-fine l t h a m protected f o v =
+    record { limits = refl; fine = f; took = λ r i. absurd i; from = covers-refl (rowsE (l .entries)); counted = none-counted _ }
 carry-fine l t h a m (placing ks p) f o v = record {
   limits = settle-limits (l .header) _ _;
-  fine = λ r i. fine-cons p (rowsM ks) v (subst Fine (sym (o .rows)) f) r (place-in _ ks r (subst (λ (rs : List Row). In r rs) (settle-rows (l .header) _ _) i));
+  fine = λ r i. fine-cons p (rowsM ks) v (subst Fine (sym (o .rows)) f) r
+      (place-in _ ks r (subst (λ (rs : List Row). In r rs) (settle-rows (l .header) _ _) i));
   took = only t;
-  from = subst (λ (rs : List Row). Covers (t ∷ rowsE (l .entries)) rs) (sym (settle-rows (l .header) _ _)) (placed t (l .entries) ks _ o .back);
-  counted = subst (λ (k : ℕ). Counted false (l .header .evicted) k) (sym (settle-evicted (l .header) _ (l .header .evicted))) (none-counted (l .header .evicted));
+  from = subst (λ (rs : List Row). Covers (t ∷ rowsE (l .entries)) rs) (sym (settle-rows (l .header) _ _))
+      (placed t (l .entries) ks _ o .back);
+  counted = subst (λ (k : ℕ). Counted false (l .header .evicted) k) (sym (settle-evicted (l .header) _ (l .header .evicted)))
+      (none-counted (l .header .evicted));
 }
 carry-fine l t h a m (evicting v p) f o w = record {
   limits = settle-limits (l .header) _ _;
-  fine = λ r i. fine-cons p (rowsE (l .entries)) w f r (set-in v _ (l .entries) r (subst (λ (rs : List Row). In r rs) (settle-rows (l .header) _ _) i));
+  fine = λ r i. fine-cons p (rowsE (l .entries)) w f r
+      (set-in v _ (l .entries) r (subst (λ (rs : List Row). In r rs) (settle-rows (l .header) _ _) i));
   took = only t;
-  from = subst (λ (rs : List Row). Covers (t ∷ rowsE (l .entries)) rs) (sym (settle-rows (l .header) _ _)) (covers-trans (covers-cons {B = rowsE (l .entries)} {t = p} (o .0) (covers-sub (λ r i. inr i))) (covers-sub (set-in v _ (l .entries))));
+  from = subst (λ (rs : List Row). Covers (t ∷ rowsE (l .entries)) rs) (sym (settle-rows (l .header) _ _))
+      (covers-trans (covers-cons {B = rowsE (l .entries)} {t = p} (o .0) (covers-sub (λ r i. inr i)))
+      (covers-sub (set-in v _ (l .entries))));
   counted = one-counted (l .header .evicted) _ (settle-evicted (l .header) _ _);
 }
 
-retained-fine : (l : Ledger) (m h : ℕ) (t : Row) (run : Read) → m ≤ maxOutputs → Valid t → Fine (rowsE (l .entries)) → RetainedFine l t (retained l m h t run)
+retained-fine : (l : Ledger) (m h : ℕ) (t : Row) (run : Read) → m ≤ maxOutputs → Valid t → Fine (rowsE (l .entries))
+    → RetainedFine l t (retained l m h t run)
 unfolding retained untaken
 retained-fine l m h t (Paid a n) k v f =
-    carry-fine l t h a n (verdict (l .header .limits) m t (l .entries)) f (verdict-ok (l .header .limits) m t (l .entries))
-    (verdict-keeps Valid m (λ r p j. grown-valid m r p k j) (l .header .limits) t (l .entries) v f)
-retained-fine l m h t (Declined a n) k v f = record { limits = refl; fine = f; took = λ r i. absurd i; from = covers-refl (rowsE (l .entries)); counted = none-counted _ }
-retained-fine l m h t (Stopped a n) k v f = record { limits = refl; fine = f; took = λ r i. absurd i; from = covers-refl (rowsE (l .entries)); counted = none-counted _ }
+    carry-fine l t h a n (placement (l .header .limits) m t (l .entries)) f (placement-ok (l .header .limits) m t (l .entries))
+    (placement-keeps Valid m (λ r p j. grown-valid m r p k j) (l .header .limits) t (l .entries) v f)
+retained-fine l m h t (Declined a n) k v f =
+    record { limits = refl; fine = f; took = λ r i. absurd i; from = covers-refl (rowsE (l .entries)); counted = none-counted _ }
+retained-fine l m h t (Stopped a n) k v f =
+    record { limits = refl; fine = f; took = λ r i. absurd i; from = covers-refl (rowsE (l .entries)); counted = none-counted _ }
 
-pub retain-fine : (l : Ledger) (m h : ℕ) (t : Row) (run : Read) → m ≤ maxOutputs → Valid t → Fine (rowsE (l .entries)) → RetainedFine l t (retain l m h t run)
+pub retain-fine : (l : Ledger) (m h : ℕ) (t : Row) (run : Read) → m ≤ maxOutputs → Valid t → Fine (rowsE (l .entries))
+    → RetainedFine l t (retain l m h t run)
 unfolding retain
 retain-fine l m h t run k v f = retained-fine l m h t (andThen run (pay (retainReads (l .header .limits) m t (l .entries)))) k v f

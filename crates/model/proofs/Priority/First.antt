@@ -1,13 +1,14 @@
 -- The first half of demand 3, and that no rule is invented, with evictions or without. Assumes nothing.
 use mathlib.Core.Path.{_≡_, refl, sym, _∙_, ap, subst}
 use mathlib.Core.Logic.{_↔_}
-use mathlib.Core.Bool.{Bool, true, false, _&&_, not}
+use mathlib.Core.Bool.{Bool, true, false, _&&_}
 use mathlib.Core.List.{List, [], _∷_}
 use mathlib.Core.Option.{Option, none, some}
 use Prim.Native.Nat.{ℕ, _*_, _<_}
 use native.Mathlib.Omega.{arith}
 use lib.Dec.{T, eqb, leb}
 use lib.ListN.{length}
+use Rattle.lists.proofs.Bools.{not-of}
 use Rattle.words.specs.Region.{Region, atomsOk}
 use Rattle.model.specs.declared.LearningLimits.{LearningLimits}
 use Rattle.model.specs.declared.Header.{Header}
@@ -33,17 +34,18 @@ made-limits l i ss ps h e = go _ refl _ _ e
     tests : List (Bool × ℕ)
     tests = (limitsOk l, 1) ∷ (eqb (length ss) (slotWords * l .«tier_rows») && eqb (length ps) (postingWords * l .«tier_rows»), 2) ∷ []
 
-    go : (o : Option ℕ) → refusal tests ≡ o → (xs ys : List ℕ) → (elim o as (λ k. MakeEnd) [ some n ↦ record { answer = make-answer.Refused n; slots = ss; postings = ps; ticks = 0 } | none ↦ record { answer = make-answer.Made (fresh l i); slots = xs; postings = ys; ticks = 0 } ]) .answer ≡ make-answer.Made h → T (limitsOk l)
+    go : (o : Option ℕ) → refusal tests ≡ o → (xs ys : List ℕ)
+        → (elim o as (λ k. MakeEnd) [
+          | some n ↦ record { answer = make-answer.Refused n; slots = ss; postings = ps; ticks = 0 }
+          | none ↦ record { answer = make-answer.Made (fresh l i); slots = xs; postings = ys; ticks = 0 }
+        ]) .answer ≡ make-answer.Made h
+        → T (limitsOk l)
     go (some n) r xs ys q = absurd (subst IsMade (sym q) tt)
     go none r xs ys q = refusal-cons _ _ _ r .0
 
 atoms-of : (l : LearningLimits) → T (limitsOk l) → T (atomsOk (l .atoms))
 unfolding limitsOk
 atoms-of l t = and-left (atomsOk (l .atoms)) _ t
-
-not-of : (b : Bool) → b ≡ false → T (not b)
-not-of true e = subst (λ (x : Bool). T (not x)) (sym e) tt
-not-of false e = tt
 
 pub first-half : FirstHalf
 unfolding rowsOf
@@ -52,7 +54,8 @@ first-half l m i j ss ps us qs h k cs ds a b e p q =
     let y = run-ok m j us qs k ds b in
     let ca = x .alike (not-of _ p) in
     let cb = y .alike (not-of _ q) in
-    let f = force-iff (l .atoms) (run h (make l i ss ps) cs .taken) (run k (make m j us qs) ds .taken) (atoms-of l (made-limits l i ss ps h a)) (x .over) (subst (λ (n : ℕ). Over n (run k (make m j us qs) ds .taken)) (sym e) (y .over)) in (
+    let f = force-iff (l .atoms) (run h (make l i ss ps) cs .taken) (run k (make m j us qs) ds .taken)
+    (atoms-of l (made-limits l i ss ps h a)) (x .over) (subst (λ (n : ℕ). Over n (run k (make m j us qs) ds .taken)) (sym e) (y .over)) in (
       λ g. let z = f .0 (λ r w o. (
         λ v. covers-forces _ _ (cb .back) r o (g r w o .0 (covers-forces _ _ (ca .there) r o v)),
         λ v. covers-forces _ _ (ca .back) r o (g r w o .1 (covers-forces _ _ (cb .there) r o v)),

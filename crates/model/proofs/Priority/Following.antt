@@ -10,11 +10,12 @@ use Rattle.model.specs.declared.LearningLimits.{LearningLimits}
 use Rattle.model.specs.declared.Header.{Header}
 use Rattle.model.specs.declared.MakeAnswer.{MakeAnswer}
 use Rattle.model.specs.declared.MakeAnswer.the-variants as make-answer
-use Rattle.model.specs.Records.{Row, rowsOf, fresh, header}
+use Rattle.model.specs.Records.{Row, rowsOf, fresh}
 use Rattle.model.specs.Slots.{entriesIn}
 use Rattle.model.specs.Refusals.{Lent, ledgerIn, refusal}
 use Rattle.model.specs.Operations.{MakeEnd, make, offer, hit, begin, candidates, close, seed, deliver}
-use Rattle.model.specs.Calls.{Call, Offer, Hit, Begin, Candidates, Close, SeedAsTier, SeedAsStore, DeliverAsTier, DeliverAsStore, Followed, followed, step, runFrom, run}
+use Rattle.model.specs.Calls.{Call, Offer, Hit, Begin, Candidates, Close, SeedAsTier, SeedAsStore, DeliverAsTier, DeliverAsStore}
+use Rattle.model.specs.Calls.{Followed, followed, step, runFrom, run}
 use Rattle.model.specs.Priority.{Covers}
 use Rattle.model.proofs.Priority.Covering.{rowsE, covers-refl, covers-trans}
 use Rattle.model.proofs.Priority.Retaining.{Alike, alike-refl, alike-trans}
@@ -30,7 +31,8 @@ pub record RunOk (l : LearningLimits) (u : Followed) : Type 0 where
   pub from : Covers (u .taken) (rowsE (ledgerIn (u .ledger) .entries))
   pub counted : Counted (u .evicted) 0 (u .ledger .header .evicted)
 
-follow : (l : LearningLimits) (u : Followed) (s : Lent) (took : List Row) (evicts : Bool) → RunOk l u → StepOk (u .ledger) s took evicts → RunOk l (followed s took evicts u)
+follow : (l : LearningLimits) (u : Followed) (s : Lent) (took : List Row) (evicts : Bool) → RunOk l u → StepOk (u .ledger) s took evicts
+    → RunOk l (followed s took evicts u)
 unfolding followed
 follow l u s took evicts k d = record {
   limits = d .limits ∙ k .limits;
@@ -70,17 +72,37 @@ pub fresh-of : (l : LearningLimits) (i : ℕ) (ss ps : List ℕ) (h : Header) �
 unfolding make
 fresh-of l i ss ps h e = go (refusal _) _ _ e
   where
-    go : (o : Option ℕ) (xs ys : List ℕ) → (elim o as (λ k. MakeEnd) [ some n ↦ record { answer = make-answer.Refused n; slots = ss; postings = ps; ticks = 0 } | none ↦ record { answer = make-answer.Made (fresh l i); slots = xs; postings = ys; ticks = 0 } ]) .answer ≡ make-answer.Made h → h ≡ fresh l i
+    go : (o : Option ℕ) (xs ys : List ℕ)
+        → (elim o as (λ k. MakeEnd) [
+          | some n ↦ record { answer = make-answer.Refused n; slots = ss; postings = ps; ticks = 0 }
+          | none ↦ record { answer = make-answer.Made (fresh l i); slots = xs; postings = ys; ticks = 0 }
+        ]) .answer ≡ make-answer.Made h
+        → h ≡ fresh l i
     go (some n) xs ys q = absurd (subst IsMade (sym q) tt)
     go none xs ys q = sym (ap (λ (a : MakeAnswer). made-header a h) q)
 
-first : (l : LearningLimits) (i : ℕ) (ss ps : List ℕ) → RunOk l (record { ledger = record { header = fresh l i; slots = ss; postings = ps }; taken = []; evicted = false })
+first : (l : LearningLimits) (i : ℕ) (ss ps : List ℕ)
+    → RunOk l (record { ledger = record { header = fresh l i; slots = ss; postings = ps }; taken = []; evicted = false })
 unfolding fresh ledgerIn entriesIn
-first l i ss ps = record { limits = refl; alike = λ t. alike-refl []; over = λ r m. absurd m; from = covers-refl []; counted = none-counted 0 }
+first l i ss ps =
+    record { limits = refl; alike = λ t. alike-refl []; over = λ r m. absurd m; from = covers-refl []; counted = none-counted 0 }
 
-pub run-ok : (l : LearningLimits) (i : ℕ) (ss ps : List ℕ) (h : Header) (cs : List Call) → make l i ss ps .answer ≡ make-answer.Made h → RunOk l (run h (make l i ss ps) cs)
+pub run-ok : (l : LearningLimits) (i : ℕ) (ss ps : List ℕ) (h : Header) (cs : List Call) → make l i ss ps .answer ≡ make-answer.Made h
+    → RunOk l (run h (make l i ss ps) cs)
 unfolding run
 run-ok l i ss ps h cs e = runs-ok l _ cs (start (fresh-of l i ss ps h e))
   where
-    start : h ≡ fresh l i → RunOk l (record { ledger = record { header = h; slots = make l i ss ps .slots; postings = make l i ss ps .postings }; taken = []; evicted = false })
-    start q = subst (λ (k : Header). RunOk l (record { ledger = record { header = k; slots = make l i ss ps .slots; postings = make l i ss ps .postings }; taken = []; evicted = false })) (sym q) (first l i (make l i ss ps .slots) (make l i ss ps .postings))
+    start : h ≡ fresh l i
+        → RunOk l
+        (record {
+          ledger = record { header = h; slots = make l i ss ps .slots; postings = make l i ss ps .postings };
+          taken = [];
+          evicted = false;
+        })
+    start q =
+        subst (λ (k : Header). RunOk l
+        (record {
+          ledger = record { header = k; slots = make l i ss ps .slots; postings = make l i ss ps .postings };
+          taken = [];
+          evicted = false;
+        })) (sym q) (first l i (make l i ss ps .slots) (make l i ss ps .postings))

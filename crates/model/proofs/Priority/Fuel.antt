@@ -10,7 +10,7 @@ use native.Mathlib.Nat.{le-trans, not-suc-le-zero, le-of-suc-le-suc}
 use lib.ListN.{length, drop}
 use lib.Dec.{eqb, leb, ltb}
 use Rattle.lists.specs.Lists.{upTo}
-use Rattle.words.specs.Region.{Region, decide}
+use Rattle.words.specs.Region.{Region, decide, region}
 use Rattle.words.proofs.Regions.{Sound}
 use Rattle.meter.specs.declared.Meter.{Meter}
 use Rattle.meter.specs.declared.Tick.{Tick}
@@ -24,12 +24,14 @@ use Rattle.model.specs.declared.Deduction.the-variants.{Nothing, Force, 
 use Rattle.model.specs.declared.OutputCursor.{OutputCursor}
 use Rattle.model.specs.Records.{Row, Ledger, rowsOf, rowAt, withStale, withFull}
 use Rattle.model.specs.Rows.{groups, packed}
-use Rattle.model.specs.Deduction.{Next, Published, published, pending, loaded, give, scalarNext, packedNext, nextOutput, deduction, deductionTicks, startCursor}
+use Rattle.model.specs.Deduction.{Next, Published, published, pending, loaded, give, scalarNext, packedNext, nextOutput, deduction}
+use Rattle.model.specs.Deduction.{deductionTicks, startCursor}
 use Rattle.model.specs.Deduction as deducing
 use Rattle.model.specs.Postings.{Search, searched, rebuilt, searchTicks, postingsOf, candidates as search}
-use Rattle.model.specs.Closing.{State, Turn, going, conflict, halted, onGoing, withMeter, withHeader, counted, decideOn, publish, obey, act, round, decidedSince, rounds, closing}
+use Rattle.model.specs.Closing.{State, Turn, going, conflict, halted, onGoing, withMeter, withHeader, counted, decideOn, publish}
+use Rattle.model.specs.Closing.{obey, act, round, decidedSince, rounds, closing}
 use Rattle.model.specs.Refusals.{Lent, ledgerIn, refusal, accepts}
-use Rattle.model.specs.Operations.{CloseEnd, closeEnd, close, region, regionOk}
+use Rattle.model.specs.Operations.{CloseEnd, closeEnd, close, regionOk}
 use Rattle.model.specs.Priority.{In}
 use Rattle.model.proofs.Packing.{Asc}
 use Rattle.model.proofs.Priority.Covering.{rowsE}
@@ -38,28 +40,34 @@ use Rattle.model.proofs.Priority.Steps.{opt-elim, accepted, refusal-con
 use Rattle.model.proofs.Priority.Cursors.{Good, Gives as Given, next-gives}
 use Rattle.model.proofs.Priority.Reaching.{After, Left, Resting}
 use Rattle.model.proofs.Priority.Ends.{region-ok, atoms-in}
-use Rattle.model.proofs.Priority.Rounds.{OnGoing, on-map, on-eq, opens, opens-less, opens-le, Step, self, Decides, decide-step, Rounded, round-step}
+use Rattle.model.proofs.Priority.Rounds.{OnGoing, on-map, on-eq, opens, opens-less, opens-le, Step, self, Decides, decide-step}
+use Rattle.model.proofs.Priority.Rounds.{Rounded, round-step}
 
 -- ---- more fuel changes nothing
 module _ (n : ℕ) (rows : List Row) (fine : Fine rows) where
-  pub publish-fuel : (f g : ℕ) (r : Row) (w : Resting r) (k : OutputCursor) (s : State) → Asc 0 (r .outputs) → Good r k → Step n rows fine s s → length (w .rest k) < f → length (w .rest k) < g
+  pub publish-fuel : (f g : ℕ) (r : Row) (w : Resting r) (k : OutputCursor) (s : State) → Asc 0 (r .outputs) → Good r k
+      → Step n rows fine s s → length (w .rest k) < f → length (w .rest k) < g
       → publish f n r k s ≡ publish g n r k s
   unfolding publish withMeter
   publish-fuel zero g r w k s a o i h l = absurd (not-suc-le-zero h)
   publish-fuel (suc f) zero r w k s a o i h l = absurd (not-suc-le-zero l)
   publish-fuel (suc f) (suc g) r w k s a o i h l =
-      go (nextOutput (s .region) r k (s .meter)) (next-gives (s .region) r k (s .meter) a o) (w .turn (s .region) k (s .meter) o) (λ x t y j b c. publish-fuel f g r w x t a y j b c)
+      go (nextOutput (s .region) r k (s .meter)) (next-gives (s .region) r k (s .meter) a o) (w .turn (s .region) k (s .meter) o)
+      (λ x t y j b c. publish-fuel f g r w x t a y j b c)
     where
       go : (x : Published) → Given r x → Left (w .rest) (s .region) (w .rest k) x
-          → ((x : OutputCursor) (t : State) → Good r x → Step n rows fine t t → length (w .rest x) < f → length (w .rest x) < g → publish f n r x t ≡ publish g n r x t)
+          → ((x : OutputCursor) (t : State) → Good r x → Step n rows fine t t → length (w .rest x) < f → length (w .rest x) < g
+          → publish f n r x t ≡ publish g n r x t)
           → _≡_ {A = Turn} (elim (x .next) as (λ z. Turn) [
             | deducing.stopped ↦ halted (record { ledger = s .ledger; region = s .region; meter = x .meter })
             | deducing.end ↦ going (record { ledger = s .ledger; region = s .region; meter = x .meter })
-            | deducing.output c ↦ onGoing (decideOn n c (record { ledger = s .ledger; region = s .region; meter = x .meter })) (publish f n r (x .cursor))
+            | deducing.output c ↦ onGoing (decideOn n c (record { ledger = s .ledger; region = s .region; meter = x .meter }))
+                (publish f n r (x .cursor))
           ]) (elim (x .next) as (λ z. Turn) [
             | deducing.stopped ↦ halted (record { ledger = s .ledger; region = s .region; meter = x .meter })
             | deducing.end ↦ going (record { ledger = s .ledger; region = s .region; meter = x .meter })
-            | deducing.output c ↦ onGoing (decideOn n c (record { ledger = s .ledger; region = s .region; meter = x .meter })) (publish g n r (x .cursor))
+            | deducing.output c ↦ onGoing (decideOn n c (record { ledger = s .ledger; region = s .region; meter = x .meter }))
+                (publish g n r (x .cursor))
           ])
       go x y v ih = by (x .next) (v .after)
         where
@@ -67,46 +75,68 @@ module _ (n : ℕ) (rows : List Row) (fine : Fine rows) where
           t = record { ledger = s .ledger; region = s .region; meter = x .meter }
 
           by : (z : Next) → After (s .region) (w .rest k) z (w .rest (x .cursor))
-              → _≡_ {A = Turn} (elim z as (λ z. Turn) [ deducing.stopped ↦ halted t | deducing.end ↦ going t | deducing.output c ↦ onGoing (decideOn n c t) (publish f n r (x .cursor)) ])
-              (elim z as (λ z. Turn) [ deducing.stopped ↦ halted t | deducing.end ↦ going t | deducing.output c ↦ onGoing (decideOn n c t) (publish g n r (x .cursor)) ])
+              → _≡_ {A = Turn} (elim z as (λ z. Turn) [
+                | deducing.stopped ↦ halted t
+                | deducing.end ↦ going t
+                | deducing.output c ↦ onGoing (decideOn n c t) (publish f n r (x .cursor))
+              ])
+              (elim z as (λ z. Turn) [
+                | deducing.stopped ↦ halted t
+                | deducing.end ↦ going t
+                | deducing.output c ↦ onGoing (decideOn n c t) (publish g n r (x .cursor))
+              ])
           by deducing.stopped e = refl
           by deducing.end e = refl
           by (deducing.output c) e =
               on-eq (decideOn n c t) (publish f n r (x .cursor)) (publish g n r (x .cursor))
               (on-map (Decides n rows fine c t) (λ u. publish f n r (x .cursor) u ≡ publish g n r (x .cursor) u) (decideOn n c t)
-              (λ u d. ih (x .cursor) u (y .cursor) (self n rows fine t u (d .0)) (le-trans (e .1) (le-of-suc-le-suc h)) (le-trans (e .1) (le-of-suc-le-suc l)))
+              (λ u d. ih (x .cursor) u (y .cursor) (self n rows fine t u (d .0)) (le-trans (e .1) (le-of-suc-le-suc h))
+              (le-trans (e .1) (le-of-suc-le-suc l)))
               (decide-step n rows fine c t (record { sound = i .sound; grown = λ y h. h; same = i .same })))
 
-  pub rounds-fuel : (f g : ℕ) (as′ : List ℕ) (s : State) → Step n rows fine s s → opens n (s .region) < f → opens n (s .region) < g → rounds f n as′ s ≡ rounds g n as′ s
+  pub rounds-fuel : (f g : ℕ) (as′ : List ℕ) (s : State) → Step n rows fine s s → opens n (s .region) < f → opens n (s .region) < g
+      → rounds f n as′ s ≡ rounds g n as′ s
   unfolding rounds withMeter withHeader
   rounds-fuel zero g as′ s i h k = absurd (not-suc-le-zero h)
   rounds-fuel (suc f) zero as′ s i h k = absurd (not-suc-le-zero k)
   rounds-fuel (suc f) (suc g) as′ s i h k = go (search (s .ledger) as′ (s .meter) .found) (λ bs u j a b. rounds-fuel f g bs u j a b)
     where
       t : State
-      t = record { ledger = record { header = search (s .ledger) as′ (s .meter) .header; entries = s .ledger .entries }; region = s .region; meter = search (s .ledger) as′ (s .meter) .meter }
+      t =
+          record {
+            ledger = record { header = search (s .ledger) as′ (s .meter) .header; entries = s .ledger .entries };
+            region = s .region;
+            meter = search (s .ledger) as′ (s .meter) .meter;
+          }
 
       next : ℕ → State → Turn
       next fuel u = elim (decidedSince n (s .region) (u .region)) as (λ k. Turn) [ [] ↦ going u | a ∷ bs ↦ rounds fuel n (a ∷ bs) u ]
 
       go : (o : Option (List ℕ))
-          → ((bs : List ℕ) (u : State) → Step n rows fine u u → opens n (u .region) < f → opens n (u .region) < g → rounds f n bs u ≡ rounds g n bs u)
-          → _≡_ {A = Turn} (elim o as (λ k. Turn) [ none ↦ halted t | some ps ↦ onGoing (round n ps t) (next f) ]) (elim o as (λ k. Turn) [ none ↦ halted t | some ps ↦ onGoing (round n ps t) (next g) ])
+          → ((bs : List ℕ) (u : State) → Step n rows fine u u → opens n (u .region) < f → opens n (u .region) < g
+          → rounds f n bs u ≡ rounds g n bs u)
+          → _≡_ {A = Turn} (elim o as (λ k. Turn) [ none ↦ halted t | some ps ↦ onGoing (round n ps t) (next f) ])
+          (elim o as (λ k. Turn) [ none ↦ halted t | some ps ↦ onGoing (round n ps t) (next g) ])
       go none ih = refl
       go (some ps) ih =
-          on-eq (round n ps t) (next f) (next g) (on-map (Rounded n rows fine ps t) (λ u. next f u ≡ next g u) (round n ps t) (λ u w. by u (w .0) (decidedSince n (s .region) (u .region)) refl)
+          on-eq (round n ps t) (next f) (next g)
+          (on-map (Rounded n rows fine ps t) (λ u. next f u ≡ next g u) (round n ps t)
+          (λ u w. by u (w .0) (decidedSince n (s .region) (u .region)) refl)
           (round-step n rows fine ps t (record { sound = i .sound; grown = λ y h. h; same = i .same })))
         where
           by : (u : State) → Step n rows fine t u → (d : List ℕ) → decidedSince n (s .region) (u .region) ≡ d
-              → _≡_ {A = Turn} (elim d as (λ k. Turn) [ [] ↦ going u | a ∷ bs ↦ rounds f n (a ∷ bs) u ]) (elim d as (λ k. Turn) [ [] ↦ going u | a ∷ bs ↦ rounds g n (a ∷ bs) u ])
+              → _≡_ {A = Turn} (elim d as (λ k. Turn) [ [] ↦ going u | a ∷ bs ↦ rounds f n (a ∷ bs) u ])
+              (elim d as (λ k. Turn) [ [] ↦ going u | a ∷ bs ↦ rounds g n (a ∷ bs) u ])
           by u w [] e = refl
           by u w (a ∷ bs) e =
-              let l : opens n (u .region) < opens n (s .region) = opens-less n (s .region) (u .region) a (w .grown) (subst (In a) (sym e) (inl refl)) in
+              let l : opens n (u .region) < opens n (s .region) =
+              opens-less n (s .region) (u .region) a (w .grown) (subst (In a) (sym e) (inl refl)) in
               ih (a ∷ bs) u (self n rows fine t u w) (le-trans l (le-of-suc-le-suc h)) (le-trans l (le-of-suc-le-suc k))
 
   -- any fuel above the number of atoms gives the closing
   pub closing-fuel : (f : ℕ) (s : State) → Step n rows fine s s → n < f → rounds f n [] s ≡ rounds (suc n) n [] s
-  closing-fuel f s i h = rounds-fuel f (suc n) [] s i (le-trans (suc-le-suc (opens-le n (s .region))) h) (suc-le-suc (opens-le n (s .region)))
+  closing-fuel f s i h =
+      rounds-fuel f (suc n) [] s i (le-trans (suc-le-suc (opens-le n (s .region))) h) (suc-le-suc (opens-le n (s .region)))
 
 -- ---- a meter that makes no tick more
 abbrev pub Spent : Meter → Type 0
@@ -120,7 +150,8 @@ tick-spent : (m : Meter) → TickOk (tickOf m)
 unfolding tickOf
 tick-spent m = go (ltb (m .charged) (m .limit)) refl
   where
-    go : (b : Bool) → ltb (m .charged) (m .limit) ≡ b → TickOk (pick b (Ticked (record { charged = m .charged + 1; limit = m .limit })) (Stopped m))
+    go : (b : Bool) → ltb (m .charged) (m .limit) ≡ b
+        → TickOk (pick b (Ticked (record { charged = m .charged + 1; limit = m .limit })) (Stopped m))
     go true e = tt
     go false e = ap (λ (b : Bool). pick b (Ticked (record { charged = m .charged + 1; limit = m .limit })) (Stopped m)) e
 
@@ -165,12 +196,19 @@ packed-stop q [] k m = go (pending k)
     go (c ∷ cs) = give-stop c cs k (tickOf m) (tick-spent m)
 packed-stop q (b ∷ gs) k m = go (pending k) (λ l n. packed-stop q gs l n)
   where
-    ticking : (t : Tick) → TickOk t → ((l : OutputCursor) (n : Meter) → Stops (packedNext q gs l n)) → Stops (elim t as (λ z. Published) [ Stopped n ↦ published deducing.stopped k n | Ticked n ↦ packedNext q gs (loaded q b k) n ])
+    ticking : (t : Tick) → TickOk t → ((l : OutputCursor) (n : Meter) → Stops (packedNext q gs l n))
+        → Stops (elim t as (λ z. Published) [ Stopped n ↦ published deducing.stopped k n | Ticked n ↦ packedNext q gs (loaded q b k) n ])
     ticking (Stopped n) o ih = stops deducing.stopped k n o
     ticking (Ticked n) o ih = ih (loaded q b k) n
 
     go : (l : List ℕ) → ((l : OutputCursor) (n : Meter) → Stops (packedNext q gs l n))
-        → Stops (elim l as (λ z. Published) [ [] ↦ elim (tickOf m) [ Stopped n ↦ published deducing.stopped k n | Ticked n ↦ packedNext q gs (loaded q b k) n ] | c ∷ cs ↦ give c cs k (tickOf m) ])
+        → Stops (elim l as (λ z. Published) [
+          | [] ↦ elim (tickOf m) [
+            | Stopped n ↦ published deducing.stopped k n
+            | Ticked n ↦ packedNext q gs (loaded q b k) n
+          ]
+          | c ∷ cs ↦ give c cs k (tickOf m)
+        ])
     go [] ih = ticking (tickOf m) (tick-spent m) ih
     go (c ∷ cs) ih = give-stop c cs k (tickOf m) (tick-spent m)
 
@@ -178,7 +216,11 @@ next-stop : (q : Region) (r : Row) (k : OutputCursor) (m : Meter) → Stops (nex
 unfolding nextOutput
 next-stop q r k m = form (packed r) (leb (length (r .outputs)) (k .next))
   where
-    form : (a b : Bool) → Stops (elim a as (λ z. Published) [ true ↦ packedNext q (drop (k .next) (groups (r .outputs))) k m | false ↦ elim b as (λ z. Published) [ true ↦ published deducing.end k m | false ↦ scalarNext (r .outputs) k (tickOf m) ] ])
+    form : (a b : Bool)
+        → Stops (elim a as (λ z. Published) [
+          | true ↦ packedNext q (drop (k .next) (groups (r .outputs))) k m
+          | false ↦ elim b as (λ z. Published) [ true ↦ published deducing.end k m | false ↦ scalarNext (r .outputs) k (tickOf m) ]
+        ])
     form true b = packed-stop q (drop (k .next) (groups (r .outputs))) k m
     form false true = stops deducing.end k m tt
     form false false = scalar-stop (r .outputs) k (tickOf m) (tick-spent m)
@@ -199,7 +241,8 @@ searched-finds h ps as′ (Ticked m) o = record { find = tt }
 rebuilt-finds : (h : Header) (ps as′ : List ℕ) (t : Tick) → TickOk t → Finds (rebuilt h ps as′ t)
 unfolding rebuilt
 rebuilt-finds h ps as′ (Stopped m) o = record { find = o }
-rebuilt-finds h ps as′ (Ticked m) o = searched-finds (withStale h false) ps as′ (ticks (searchTicks ps as′) m) (ticks-spent (searchTicks ps as′) m)
+rebuilt-finds h ps as′ (Ticked m) o =
+    searched-finds (withStale h false) ps as′ (ticks (searchTicks ps as′) m) (ticks-spent (searchTicks ps as′) m)
 
 search-finds : (l : Ledger) (as′ : List ℕ) (m : Meter) → Finds (search l as′ m)
 unfolding search
@@ -225,7 +268,8 @@ Halts (going s) = Unit {0}
 Halts (conflict s) = Unit {0}
 Halts (halted s) = Spent (s .meter)
 
-halts-on : (P : State → Type 0) (t : Turn) (k : State → Turn) → Halts t → OnGoing P t → ((s : State) → P s → Halts (k s)) → Halts (onGoing t k)
+halts-on : (P : State → Type 0) (t : Turn) (k : State → Turn) → Halts t → OnGoing P t → ((s : State) → P s → Halts (k s))
+    → Halts (onGoing t k)
 unfolding onGoing
 halts-on P (going s) k h p f = f s p
 halts-on P (conflict s) k h p f = tt
@@ -246,22 +290,32 @@ decide-halts n c s = opt-elim Halts (decide n (s .region) c) _ _ (λ e. tt) (λ 
 publish-halts : (fuel n : ℕ) (r : Row) (k : OutputCursor) (s : State) → Halts (publish fuel n r k s)
 unfolding publish withMeter
 publish-halts zero n r k s = tt
-publish-halts (suc fuel) n r k s = go (nextOutput (s .region) r k (s .meter)) (next-stop (s .region) r k (s .meter)) (λ l t. publish-halts fuel n r l t)
+publish-halts (suc fuel) n r k s =
+    go (nextOutput (s .region) r k (s .meter)) (next-stop (s .region) r k (s .meter)) (λ l t. publish-halts fuel n r l t)
   where
-    go : (x : Published) → Stops x → ((l : OutputCursor) (t : State) → Halts (publish fuel n r l t)) → Halts (elim (x .next) as (λ z. Turn) [
-      | deducing.stopped ↦ halted (record { ledger = s .ledger; region = s .region; meter = x .meter })
-      | deducing.end ↦ going (record { ledger = s .ledger; region = s .region; meter = x .meter })
-      | deducing.output c ↦ onGoing (decideOn n c (record { ledger = s .ledger; region = s .region; meter = x .meter })) (publish fuel n r (x .cursor))
-    ])
+    go : (x : Published) → Stops x → ((l : OutputCursor) (t : State) → Halts (publish fuel n r l t))
+        → Halts (elim (x .next) as (λ z. Turn) [
+          | deducing.stopped ↦ halted (record { ledger = s .ledger; region = s .region; meter = x .meter })
+          | deducing.end ↦ going (record { ledger = s .ledger; region = s .region; meter = x .meter })
+          | deducing.output c ↦ onGoing (decideOn n c (record { ledger = s .ledger; region = s .region; meter = x .meter }))
+              (publish fuel n r (x .cursor))
+        ])
     go x o ih = by (x .next) (o .stop)
       where
         t : State
         t = record { ledger = s .ledger; region = s .region; meter = x .meter }
 
-        by : (z : Next) → StopOk z (x .meter) → Halts (elim z as (λ z. Turn) [ deducing.stopped ↦ halted t | deducing.end ↦ going t | deducing.output c ↦ onGoing (decideOn n c t) (publish fuel n r (x .cursor)) ])
+        by : (z : Next) → StopOk z (x .meter)
+            → Halts (elim z as (λ z. Turn) [
+              | deducing.stopped ↦ halted t
+              | deducing.end ↦ going t
+              | deducing.output c ↦ onGoing (decideOn n c t) (publish fuel n r (x .cursor))
+            ])
         by deducing.stopped e = e
         by deducing.end e = tt
-        by (deducing.output c) e = halts-on Any (decideOn n c t) (publish fuel n r (x .cursor)) (decide-halts n c t) (on-any (decideOn n c t)) (λ u w. ih (x .cursor) u)
+        by (deducing.output c) e =
+            halts-on Any (decideOn n c t) (publish fuel n r (x .cursor)) (decide-halts n c t) (on-any (decideOn n c t))
+            (λ u w. ih (x .cursor) u)
 
 obey-halts : (n p : ℕ) (r : Row) (d : Deduction) (s : State) → Halts (obey n p r d s)
 unfolding obey
@@ -271,14 +325,19 @@ obey-halts n p r (Require c) s = decide-halts n (c .0) (counted p s)
 
 act-halts : (n p : ℕ) (s : State) → Halts (act n p s)
 unfolding act withMeter
-act-halts n p s = go (ticks (deductionTicks (s .region) (rowAt p (s .ledger))) (s .meter)) (ticks-spent (deductionTicks (s .region) (rowAt p (s .ledger))) (s .meter))
+act-halts n p s =
+    go (ticks (deductionTicks (s .region) (rowAt p (s .ledger))) (s .meter))
+    (ticks-spent (deductionTicks (s .region) (rowAt p (s .ledger))) (s .meter))
   where
     go : (t : Tick) → TickOk t → Halts (elim t as (λ k. Turn) [
       | Stopped m ↦ halted (record { ledger = s .ledger; region = s .region; meter = m })
-      | Ticked m ↦ obey n p (rowAt p (s .ledger)) (deduction (s .region) (rowAt p (s .ledger))) (record { ledger = s .ledger; region = s .region; meter = m })
+      | Ticked m ↦ obey n p (rowAt p (s .ledger)) (deduction (s .region) (rowAt p (s .ledger)))
+          (record { ledger = s .ledger; region = s .region; meter = m })
     ])
     go (Stopped m) o = o
-    go (Ticked m) o = obey-halts n p (rowAt p (s .ledger)) (deduction (s .region) (rowAt p (s .ledger))) (record { ledger = s .ledger; region = s .region; meter = m })
+    go (Ticked m) o =
+        obey-halts n p (rowAt p (s .ledger)) (deduction (s .region) (rowAt p (s .ledger)))
+        (record { ledger = s .ledger; region = s .region; meter = m })
 
 round-halts : (n : ℕ) (ps : List ℕ) (s : State) → Halts (round n ps s)
 unfolding round
@@ -289,12 +348,19 @@ module _ (n : ℕ) (rows : List Row) (fine : Fine rows) where
   pub rounds-halts : (fuel : ℕ) (as′ : List ℕ) (s : State) → Step n rows fine s s → opens n (s .region) < fuel → Halts (rounds fuel n as′ s)
   unfolding rounds withMeter withHeader
   rounds-halts zero as′ s i h = absurd (not-suc-le-zero h)
-  rounds-halts (suc fuel) as′ s i h = go (search (s .ledger) as′ (s .meter)) (search-finds (s .ledger) as′ (s .meter)) (λ bs u j l. rounds-halts fuel bs u j l)
+  rounds-halts (suc fuel) as′ s i h =
+      go (search (s .ledger) as′ (s .meter)) (search-finds (s .ledger) as′ (s .meter)) (λ bs u j l. rounds-halts fuel bs u j l)
     where
-      go : (x : Search) → Finds x → ((bs : List ℕ) (u : State) → Step n rows fine u u → opens n (u .region) < fuel → Halts (rounds fuel n bs u))
+      go : (x : Search) → Finds x
+          → ((bs : List ℕ) (u : State) → Step n rows fine u u → opens n (u .region) < fuel → Halts (rounds fuel n bs u))
           → Halts (elim (x .found) as (λ k. Turn) [
-            | none ↦ halted (record { ledger = record { header = x .header; entries = s .ledger .entries }; region = s .region; meter = x .meter })
-            | some ps ↦ onGoing (round n ps (record { ledger = record { header = x .header; entries = s .ledger .entries }; region = s .region; meter = x .meter })) (λ u. elim (decidedSince n (s .region) (u .region)) as (λ k. Turn) [ [] ↦ going u | a ∷ bs ↦ rounds fuel n (a ∷ bs) u ])
+            | none
+                ↦ halted
+                (record { ledger = record { header = x .header; entries = s .ledger .entries }; region = s .region; meter = x .meter })
+            | some ps
+                ↦ onGoing (round n ps
+                (record { ledger = record { header = x .header; entries = s .ledger .entries }; region = s .region; meter = x .meter }))
+                (λ u. elim (decidedSince n (s .region) (u .region)) as (λ k. Turn) [ [] ↦ going u | a ∷ bs ↦ rounds fuel n (a ∷ bs) u ])
           ])
       go x o ih = by (x .found) (o .find)
         where
@@ -304,21 +370,31 @@ module _ (n : ℕ) (rows : List Row) (fine : Fine rows) where
           next : State → Turn
           next u = elim (decidedSince n (s .region) (u .region)) as (λ k. Turn) [ [] ↦ going u | a ∷ bs ↦ rounds fuel n (a ∷ bs) u ]
 
-          after : (u : State) → Step n rows fine t u → (d : List ℕ) → decidedSince n (s .region) (u .region) ≡ d → Halts (elim d as (λ k. Turn) [ [] ↦ going u | a ∷ bs ↦ rounds fuel n (a ∷ bs) u ])
+          after : (u : State) → Step n rows fine t u → (d : List ℕ) → decidedSince n (s .region) (u .region) ≡ d
+              → Halts (elim d as (λ k. Turn) [ [] ↦ going u | a ∷ bs ↦ rounds fuel n (a ∷ bs) u ])
           after u w [] e = tt
-          after u w (a ∷ bs) e = ih (a ∷ bs) u (self n rows fine t u w) (le-trans (opens-less n (s .region) (u .region) a (w .grown) (subst (In a) (sym e) (inl refl))) (le-of-suc-le-suc h))
+          after u w (a ∷ bs) e =
+              ih (a ∷ bs) u (self n rows fine t u w)
+              (le-trans (opens-less n (s .region) (u .region) a (w .grown) (subst (In a) (sym e) (inl refl))) (le-of-suc-le-suc h))
 
-          by : (f : Option (List ℕ)) → FindOk f (x .meter) → Halts (elim f as (λ k. Turn) [ none ↦ halted t | some ps ↦ onGoing (round n ps t) next ])
+          by : (f : Option (List ℕ)) → FindOk f (x .meter)
+              → Halts (elim f as (λ k. Turn) [ none ↦ halted t | some ps ↦ onGoing (round n ps t) next ])
           by none e = e
           by (some ps) e =
-              halts-on (Rounded n rows fine ps t) (round n ps t) next (round-halts n ps t) (round-step n rows fine ps t (record { sound = i .sound; grown = λ y h. h; same = i .same }))
+              halts-on (Rounded n rows fine ps t) (round n ps t) next (round-halts n ps t)
+              (round-step n rows fine ps t (record { sound = i .sound; grown = λ y h. h; same = i .same }))
               (λ u w. after u (w .0) (decidedSince n (s .region) (u .region)) refl)
 
-  pub closing-halts : (l : Ledger) (r : Region) (m : Meter) → l .header .limits .atoms ≡ n → rowsE (l .entries) ≡ rows → Sound n r → Halts (closing l r m)
+  pub closing-halts : (l : Ledger) (r : Region) (m : Meter) → l .header .limits .atoms ≡ n → rowsE (l .entries) ≡ rows → Sound n r
+      → Halts (closing l r m)
   unfolding closing
   closing-halts l r m e q s =
-      subst (λ (k : ℕ). Halts (rounds (suc k) k [] (record { ledger = record { header = withFull (l .header) true; entries = l .entries }; region = r; meter = m }))) (sym e)
-      (rounds-halts (suc n) [] (record { ledger = record { header = withFull (l .header) true; entries = l .entries }; region = r; meter = m }) (record { sound = s; grown = λ x t. t; same = q }) (suc-le-suc (opens-le n r)))
+      subst (λ (k : ℕ). Halts
+      (rounds (suc k) k []
+      (record { ledger = record { header = withFull (l .header) true; entries = l .entries }; region = r; meter = m }))) (sym e)
+      (rounds-halts (suc n) []
+      (record { ledger = record { header = withFull (l .header) true; entries = l .entries }; region = r; meter = m })
+      (record { sound = s; grown = λ x t. t; same = q }) (suc-le-suc (opens-le n r)))
 
 -- ---- Close answers Stopped only on a spent meter
 abbrev IsStopped : CloseAnswer → Type 0
@@ -328,29 +404,55 @@ IsStopped close-answer.Conflict = ⊥
 IsStopped close-answer.Closed = ⊥
 
 turn-spent : (x y : List ℕ) (m : Meter) (t : Turn) → Halts t
-    → (elim t as (λ k. CloseEnd) [ going u ↦ closeEnd close-answer.Closed u x y m | conflict u ↦ closeEnd close-answer.Conflict u x y m | halted u ↦ closeEnd close-answer.Stopped u x y m ]) .answer ≡ close-answer.Stopped
-    → Spent ((elim t as (λ k. CloseEnd) [ going u ↦ closeEnd close-answer.Closed u x y m | conflict u ↦ closeEnd close-answer.Conflict u x y m | halted u ↦ closeEnd close-answer.Stopped u x y m ]) .meter)
+    → (elim t as (λ k. CloseEnd) [
+      | going u ↦ closeEnd close-answer.Closed u x y m
+      | conflict u ↦ closeEnd close-answer.Conflict u x y m
+      | halted u ↦ closeEnd close-answer.Stopped u x y m
+    ]) .answer ≡ close-answer.Stopped
+    → Spent
+    ((elim t as (λ k. CloseEnd) [
+      | going u ↦ closeEnd close-answer.Closed u x y m
+      | conflict u ↦ closeEnd close-answer.Conflict u x y m
+      | halted u ↦ closeEnd close-answer.Stopped u x y m
+    ]) .meter)
 unfolding closeEnd
 turn-spent x y m (going u) i e = absurd (subst IsStopped (sym e) tt)
 turn-spent x y m (conflict u) i e = absurd (subst IsStopped (sym e) tt)
 turn-spent x y m (halted u) i e = i
 
-pub close-stopped : (s : Lent) (held cut x y : List ℕ) (m : Meter) → close s held cut x y m .answer ≡ close-answer.Stopped → Spent (close s held cut x y m .meter)
+pub close-stopped : (s : Lent) (held cut x y : List ℕ) (m : Meter) → close s held cut x y m .answer ≡ close-answer.Stopped
+    → Spent (close s held cut x y m .meter)
 unfolding close
 close-stopped s held cut x y m = go (refusal tests) refl
   where
     tests : List (Bool × ℕ)
-    tests = accepts s (eqb (length x) (s .header .limits .«tier_rows») && eqb (length y) (s .header .limits .atoms)) ((regionOk s held cut, 6) ∷ [])
+    tests =
+        accepts s (eqb (length x) (s .header .limits .«tier_rows») && eqb (length y) (s .header .limits .atoms))
+        ((regionOk s held cut, 6) ∷ [])
 
     ending : Option ℕ → CloseEnd
     ending o = elim o as (λ k. CloseEnd) [
-      | some n ↦ record { answer = close-answer.Refused n; ledger = s; region = region held cut; rowScratch = x; atomScratch = y; meter = m; ticks = 0 }
-      | none ↦ elim (closing (ledgerIn s) (region held cut) m) [ going t ↦ closeEnd close-answer.Closed t x y m | conflict t ↦ closeEnd close-answer.Conflict t x y m | halted t ↦ closeEnd close-answer.Stopped t x y m ]
+      | some n ↦ record {
+        answer = close-answer.Refused n;
+        ledger = s;
+        region = region held cut;
+        rowScratch = x;
+        atomScratch = y;
+        meter = m;
+        ticks = 0;
+      }
+      | none ↦ elim (closing (ledgerIn s) (region held cut) m) [
+        | going t ↦ closeEnd close-answer.Closed t x y m
+        | conflict t ↦ closeEnd close-answer.Conflict t x y m
+        | halted t ↦ closeEnd close-answer.Stopped t x y m
+      ]
     ]
 
     go : (o : Option ℕ) → refusal tests ≡ o → ending o .answer ≡ close-answer.Stopped → Spent (ending o .meter)
     go (some k) e q = absurd (subst IsStopped (sym q) tt)
     go none e q =
-        let a = accepted s (eqb (length x) (s .header .limits .«tier_rows») && eqb (length y) (s .header .limits .atoms)) ((regionOk s held cut, 6) ∷ []) e in
+        let a = accepted s (eqb (length x) (s .header .limits .«tier_rows») && eqb (length y) (s .header .limits .atoms))
+        ((regionOk s held cut, 6) ∷ []) e in
         turn-spent x y m (closing (ledgerIn s) (region held cut) m)
-        (closing-halts (s .header .limits .atoms) (rowsE (ledgerIn s .entries)) (fine-in s (a .0)) (ledgerIn s) (region held cut) m (atoms-in s) refl (region-ok s held cut (refusal-cons (regionOk s held cut) 6 [] (a .1) .0))) q
+        (closing-halts (s .header .limits .atoms) (rowsE (ledgerIn s .entries)) (fine-in s (a .0)) (ledgerIn s) (region held cut) m
+        (atoms-in s) refl (region-ok s held cut (refusal-cons (regionOk s held cut) 6 [] (a .1) .0))) q

@@ -10,6 +10,7 @@ use native.Mathlib.Omega.{arith}
 use lib.Dec.{T, eqb, leb, ltb, le→leb, leb→le, eqb→eq, ltb→lt}
 use lib.ListN.{length}
 use Rattle.lists.specs.Lists.{all, adjust, ascending, above, below, same}
+use Rattle.lists.proofs.Bools.{T-true, T-of}
 use Rattle.words.specs.Literal.{atom}
 use Rattle.words.specs.Region.{Region, decide, atomsOk}
 use Rattle.meter.specs.declared.Meter.{Meter}
@@ -18,14 +19,21 @@ use Rattle.meter.specs.declared.Tick.the-variants.{Ticked, Stopped}
 use Rattle.meter.specs.Meter.{tickOf, ticks, pay, made}
 use Rattle.model.specs.declared.LearningLimits.{LearningLimits}
 use Rattle.model.specs.declared.Header.{Header}
-use Rattle.model.specs.Records.{Row, Entry, Ledger, rowsOf, rowAt, isRow, isRowOver, within, limitsOk, literals, plus, header, withRows, withStale, withFull, attempted, withAccount, withMark, withDeliveries, withSeeded, withHits, hitEntry, withDelivered}
+use Rattle.model.specs.Records.{Row, Entry, Ledger, rowsOf, rowAt, isRow, isRowOver, within, limitsOk, literals, saturatingAdd}
+use Rattle.model.specs.Records.{withRows}
+use Rattle.model.specs.Records.{withStale, withFull, attempted, withAccount, withMark, withDeliveries, withSeeded, withHits, hitEntry}
+use Rattle.model.specs.Records.{withDelivered}
 use Rattle.model.specs.Slots.{slotsOf, entriesIn}
-use Rattle.model.specs.Retention.{Retained, Outcome, Stops, Declines, Subsumes, Adds, retain, canCapture}
-use Rattle.model.specs.Transfers.{Transfer, Delivery, Reach, starting, ticked, receive, received, changeAt, seedRows, markFor, seeding, marked, seededTier, seededStore, passesOver, front, deliverRows, delivering, deliveredTier, deliveredStore}
+use Rattle.model.specs.Retention.{Retention, Outcome, Stops, Declines, Subsumes, Adds, retain, canCapture}
+use Rattle.model.specs.Transfers.{Transfer, Delivery, Progress, starting, ticked, receive, received, changeAt, seedRows, markFor}
+use Rattle.model.specs.Transfers.{seeding, marked, seededTier, seededStore, passesOver, front, deliverRows, delivering, deliveredTier}
+use Rattle.model.specs.Transfers.{deliveredStore}
 use Rattle.model.specs.Transfers as transfers
 use Rattle.model.specs.Refusals.{Lent, refusal, ledgerIn, lentOf, lengthsOk, entryOk, countsOk, wordsOk, contentsOk, accepts}
-use Rattle.model.specs.Operations.{OfferEnd, unoffered, capture, fitsOffer, offer, positionOk, hit, begin, TransferEnd, transferRefusal, untransferred, transferEnd, seed, deliver}
-use Rattle.model.specs.Closing.{State, Turn, going, conflict, halted, onGoing, withMeter, withHeader, hitAt, counted, decideOn, publish, obey, act, round, decidedSince, rounds, closing}
+use Rattle.model.specs.Operations.{OfferEnd, unoffered, capture, fitsOffer, offer, positionOk, hit, begin, TransferEnd}
+use Rattle.model.specs.Operations.{transferRefusal, untransferred, transferEnd, seed, deliver}
+use Rattle.model.specs.Closing.{State, Turn, going, conflict, halted, onGoing, withMeter, withHeader, hitAt, counted, decideOn}
+use Rattle.model.specs.Closing.{publish, obey, act, round, decidedSince, rounds, closing}
 use Rattle.model.specs.Priority.{In, Gives, Covers}
 use Rattle.model.proofs.Cover.{and-left, and-right}
 use Rattle.model.proofs.Packing.{Asc}
@@ -33,7 +41,9 @@ use Rattle.model.proofs.Slots.{Valid, valid-of, AllValid, decode-encode
 use Rattle.model.proofs.Priority.Covering.{rowsE, Cov}
 use Rattle.model.proofs.Priority.Retaining.{Alike, alike-refl, alike-trans, RetainedOk, retain-ok}
 use Rattle.model.proofs.Priority.Fine.{Fine, RetainedFine, retain-fine}
-use Rattle.model.proofs.Priority.Steps.{if-elim, opt-elim, tick-elim, out-elim, alike-app, app-assoc, nor-left, nor-right, Over, over-app, Accepted, refusal-cons, accepted, rows-ok, fine-in, row-over, most-ok, rows-back, StepOk, still, to-lent, quiet, offer-ok}
+use Rattle.model.proofs.Priority.Steps.{if-elim, opt-elim, tick-elim, out-elim, alike-app, app-assoc, nor-left, nor-right, Over}
+use Rattle.model.proofs.Priority.Steps.{over-app, Accepted, refusal-cons, accepted, rows-ok, fine-in, row-over, most-ok, rows-back}
+use Rattle.model.proofs.Priority.Steps.{StepOk, still, to-lent, quiet, offer-ok}
 use Rattle.model.specs.declared.CloseAnswer.the-variants as close-answer
 use Rattle.model.specs.declared.Deduction.{Deduction}
 use Rattle.model.specs.declared.Deduction.the-variants.{Nothing, Force, Require}
@@ -50,19 +60,21 @@ use Prim.Native.Nat.{zero-le}
 use Rattle.lists.specs.Lists.{any, select, concat}
 use Rattle.words.specs.Literal.{isPresent, opposite, wordOf}
 use Rattle.words.specs.Region.{has, holds, contradicts, markLiteral, isRegion}
-pub use Rattle.words.proofs.Bools.{T-true, T-of}
 use Rattle.words.proofs.Regions.{Set, Sound, sound-of, region-test}
 use Rattle.words.proofs.Deciding.{sound-apart, sound-inside}
 use Rattle.model.specs.Rows.{groups, packed}
 use Rattle.model.specs.Slots.{indexOf, bitsOf, codesOf}
-use Rattle.model.specs.Deduction.{failing, contradicted, deduceFrom, published, startCursor, scalarNext, pending, loaded, givenOut, give, packedNext}
+use Rattle.model.specs.Deduction.{failing, contradicted, deduceFrom, published, startCursor, scalarNext, pending, loaded, givenOut}
+use Rattle.model.specs.Deduction.{give, packedNext}
 use Rattle.model.specs.Priority.{Contains, ClosedFor, Says}
 use Rattle.model.proofs.Cover.{or-split}
 use Rattle.model.proofs.Packing.{OneWord, asc-less, codes-group, groups-fit, concat-groups}
-use Rattle.model.proofs.Priority.Conditions.{Clean, row-clean, mark-sound, holds-mark, opposite-present, opposite-absent, opposite-atom, half-lt}
+use Rattle.model.proofs.Priority.Conditions.{Clean, row-clean, mark-sound, holds-mark, opposite-present, opposite-absent, half-lt}
 use Rattle.model.proofs.Priority.Cursors.{Good, Gives as Given, start-good, next-gives}
-use Rattle.model.proofs.Priority.Quiet.{adjust-rows, hit-row, search-ok, TurnSame}
-use Rattle.model.proofs.Priority.Closed.{Requires, Saying, says, failing-in, failing-has, contradicted-in, in-contradicted, unfold-con, force-all, require-one, single}
+use Rattle.model.proofs.Priority.Quiet.{adjust-rows, search-ok, TurnSame}
+use Rattle.model.proofs.Priority.Closed.{Requires, Saying, says, failing-in, failing-has, contradicted-in, in-contradicted}
+use Rattle.model.proofs.Priority.Closed.{unfold-con, force-all, require-one, single}
+use Rattle.model.proofs.Entries.{hit-row}
 
 -- ---- a sound region has no literal with its opposite, and none at n atoms or above
 pub no-both : (n : ℕ) (r : Region) → Sound n r → (x : ℕ) → T (holds r x) → T (holds r (opposite x)) → ⊥
@@ -119,6 +131,10 @@ row-in (r ∷ rs) (suc p) e = up (row-in rs p e)
 abbrev pub empty-row : Row
 empty-row = record { conditions = []; outputs = [] }
 
+pub asc-row : (rows : List Row) → Fine rows → (r : Row) → In r rows ⊎ (r ≡ empty-row) → Asc 0 (r .outputs)
+asc-row rows fine r (inl m) = fine r m .outputs
+asc-row rows fine r (inr e) = subst (λ (z : Row). Asc 0 (z .outputs)) (sym e) tt
+
 empty-says : (q : Region) (x : ℕ) → Saying q empty-row x → ⊥
 unfolding failing select
 empty-says q x (inl p) = p .1
@@ -154,7 +170,8 @@ module _ (n : ℕ) (rows : List Row) (over : Over n rows) (fine : Fine rows) (r�
   decide-in c s i f = go (ltb (atom c) n && not (contradicts (s .region) c)) refl
     where
       go : (b : Bool) → (ltb (atom c) n && not (contradicts (s .region) c)) ≡ b
-          → TurnIn (elim (elim b as (λ k. Option Region) [ true ↦ some (markLiteral (s .region) c) | false ↦ none ]) as (λ k. Turn) [ none ↦ conflict s | some r ↦ going (record { ledger = s .ledger; region = r; meter = s .meter }) ])
+          → TurnIn (elim (elim b as (λ k. Option Region) [ true ↦ some (markLiteral (s .region) c) | false ↦ none ]) as (λ k. Turn)
+          [ none ↦ conflict s | some r ↦ going (record { ledger = s .ledger; region = r; meter = s .meter }) ])
       go true e =
           let t = T-of e in
           let h : c < 2 * n = double n c (ltb→lt (atom c) n (and-left (ltb (atom c) n) _ t)) in
@@ -162,7 +179,8 @@ module _ (n : ℕ) (rows : List Row) (over : Over n rows) (fine : Fine rows) (r�
           record {
             sound = mark-sound n (s .region) c (i .sound) h free;
             grown = λ x u. subst T (sym (holds-mark n (s .region) c x (i .sound) h)) (left (holds (s .region) x) (eqb x c) (i .grown x u));
-            within = λ d a x u. split d a x (or-split (holds (s .region) x) (eqb x c) (subst T (holds-mark n (s .region) c x (i .sound) h) u));
+            within = λ d a x u. split d a x
+                (or-split (holds (s .region) x) (eqb x c) (subst T (holds-mark n (s .region) c x (i .sound) h) u));
             same = i .same;
           }
         where
@@ -192,7 +210,8 @@ module _ (n : ℕ) (rows : List Row) (over : Over n rows) (fine : Fine rows) (r�
   Heard s r = (x : ℕ) → Saying (s .region) r x → (d : Region) → Above d → T (holds d x)
 
   heard : (s : State) → Inside s → (r : Row) → In r rows → Heard s r
-  heard s i r m x (inl p) d a = a .closed r m x (subst (λ (e : Deduction). Says e r x) (sym (force-all d r (λ c j. i .within d a c (p .0 c j)))) (p .1))
+  heard s i r m x (inl p) d a =
+      a .closed r m x (subst (λ (e : Deduction). Says e r x) (sym (force-all d r (λ c j. i .within d a c (p .0 c j)))) (p .1))
   heard s i r m x (inr p) d a = subst (λ (y : ℕ). T (holds d y)) (sym (p .2)) (go (holds d (p .0)) refl)
     where
       f : ℕ
@@ -216,7 +235,10 @@ module _ (n : ℕ) (rows : List Row) (over : Over n rows) (fine : Fine rows) (r�
       w-above = i .within d a (opposite (w .0)) (unfold-con (s .region) (w .0) (w .2))
 
       go : (b : Bool) → holds d f ≡ b → T (holds d (opposite f))
-      go true e = absurd (no-both n d (a .sound) (w .0) (a .closed r m (w .0) (subst (λ (k : Deduction). Says k r (w .0)) (sym (force-all d r (λ c j. each c j (holds d c) refl))) (w .1))) w-above)
+      go true e =
+          absurd (no-both n d (a .sound) (w .0)
+          (a .closed r m (w .0)
+          (subst (λ (k : Deduction). Says k r (w .0)) (sym (force-all d r (λ c j. each c j (holds d c) refl))) (w .1))) w-above)
         where
           each : (c : ℕ) → In c (r .conditions) → (b : Bool) → holds d c ≡ b → T (holds d c)
           each c j true q = T-of q
@@ -232,7 +254,8 @@ module _ (n : ℕ) (rows : List Row) (over : Over n rows) (fine : Fine rows) (r�
           }))) refl)
 
   -- ---- publishing: every closed region above has the outputs
-  publish-in : (fuel : ℕ) (r : Row) (k : OutputCursor) (s : State) → Asc 0 (r .outputs) → ((c : ℕ) → In c (r .outputs) → (d : Region) → Above d → T (holds d c)) → Good r k → Inside s → TurnIn (publish fuel n r k s)
+  publish-in : (fuel : ℕ) (r : Row) (k : OutputCursor) (s : State) → Asc 0 (r .outputs)
+      → ((c : ℕ) → In c (r .outputs) → (d : Region) → Above d → T (holds d c)) → Good r k → Inside s → TurnIn (publish fuel n r k s)
   unfolding publish withMeter
   publish-in zero r k s a f g i = i
   publish-in (suc fuel) r k s a f g i =
@@ -242,7 +265,8 @@ module _ (n : ℕ) (rows : List Row) (over : Over n rows) (fine : Fine rows) (r�
           → TurnIn (elim (x .next) as (λ z. Turn) [
             | deducing.stopped ↦ halted (record { ledger = s .ledger; region = s .region; meter = x .meter })
             | deducing.end ↦ going (record { ledger = s .ledger; region = s .region; meter = x .meter })
-            | deducing.output c ↦ onGoing (decideOn n c (record { ledger = s .ledger; region = s .region; meter = x .meter })) (publish fuel n r (x .cursor))
+            | deducing.output c ↦ onGoing (decideOn n c (record { ledger = s .ledger; region = s .region; meter = x .meter }))
+                (publish fuel n r (x .cursor))
           ])
       go x y ih = by (x .next) refl
         where
@@ -252,40 +276,54 @@ module _ (n : ℕ) (rows : List Row) (over : Over n rows) (fine : Fine rows) (r�
           it : Inside t
           it = record { sound = i .sound; grown = i .grown; within = i .within; same = i .same }
 
-          by : (z : Next) → x .next ≡ z → TurnIn (elim z as (λ z. Turn) [ deducing.stopped ↦ halted t | deducing.end ↦ going t | deducing.output c ↦ onGoing (decideOn n c t) (publish fuel n r (x .cursor)) ])
+          by : (z : Next) → x .next ≡ z
+              → TurnIn (elim z as (λ z. Turn) [
+                | deducing.stopped ↦ halted t
+                | deducing.end ↦ going t
+                | deducing.output c ↦ onGoing (decideOn n c t) (publish fuel n r (x .cursor))
+              ])
           by deducing.stopped e = it
           by deducing.end e = it
-          by (deducing.output c) e = on-in (decideOn n c t) (publish fuel n r (x .cursor)) (decide-in c t it (f c (y .out c e))) (λ u j. ih (x .cursor) u (y .cursor) j)
+          by (deducing.output c) e =
+              on-in (decideOn n c t) (publish fuel n r (x .cursor)) (decide-in c t it (f c (y .out c e)))
+              (λ u j. ih (x .cursor) u (y .cursor) j)
 
   counted-in : (p : ℕ) (s : State) → Inside s → Inside (counted p s)
   unfolding counted hitAt
-  counted-in p s i = record { sound = i .sound; grown = i .grown; within = i .within; same = adjust-rows hitEntry hit-row p (s .ledger .entries) ∙ i .same }
+  counted-in p s i =
+      record {
+        sound = i .sound;
+        grown = i .grown;
+        within = i .within;
+        same = adjust-rows hitEntry hit-row p (s .ledger .entries) ∙ i .same;
+      }
 
-  obey-in : (p : ℕ) (r : Row) (d : Deduction) (s : State) → deduction (s .region) r ≡ d → Asc 0 (r .outputs) → Heard s r → Inside s → TurnIn (obey n p r d s)
+  obey-in : (p : ℕ) (r : Row) (d : Deduction) (s : State) → deduction (s .region) r ≡ d → Asc 0 (r .outputs) → Heard s r → Inside s
+      → TurnIn (obey n p r d s)
   unfolding obey
   obey-in p r Nothing s e a h i = i
   obey-in p r Force s e a h i =
       publish-in _ r _ (counted p s) a (λ c j. h c (inl (force-holds (s .region) r e, j))) (start-good r) (counted-in p s i)
   obey-in p r (Require c) s e a h i =
-      decide-in (c .0) (counted p s) (counted-in p s i) (h (c .0) (says (s .region) r (c .0) (subst (λ (k : Deduction). Says k r (c .0)) (sym e) refl)))
+      decide-in (c .0) (counted p s) (counted-in p s i)
+      (h (c .0) (says (s .region) r (c .0) (subst (λ (k : Deduction). Says k r (c .0)) (sym e) refl)))
 
   heard-at : (s : State) → Inside s → (r : Row) → In r rows ⊎ (r ≡ empty-row) → Heard s r
   heard-at s i r (inl m) = heard s i r m
   heard-at s i r (inr e) = λ x y. absurd (empty-says (s .region) x (subst (λ (z : Row). Saying (s .region) z x) e y))
 
-  asc-at : (r : Row) → In r rows ⊎ (r ≡ empty-row) → Asc 0 (r .outputs)
-  asc-at r (inl m) = fine r m .outputs
-  asc-at r (inr e) = subst (λ (z : Row). Asc 0 (z .outputs)) (sym e) tt
-
   at-row : (p : ℕ) (s : State) → Inside s → In (rowAt p (s .ledger)) rows ⊎ (rowAt p (s .ledger) ≡ empty-row)
   unfolding rowAt rowsOf
-  at-row p s i = subst (λ (l : List Row). In (getD (rowsE (s .ledger .entries)) p empty-row) l ⊎ (getD (rowsE (s .ledger .entries)) p empty-row ≡ empty-row)) (i .same) (row-in (rowsE (s .ledger .entries)) p empty-row)
+  at-row p s i =
+      subst (λ (l : List Row). In (getD (rowsE (s .ledger .entries)) p empty-row) l
+      ⊎ (getD (rowsE (s .ledger .entries)) p empty-row ≡ empty-row)) (i .same) (row-in (rowsE (s .ledger .entries)) p empty-row)
 
   act-in : (p : ℕ) (s : State) → Inside s → TurnIn (act n p s)
   unfolding act withMeter
   act-in p s i =
       tick-elim TurnIn (ticks (deductionTicks (s .region) (rowAt p (s .ledger))) (s .meter)) _ _ (λ m. it m)
-      (λ m. obey-in p (rowAt p (s .ledger)) (deduction (s .region) (rowAt p (s .ledger))) _ refl (asc-at _ (at-row p s i)) (heard-at _ (it m) _ (at-row p s i)) (it m))
+      (λ m. obey-in p (rowAt p (s .ledger)) (deduction (s .region) (rowAt p (s .ledger))) _ refl (asc-row rows fine _ (at-row p s i))
+      (heard-at _ (it m) _ (at-row p s i)) (it m))
     where
       it : (m : Meter) → Inside (record { ledger = s .ledger; region = s .region; meter = m })
       it m = record { sound = i .sound; grown = i .grown; within = i .within; same = i .same }
@@ -295,7 +333,8 @@ module _ (n : ℕ) (rows : List Row) (over : Over n rows) (fine : Fine rows) (r�
   round-in [] s i = i
   round-in (p ∷ ps) s i = on-in (act n p s) (round n ps) (act-in p s i) (λ t j. round-in ps t j)
 
-  list-in : (xs : List ℕ) (a : Turn) (f : ℕ → List ℕ → Turn) → TurnIn a → ((y : ℕ) (ys : List ℕ) → TurnIn (f y ys)) → TurnIn (elim xs as (λ k. Turn) [ [] ↦ a | y ∷ ys ↦ f y ys ])
+  list-in : (xs : List ℕ) (a : Turn) (f : ℕ → List ℕ → Turn) → TurnIn a → ((y : ℕ) (ys : List ℕ) → TurnIn (f y ys))
+      → TurnIn (elim xs as (λ k. Turn) [ [] ↦ a | y ∷ ys ↦ f y ys ])
   list-in [] a f p q = p
   list-in (y ∷ ys) a f p q = q y ys
 
@@ -304,13 +343,22 @@ module _ (n : ℕ) (rows : List Row) (over : Over n rows) (fine : Fine rows) (r�
   rounds-in zero as′ s i = i
   rounds-in (suc fuel) as′ s i =
       opt-elim TurnIn (search (s .ledger) as′ (s .meter) .found) _ _ (λ e. it)
-      (λ ps. on-in (round n ps _) _ (round-in ps _ it) (λ u j. list-in (decidedSince n (s .region) (u .region)) _ _ j (λ y ys. rounds-in fuel (y ∷ ys) u j)))
+      (λ ps. on-in (round n ps _) _ (round-in ps _ it)
+      (λ u j. list-in (decidedSince n (s .region) (u .region)) _ _ j (λ y ys. rounds-in fuel (y ∷ ys) u j)))
     where
-      it : Inside (record { ledger = record { header = search (s .ledger) as′ (s .meter) .header; entries = s .ledger .entries }; region = s .region; meter = search (s .ledger) as′ (s .meter) .meter })
+      it : Inside
+          (record {
+            ledger = record { header = search (s .ledger) as′ (s .meter) .header; entries = s .ledger .entries };
+            region = s .region;
+            meter = search (s .ledger) as′ (s .meter) .meter;
+          })
       it = record { sound = i .sound; grown = i .grown; within = i .within; same = i .same }
 
-  pub closing-in : (l : Ledger) (m : Meter) → l .header .limits .atoms ≡ n → rowsE (l .entries) ≡ rows → Sound n r₀ → TurnIn (closing l r₀ m)
+  pub closing-in : (l : Ledger) (m : Meter) → l .header .limits .atoms ≡ n → rowsE (l .entries) ≡ rows → Sound n r₀
+      → TurnIn (closing l r₀ m)
   unfolding closing
   closing-in l m e q s =
-      subst (λ (k : ℕ). TurnIn (rounds (suc k) k [] (record { ledger = record { header = withFull (l .header) true; entries = l .entries }; region = r₀; meter = m }))) (sym e)
+      subst (λ (k : ℕ). TurnIn
+      (rounds (suc k) k []
+      (record { ledger = record { header = withFull (l .header) true; entries = l .entries }; region = r₀; meter = m }))) (sym e)
       (rounds-in (suc n) [] _ (record { sound = s; grown = λ x t. t; within = λ c a x t. a .above x t; same = q }))

@@ -18,14 +18,21 @@ use Rattle.meter.specs.declared.Tick.the-variants.{Ticked, Stopped}
 use Rattle.meter.specs.Meter.{tickOf, ticks, pay, made}
 use Rattle.model.specs.declared.LearningLimits.{LearningLimits}
 use Rattle.model.specs.declared.Header.{Header}
-use Rattle.model.specs.Records.{Row, Entry, Ledger, rowsOf, rowAt, isRow, isRowOver, within, limitsOk, literals, plus, header, withRows, withStale, withFull, attempted, withAccount, withMark, withDeliveries, withSeeded, withHits, hitEntry, withDelivered}
+use Rattle.model.specs.Records.{Row, Entry, Ledger, rowsOf, rowAt, isRow, isRowOver, within, limitsOk, literals, saturatingAdd}
+use Rattle.model.specs.Records.{withRows}
+use Rattle.model.specs.Records.{withStale, withFull, attempted, withAccount, withMark, withDeliveries, withSeeded, withHits, hitEntry}
+use Rattle.model.specs.Records.{withDelivered}
 use Rattle.model.specs.Slots.{slotsOf, entriesIn}
-use Rattle.model.specs.Retention.{Retained, Outcome, Stops, Declines, Subsumes, Adds, retain, canCapture}
-use Rattle.model.specs.Transfers.{Transfer, Delivery, Reach, starting, ticked, receive, received, changeAt, seedRows, markFor, seeding, marked, seededTier, seededStore, passesOver, front, deliverRows, delivering, deliveredTier, deliveredStore}
+use Rattle.model.specs.Retention.{Retention, Outcome, Stops, Declines, Subsumes, Adds, retain, canCapture}
+use Rattle.model.specs.Transfers.{Transfer, Delivery, Progress, starting, ticked, receive, received, changeAt, seedRows, markFor}
+use Rattle.model.specs.Transfers.{seeding, marked, seededTier, seededStore, passesOver, front, deliverRows, delivering, deliveredTier}
+use Rattle.model.specs.Transfers.{deliveredStore}
 use Rattle.model.specs.Transfers as transfers
 use Rattle.model.specs.Refusals.{Lent, refusal, ledgerIn, lentOf, lengthsOk, entryOk, countsOk, wordsOk, contentsOk, accepts}
-use Rattle.model.specs.Operations.{OfferEnd, unoffered, capture, fitsOffer, offer, positionOk, hit, begin, TransferEnd, transferRefusal, untransferred, transferEnd, seed, deliver}
-use Rattle.model.specs.Closing.{State, Turn, going, conflict, halted, onGoing, withMeter, withHeader, hitAt, counted, decideOn, publish, obey, act, round, decidedSince, rounds, closing}
+use Rattle.model.specs.Operations.{OfferEnd, unoffered, capture, fitsOffer, offer, positionOk, hit, begin, TransferEnd}
+use Rattle.model.specs.Operations.{transferRefusal, untransferred, transferEnd, seed, deliver}
+use Rattle.model.specs.Closing.{State, Turn, going, conflict, halted, onGoing, withMeter, withHeader, hitAt, counted, decideOn}
+use Rattle.model.specs.Closing.{publish, obey, act, round, decidedSince, rounds, closing}
 use Rattle.model.specs.Priority.{In, Gives, Covers}
 use Rattle.model.proofs.Cover.{and-left, and-right}
 use Rattle.model.proofs.Packing.{Asc}
@@ -33,7 +40,9 @@ use Rattle.model.proofs.Slots.{Valid, valid-of, AllValid, decode-encode
 use Rattle.model.proofs.Priority.Covering.{rowsE, Cov}
 use Rattle.model.proofs.Priority.Retaining.{Alike, alike-refl, alike-trans, RetainedOk, retain-ok}
 use Rattle.model.proofs.Priority.Fine.{Fine, RetainedFine, retain-fine}
-use Rattle.model.proofs.Priority.Steps.{if-elim, opt-elim, tick-elim, out-elim, alike-app, app-assoc, nor-left, nor-right, Over, over-app, Accepted, refusal-cons, accepted, rows-ok, fine-in, row-over, most-ok, rows-back, StepOk, still, to-lent, quiet, offer-ok}
+use Rattle.model.proofs.Priority.Steps.{if-elim, opt-elim, tick-elim, out-elim, alike-app, app-assoc, nor-left, nor-right, Over}
+use Rattle.model.proofs.Priority.Steps.{over-app, Accepted, refusal-cons, accepted, rows-ok, fine-in, row-over, most-ok, rows-back}
+use Rattle.model.proofs.Priority.Steps.{StepOk, still, to-lent, quiet, offer-ok}
 use Rattle.model.specs.declared.CloseAnswer.the-variants as close-answer
 use Rattle.model.specs.declared.Deduction.{Deduction}
 use Rattle.model.specs.declared.Deduction.the-variants.{Nothing, Force, Require}
@@ -42,6 +51,7 @@ use Rattle.model.specs.Deduction.{Next, Published, nextOutput, deduction
 use Rattle.model.specs.Deduction as deducing
 use Rattle.model.specs.Postings.{Search, searched, rebuilt, candidates as search, postingsOf, searchTicks}
 use Rattle.model.specs.Operations.{HitEnd, BeginEnd, CandidatesEnd, CloseEnd, closeEnd, candidates, close}
+use Rattle.model.proofs.Entries.{hit-row}
 
 -- ---- rows stay where entries are changed in their counts alone
 pub adjust-rows : (f : Entry → Entry) → ((e : Entry) → f e .row ≡ e .row) → (p : ℕ) (es : List Entry) → rowsE (adjust f p es) ≡ rowsE es
@@ -50,17 +60,13 @@ adjust-rows f q p [] = refl
 adjust-rows f q zero (e ∷ es) = ap (λ (r : Row). r ∷ rowsE es) (q e)
 adjust-rows f q (suc p) (e ∷ es) = ap (λ (l : List Row). e .row ∷ l) (adjust-rows f q p es)
 
-pub hit-row : (e : Entry) → hitEntry e .row ≡ e .row
-unfolding hitEntry
-hit-row e = refl
-
 -- limits and rows of one ledger are those of another
 pub record Same (l k : Ledger) : Type 0 where
   pub limits : k .header .limits ≡ l .header .limits
   pub rows : rowsE (k .entries) ≡ rowsE (l .entries)
   pub evicted : k .header .evicted ≡ l .header .evicted
 
-same-refl : (l : Ledger) → Same l l
+pub same-refl : (l : Ledger) → Same l l
 same-refl l = record { limits = refl; rows = refl; evicted = refl }
 
 same-trans : (a b c : Ledger) → Same a b → Same b c → Same a c
@@ -117,8 +123,10 @@ search-ok l as′ m =
 pub candidates-ok : (s : Lent) (as′ buffer : List ℕ) (m : Meter) → StepOk s (candidates s as′ buffer m .ledger) [] false
 unfolding candidates ledgerIn
 candidates-ok s as′ buffer m =
-    opt-elim (λ (e : CandidatesEnd). StepOk s (e .ledger) [] false) (refusal (accepts s (eqb (length buffer) (s .header .limits .«tier_rows»)) [])) _ _
-    (λ e. same-step s _ (accepted s (eqb (length buffer) (s .header .limits .«tier_rows»)) [] e .0) (record { limits = search-ok (ledgerIn s) as′ m .limits; rows = refl; evicted = search-ok (ledgerIn s) as′ m .evicted }))
+    opt-elim (λ (e : CandidatesEnd). StepOk s (e .ledger) [] false)
+    (refusal (accepts s (eqb (length buffer) (s .header .limits .«tier_rows»)) [])) _ _
+    (λ e. same-step s _ (accepted s (eqb (length buffer) (s .header .limits .«tier_rows»)) [] e .0)
+    (record { limits = search-ok (ledgerIn s) as′ m .limits; rows = refl; evicted = search-ok (ledgerIn s) as′ m .evicted }))
     (λ n. still s)
 
 -- ---- Close
@@ -127,7 +135,8 @@ TurnSame l (going s) = Same l (s .ledger)
 TurnSame l (conflict s) = Same l (s .ledger)
 TurnSame l (halted s) = Same l (s .ledger)
 
-on-same : (l : Ledger) (t : Turn) (k : State → Turn) → TurnSame l t → ((s : State) → Same l (s .ledger) → TurnSame l (k s)) → TurnSame l (onGoing t k)
+on-same : (l : Ledger) (t : Turn) (k : State → Turn) → TurnSame l t → ((s : State) → Same l (s .ledger) → TurnSame l (k s))
+    → TurnSame l (onGoing t k)
 unfolding onGoing
 on-same l (going s) k p f = f s p
 on-same l (conflict s) k p f = p
@@ -167,7 +176,8 @@ unfolding round
 round-same l n [] s q = q
 round-same l n (p ∷ ps) s q = on-same l (act n p s) (round n ps) (act-same l n p s q) (λ t i. round-same l n ps t i)
 
-list-elim : {A : Type 0} (P : A → Type 0) (xs : List ℕ) (a : A) (f : ℕ → List ℕ → A) → P a → ((y : ℕ) (ys : List ℕ) → P (f y ys)) → P (elim xs as (λ k. A) [ [] ↦ a | y ∷ ys ↦ f y ys ])
+list-elim : {A : Type 0} (P : A → Type 0) (xs : List ℕ) (a : A) (f : ℕ → List ℕ → A) → P a → ((y : ℕ) (ys : List ℕ) → P (f y ys))
+    → P (elim xs as (λ k. A) [ [] ↦ a | y ∷ ys ↦ f y ys ])
 list-elim P [] a f pa pf = pa
 list-elim P (y ∷ ys) a f pa pf = pf y ys
 
@@ -175,7 +185,12 @@ rounds-same : (l : Ledger) (fuel n : ℕ) (as′ : List ℕ) (s : State) → Sam
 unfolding rounds withMeter withHeader
 rounds-same l zero n as′ s q = q
 rounds-same l (suc fuel) n as′ s q =
-    let h : Same l (record { header = search (s .ledger) as′ (s .meter) .header; entries = s .ledger .entries }) = record { limits = search-ok (s .ledger) as′ (s .meter) .limits ∙ q .limits; rows = q .rows; evicted = search-ok (s .ledger) as′ (s .meter) .evicted ∙ q .evicted } in
+    let h : Same l (record { header = search (s .ledger) as′ (s .meter) .header; entries = s .ledger .entries }) =
+    record {
+      limits = search-ok (s .ledger) as′ (s .meter) .limits ∙ q .limits;
+      rows = q .rows;
+      evicted = search-ok (s .ledger) as′ (s .meter) .evicted ∙ q .evicted;
+    } in
     opt-elim (TurnSame l) (search (s .ledger) as′ (s .meter) .found) _ _ (λ e. h)
     (λ ps. on-same l (round n ps _) _ (round-same l n ps _ h)
     (λ u i. list-elim (TurnSame l) (decidedSince n (s .region) (u .region)) _ _ i (λ y ys. rounds-same l fuel n (y ∷ ys) u i)))
@@ -185,7 +200,12 @@ unfolding closing
 closing-same l r m = rounds-same l _ _ [] _ (full-same l true)
 
 turn-step : (s : Lent) (x y : List ℕ) (m : Meter) (t : Turn) → Accepted s → TurnSame (ledgerIn s) t
-    → StepOk s ((elim t as (λ k. CloseEnd) [ going u ↦ closeEnd close-answer.Closed u x y m | conflict u ↦ closeEnd close-answer.Conflict u x y m | halted u ↦ closeEnd close-answer.Stopped u x y m ]) .ledger) [] false
+    → StepOk s
+    ((elim t as (λ k. CloseEnd) [
+      | going u ↦ closeEnd close-answer.Closed u x y m
+      | conflict u ↦ closeEnd close-answer.Conflict u x y m
+      | halted u ↦ closeEnd close-answer.Stopped u x y m
+    ]) .ledger) [] false
 unfolding closeEnd
 turn-step s x y m (going u) a q = same-step s (u .ledger) a q
 turn-step s x y m (conflict u) a q = same-step s (u .ledger) a q

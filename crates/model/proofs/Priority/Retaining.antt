@@ -15,37 +15,41 @@ use Rattle.model.specs.declared.LearningLimits.{LearningLimits}
 use Rattle.model.specs.declared.Header.{Header}
 use Rattle.model.specs.Records.{Row, Entry, Ledger, withAdded, withHits}
 use Rattle.model.specs.Rows.{subsumes}
-use Rattle.model.specs.Retention.{Compared, Pass, found, passed, firstPass, secondPass, anyReplaced, kept, place, judge, judged, verdict, Verdict, subsumed, protected, placing, evicting, victim, halved, settle, newborn, Retained, untaken, carryOut, retained, retainReads, retain}
+use Rattle.model.specs.Retention.{Examined, Pass, found, passed, firstPass, secondPass, anyReplaced, kept, place, placementBy}
+use Rattle.model.specs.Retention.{placementAfter, placement, Placement, subsumed, protected, placing, evicting, victim, halved}
+use Rattle.model.specs.Retention.{settle, newborn, Retention, untaken, carryOut, retained, retainReads, retain}
 use Rattle.model.specs.Priority.{In, Gives, Covers}
-use Rattle.model.proofs.Priority.Covering.{rowsE, Sub, Dom, Cov, covers-refl, covers-trans, covers-cons, covers-sub, widen, dom-cov, gives-more, subs-sound, rowsM, GoneOk, Grown, PassOk, pass-ok}
+use Rattle.model.proofs.Priority.Covering.{rowsE, Sub, Dom, Cov, covers-refl, covers-trans, covers-cons, covers-sub, widen, dom-cov}
+use Rattle.model.proofs.Priority.Covering.{gives-more, subs-sound, rowsM, GoneOk, Grown, PassOk, pass-ok}
 
 or-case : (a b : Bool) {X : Type 0} → (T a → X) → (T b → X) → T (a || b) → X
 or-case true b f g t = f tt
 or-case false b f g t = g t
 
-sweep-rows : (p : Row) (ks : List Compared) → rowsM (secondPass p ks) ≡ rowsM ks
+sweep-rows : (p : Row) (ks : List Examined) → rowsM (secondPass p ks) ≡ rowsM ks
 unfolding secondPass
 sweep-rows p [] = refl
 sweep-rows p (k ∷ ks) = ap (λ (l : List Row). k .entry .row ∷ l) (sweep-rows p ks)
 
-sweep-gone : (p : Row) (ks : List Compared) → GoneOk p ks → GoneOk p (secondPass p ks)
+sweep-gone : (p : Row) (ks : List Examined) → GoneOk p ks → GoneOk p (secondPass p ks)
 unfolding secondPass
 sweep-gone p [] h = tt
 sweep-gone p (k ∷ ks) h =
     (or-case (k .replaced) (subsumes p (k .entry .row)) (h .0) (subs-sound p (k .entry .row)), sweep-gone p ks (h .1))
 
-keep-in-step : (k : Compared) (ks : List Compared) (b : Bool) → ((r : Row) → In r (rowsE (kept ks)) → In r (rowsM ks))
+keep-in-step : (k : Examined) (ks : List Examined) (b : Bool) → ((r : Row) → In r (rowsE (kept ks)) → In r (rowsM ks))
     → (r : Row) → In r (rowsE (elim b [ true ↦ kept ks | false ↦ k .entry ∷ kept ks ])) → In r (k .entry .row ∷ rowsM ks)
 keep-in-step k ks true f r m = inr (f r m)
 keep-in-step k ks false f r (inl e) = inl e
 keep-in-step k ks false f r (inr m) = inr (f r m)
 
-keep-in : (ks : List Compared) (r : Row) → In r (rowsE (kept ks)) → In r (rowsM ks)
+keep-in : (ks : List Examined) (r : Row) → In r (rowsE (kept ks)) → In r (rowsM ks)
 unfolding kept
 keep-in [] r m = m
 keep-in (k ∷ ks) r m = keep-in-step k ks (k .replaced) (keep-in ks) r m
 
-place-in-step : (e : Entry) (k : Compared) (ks : List Compared) (b : Bool) → ((r : Row) → In r (rowsE (place e ks)) → In r (e .row ∷ rowsM ks))
+place-in-step : (e : Entry) (k : Examined) (ks : List Examined) (b : Bool)
+    → ((r : Row) → In r (rowsE (place e ks)) → In r (e .row ∷ rowsM ks))
     → (r : Row) → In r (rowsE (elim b [ true ↦ e ∷ kept ks | false ↦ k .entry ∷ place e ks ])) → In r (e .row ∷ k .entry .row ∷ rowsM ks)
 place-in-step e k ks true f r (inl q) = inl q
 place-in-step e k ks true f r (inr m) = inr (inr (keep-in ks r m))
@@ -56,17 +60,17 @@ place-in-step e k ks false f r (inr m) = go (f r m)
     go (inl q) = inl q
     go (inr i) = inr (inr i)
 
-pub place-in : (e : Entry) (ks : List Compared) (r : Row) → In r (rowsE (place e ks)) → In r (e .row ∷ rowsM ks)
+pub place-in : (e : Entry) (ks : List Examined) (r : Row) → In r (rowsE (place e ks)) → In r (e .row ∷ rowsM ks)
 unfolding place
 place-in e [] r m = m
 place-in e (k ∷ ks) r m = place-in-step e k ks (k .replaced) (place-in e ks) r m
 
-place-has-step : (e : Entry) (k : Compared) (ks : List Compared) (b : Bool) → In (e .row) (rowsE (place e ks))
+place-has-step : (e : Entry) (k : Examined) (ks : List Examined) (b : Bool) → In (e .row) (rowsE (place e ks))
     → In (e .row) (rowsE (elim b [ true ↦ e ∷ kept ks | false ↦ k .entry ∷ place e ks ]))
 place-has-step e k ks true m = inl refl
 place-has-step e k ks false m = inr m
 
-place-has : (e : Entry) (ks : List Compared) → In (e .row) (rowsE (place e ks))
+place-has : (e : Entry) (ks : List Examined) → In (e .row) (rowsE (place e ks))
 unfolding place
 place-has e [] = inl refl
 place-has e (k ∷ ks) = place-has-step e k ks (k .replaced) (place-has e ks)
@@ -75,7 +79,7 @@ place-has e (k ∷ ks) = place-has-step e k ks (k .replaced) (place-has e ks)
 abbrev Kept : Row → List Row → List Row → Type 0
 Kept p A B = (r : Row) → In r B → In r A ⊎ Dom p r
 
-kept-here : (p : Row) (k : Compared) (A B : List Row) → Kept p A B → Kept p (k .entry .row ∷ A) (k .entry .row ∷ B)
+kept-here : (p : Row) (k : Examined) (A B : List Row) → Kept p A B → Kept p (k .entry .row ∷ A) (k .entry .row ∷ B)
 kept-here p k A B f r (inl q) = inl (inl q)
 kept-here p k A B f r (inr m) = go (f r m)
   where
@@ -83,17 +87,17 @@ kept-here p k A B f r (inr m) = go (f r m)
     go (inl i) = inl (inr i)
     go (inr d) = inr d
 
-kept-gone : (p : Row) (k : Compared) (A B : List Row) → Dom p (k .entry .row) → Kept p A B → Kept p A (k .entry .row ∷ B)
+kept-gone : (p : Row) (k : Examined) (A B : List Row) → Dom p (k .entry .row) → Kept p A B → Kept p A (k .entry .row ∷ B)
 kept-gone p k A B d f r (inl q) = inr (subst (λ (x : Row). Dom p x) (sym q) d)
 kept-gone p k A B d f r (inr m) = f r m
 
-keep-keeps-step : (p : Row) (k : Compared) (ks : List Compared) (b : Bool) → (T b → Dom p (k .entry .row))
+keep-keeps-step : (p : Row) (k : Examined) (ks : List Examined) (b : Bool) → (T b → Dom p (k .entry .row))
     → Kept p (rowsE (kept ks)) (rowsM ks)
     → Kept p (rowsE (elim b [ true ↦ kept ks | false ↦ k .entry ∷ kept ks ])) (k .entry .row ∷ rowsM ks)
 keep-keeps-step p k ks true d f = kept-gone p k (rowsE (kept ks)) (rowsM ks) (d tt) f
 keep-keeps-step p k ks false d f = kept-here p k (rowsE (kept ks)) (rowsM ks) f
 
-keep-keeps : (p : Row) (ks : List Compared) → GoneOk p ks → Kept p (rowsE (kept ks)) (rowsM ks)
+keep-keeps : (p : Row) (ks : List Examined) → GoneOk p ks → Kept p (rowsE (kept ks)) (rowsM ks)
 unfolding kept
 keep-keeps p [] h = λ r m. absurd m
 keep-keeps p (k ∷ ks) h = keep-keeps-step p k ks (k .replaced) (h .0) (keep-keeps p ks (h .1))
@@ -105,7 +109,7 @@ kept-more p s A B f r m = go (f r m)
     go (inl i) = inl (inr i)
     go (inr d) = inr d
 
-place-keeps-step : (p : Row) (e : Entry) (k : Compared) (ks : List Compared) (b : Bool) → (T b → Dom p (k .entry .row)) → GoneOk p ks
+place-keeps-step : (p : Row) (e : Entry) (k : Examined) (ks : List Examined) (b : Bool) → (T b → Dom p (k .entry .row)) → GoneOk p ks
     → Kept p (rowsE (place e ks)) (rowsM ks)
     → Kept p (rowsE (elim b [ true ↦ e ∷ kept ks | false ↦ k .entry ∷ place e ks ])) (k .entry .row ∷ rowsM ks)
 place-keeps-step p e k ks true d g f =
@@ -113,7 +117,7 @@ place-keeps-step p e k ks true d g f =
     (kept-gone p k (rowsE (kept ks)) (rowsM ks) (d tt) (keep-keeps p ks g))
 place-keeps-step p e k ks false d g f = kept-here p k (rowsE (place e ks)) (rowsM ks) f
 
-place-keeps : (p : Row) (e : Entry) (ks : List Compared) → GoneOk p ks → Kept p (rowsE (place e ks)) (rowsM ks)
+place-keeps : (p : Row) (e : Entry) (ks : List Examined) → GoneOk p ks → Kept p (rowsE (place e ks)) (rowsM ks)
 unfolding place
 place-keeps p e [] h = λ r m. absurd m
 place-keeps p e (k ∷ ks) h = place-keeps-step p e k ks (k .replaced) (h .0) (h .1) (place-keeps p e ks (h .1))
@@ -130,14 +134,16 @@ pub alike-trans : {A B C : List Row} → Alike A B → Alike B C → Alike A C
 alike-trans p q = record { there = covers-trans (p .there) (q .there); back = covers-trans (q .back) (p .back) }
 
 -- a grown proposal dominates the row taken
-grown-dom : {t : Row} {es : List Entry} {ks : List Compared} {p : Row} → Grown t es ks p → Dom p t
+grown-dom : {t : Row} {es : List Entry} {ks : List Examined} {p : Row} → Grown t es ks p → Dom p t
 grown-dom g = record { less = λ x m. subst (λ (c : List ℕ). In x c) (g .conditions) m; more = g .outputs }
 
 -- the placed rows against the old ones and the row taken
-pub placed : (t : Row) (es : List Entry) (ks : List Compared) (e : Entry) → Grown t es ks (e .row) → Alike (rowsE (place e ks)) (t ∷ rowsE es)
+pub placed : (t : Row) (es : List Entry) (ks : List Examined) (e : Entry) → Grown t es ks (e .row)
+    → Alike (rowsE (place e ks)) (t ∷ rowsE es)
 placed t es ks e g = record {
   there = covers-cons taken (record { at = old });
-  back = covers-trans (covers-cons {B = rowsM ks} (g .from) (covers-sub (λ r m. inr (subst (λ (l : List Row). In r l) (g .rows) m)))) (covers-sub (place-in e ks));
+  back = covers-trans (covers-cons {B = rowsM ks} (g .from) (covers-sub (λ r m. inr (subst (λ (l : List Row). In r l) (g .rows) m))))
+      (covers-sub (place-in e ks));
 }
   where
     taken : Cov (rowsE (place e ks)) t
@@ -151,23 +157,24 @@ placed t es ks e g = record {
     old s m = pick s (place-keeps (e .row) e ks (g .gone) s (subst (λ (l : List Row). In s l) (sym (g .rows)) m))
 
 -- what a verdict promises
-abbrev pub VerdictOk : Row → List Entry → Verdict → Type 0
-VerdictOk t es (subsumed n) = Cov (rowsE es) t
-VerdictOk t es protected = Unit {0}
-VerdictOk t es (placing ks p) = Grown t es ks p
-VerdictOk t es (evicting v p) = Cov (t ∷ rowsE es) p × Dom p t
+abbrev pub PlacementOk : Row → List Entry → Placement → Type 0
+PlacementOk t es (subsumed n) = Cov (rowsE es) t
+PlacementOk t es protected = Unit {0}
+PlacementOk t es (placing ks p) = Grown t es ks p
+PlacementOk t es (evicting v p) = Cov (t ∷ rowsE es) p × Dom p t
 
-judge-ok-step : (t : Row) (es : List Entry) (ks : List Compared) (p : Row) (a c : Bool) → Grown t es ks p
-    → VerdictOk t es (elim a [ true ↦ placing ks p | false ↦ elim c [ true ↦ protected | false ↦ evicting (victim es) p ] ])
+judge-ok-step : (t : Row) (es : List Entry) (ks : List Examined) (p : Row) (a c : Bool) → Grown t es ks p
+    → PlacementOk t es (elim a [ true ↦ placing ks p | false ↦ elim c [ true ↦ protected | false ↦ evicting (victim es) p ] ])
 judge-ok-step t es ks p true c g = g
 judge-ok-step t es ks p false true g = tt
 judge-ok-step t es ks p false false g = (g .from, grown-dom g)
 
-settle-pass-ok : (l : LearningLimits) (t : Row) (es : List Entry) (x : Pass) → PassOk t es x → VerdictOk t es (judged l es x)
-unfolding judged judge
+settle-pass-ok : (l : LearningLimits) (t : Row) (es : List Entry) (x : Pass) → PassOk t es x → PlacementOk t es (placementAfter l es x)
+unfolding placementAfter placementBy
 settle-pass-ok l t es (found n) h = h
 settle-pass-ok l t es (passed ks p) h =
-    judge-ok-step t es (secondPass p ks) p (anyReplaced (secondPass p ks) || ltb (length es) (l .«tier_rows»)) (leb (length es) (l .«founded_floor»)) (record {
+    judge-ok-step t es (secondPass p ks) p (anyReplaced (secondPass p ks) || ltb (length es) (l .«tier_rows»))
+    (leb (length es) (l .«founded_floor»)) (record {
       conditions = h .conditions;
       outputs = h .outputs;
       from = h .from;
@@ -175,9 +182,9 @@ settle-pass-ok l t es (passed ks p) h =
       gone = sweep-gone p ks (h .gone);
     })
 
-pub verdict-ok : (l : LearningLimits) (m : ℕ) (t : Row) (es : List Entry) → VerdictOk t es (verdict l m t es)
-unfolding verdict
-verdict-ok l m t es = settle-pass-ok l t es (firstPass m t es) (pass-ok m t es)
+pub placement-ok : (l : LearningLimits) (m : ℕ) (t : Row) (es : List Entry) → PlacementOk t es (placement l m t es)
+unfolding placement
+placement-ok l m t es = settle-pass-ok l t es (firstPass m t es) (pass-ok m t es)
 
 pub halve-rows : (es : List Entry) → rowsE (halved es) ≡ rowsE es
 unfolding halved withHits
@@ -188,15 +195,21 @@ pub settle-rows : (h : Header) (es : List Entry) (n : ℕ) → rowsE (settle h e
 unfolding settle
 settle-rows h es n = go (leb (h .limits .«tier_rows») (suc (h .epoch)))
   where
-    go : (b : Bool) → rowsE ((elim b as (λ k. Ledger) [ true ↦ record { header = withAdded h 0 n; entries = halved es } | false ↦ record { header = withAdded h (suc (h .epoch)) n; entries = es } ]) .entries) ≡ rowsE es
+    go : (b : Bool)
+        → rowsE
+        ((elim b as (λ k. Ledger) [
+          | true ↦ record { header = withAdded h 0 n; entries = halved es }
+          | false ↦ record { header = withAdded h (suc (h .epoch)) n; entries = es }
+        ]) .entries) ≡ rowsE es
     go true = halve-rows es
     go false = refl
 
 -- a retention that evicts nothing: what is held after is what was held, with what was taken
-abbrev pub RetainedOk : Ledger → Retained → Type 0
+abbrev pub RetainedOk : Ledger → Retention → Type 0
 RetainedOk l d = T (not (d .evicts)) → Alike (rowsE (d .ledger .entries)) (d .took ++ rowsE (l .entries))
 
-carry-ok : (l : Ledger) (t : Row) (h : ℕ) (a : Account) (m : Meter) (v : Verdict) → VerdictOk t (l .entries) v → RetainedOk l (carryOut l t h a m v)
+carry-ok : (l : Ledger) (t : Row) (h : ℕ) (a : Account) (m : Meter) (v : Placement) → PlacementOk t (l .entries) v
+    → RetainedOk l (carryOut l t h a m v)
 unfolding carryOut untaken newborn
 carry-ok l t h a m (subsumed p) c = λ e. record
     { there = covers-cons c (covers-refl (rowsE (l .entries))); back = covers-sub (λ r i. inr i) }
@@ -206,7 +219,8 @@ carry-ok l t h a m (evicting v p) c = λ e. absurd e
 
 pub retained-ok : (l : Ledger) (m h : ℕ) (t : Row) (r : Read) → RetainedOk l (retained l m h t r)
 unfolding retained untaken
-retained-ok l m h t (Paid a k) = carry-ok l t h a k (verdict (l .header .limits) m t (l .entries)) (verdict-ok (l .header .limits) m t (l .entries))
+retained-ok l m h t (Paid a k) =
+    carry-ok l t h a k (placement (l .header .limits) m t (l .entries)) (placement-ok (l .header .limits) m t (l .entries))
 retained-ok l m h t (Declined a k) = λ e. alike-refl (rowsE (l .entries))
 retained-ok l m h t (Stopped a k) = λ e. alike-refl (rowsE (l .entries))
 

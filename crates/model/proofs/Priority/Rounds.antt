@@ -1,7 +1,7 @@
 -- The rounds of a closing: at the end every row is settled. Assumes nothing.
 use mathlib.Core.Path.{_≡_, refl, sym, ap, _∙_, subst}
 use mathlib.Core.Logic.{_⊎_, inl, inr}
-use mathlib.Core.Bool.{Bool, true, false, not, _&&_, _||_}
+use mathlib.Core.Bool.{Bool, true, false, not, _&&_}
 use mathlib.Core.List.{List, [], _∷_}
 use mathlib.Core.Option.{Option, none, some}
 use Prim.Native.Nat.{ℕ, zero, suc, _*_, _≤_, _<_, zero-le, suc-le-suc}
@@ -10,6 +10,8 @@ use native.Mathlib.Omega.{arith}
 use lib.ListN.{length, getD}
 use lib.Dec.{T, eqb, ltb, eqb-refl, ltb→lt}
 use Rattle.lists.specs.Lists.{select, upTo}
+use Rattle.lists.proofs.Bools.{and-of, not-of, or-l, or-r, T-true, T-of}
+use Rattle.lists.proofs.Selects.{length-range, select-short}
 use Rattle.words.specs.Literal.{atom, opposite}
 use Rattle.words.specs.Region.{Region, has, holds, contradicts, decided, decide, markLiteral}
 use Rattle.words.proofs.Regions.{Sound}
@@ -23,7 +25,8 @@ use Rattle.model.specs.Records.{Row, Ledger, rowsOf, rowAt, hitEntry, wi
 use Rattle.model.specs.Deduction.{Next, Published, nextOutput, deduction, deductionTicks, startCursor}
 use Rattle.model.specs.Deduction as deducing
 use Rattle.model.specs.Postings.{candidates as search}
-use Rattle.model.specs.Closing.{State, Turn, going, conflict, halted, onGoing, withMeter, withHeader, hitAt, counted, decideOn, publish, obey, act, round, decidedSince, rounds, closing}
+use Rattle.model.specs.Closing.{State, Turn, going, conflict, halted, onGoing, withMeter, withHeader, hitAt, counted, decideOn}
+use Rattle.model.specs.Closing.{publish, obey, act, round, decidedSince, rounds, closing}
 use Rattle.model.specs.Priority.{In, Contains, ClosedFor, Says}
 use Rattle.model.proofs.Cover.{and-left, and-right}
 use Rattle.model.proofs.Packing.{Asc}
@@ -31,13 +34,15 @@ use Rattle.model.proofs.Priority.Covering.{rowsE}
 use Rattle.model.proofs.Priority.Fine.{Fine}
 use Rattle.model.proofs.Priority.Steps.{tick-elim}
 use Rattle.model.proofs.Priority.Conditions.{mark-sound, holds-mark}
-use Rattle.model.proofs.Priority.Quiet.{adjust-rows, hit-row}
+use Rattle.model.proofs.Priority.Quiet.{adjust-rows}
 use Rattle.model.proofs.Priority.Closed.{says, in-or-not}
 use Rattle.model.proofs.Priority.Cursors.{Good, Gives as Given, start-good, next-gives}
-use Rattle.model.proofs.Priority.Inside.{T-true, T-of, double, not-con, row-in, empty-row, IsForce}
-use Rattle.model.proofs.Priority.Settling.{Settled, Quiet, decided-grow, settled-grow, quiet-later, settled-forced, settled-nothing, settled-required}
-use Rattle.model.proofs.Priority.Reaching.{After, Left, Resting, resting, select-short}
-use Rattle.model.proofs.Priority.Searching.{in-upTo, count-long, in-select, select-in, Own, Reads, FoundOk, search-reads}
+use Rattle.model.proofs.Priority.Inside.{double, not-con, row-in, empty-row, IsForce, asc-row}
+use Rattle.model.proofs.Priority.Settling.{Settled, Quiet, decided-grow, settled-grow, quiet-later, settled-forced, settled-nothing}
+use Rattle.model.proofs.Priority.Settling.{settled-required}
+use Rattle.model.proofs.Priority.Reaching.{After, Left, Resting, resting}
+use Rattle.model.proofs.Priority.Searching.{in-upTo, in-select, select-in, Own, Reads, FoundOk, search-reads}
+use Rattle.model.proofs.Entries.{hit-row}
 
 -- ---- a turn that goes on
 abbrev pub OnGoing : (State → Type 0) → Turn → Type 0
@@ -45,7 +50,8 @@ OnGoing P (going s) = P s
 OnGoing P (conflict s) = Unit {0}
 OnGoing P (halted s) = Unit {0}
 
-pub on-ok : (P Q : State → Type 0) (t : Turn) (k : State → Turn) → OnGoing P t → ((s : State) → P s → OnGoing Q (k s)) → OnGoing Q (onGoing t k)
+pub on-ok : (P Q : State → Type 0) (t : Turn) (k : State → Turn) → OnGoing P t → ((s : State) → P s → OnGoing Q (k s))
+    → OnGoing Q (onGoing t k)
 unfolding onGoing
 on-ok P Q (going s) k p f = f s p
 on-ok P Q (conflict s) k p f = tt
@@ -71,17 +77,11 @@ decided-in n r s a t = go (has (r .held) a) refl t
     go true e u = s .held .inside a e
     go false e u = s .cut .inside a (T-true (has (r .cut) a) u)
 
-and-of : (a b : Bool) → T a → T b → T (a && b)
-and-of true b x y = y
-and-of false b x y = x
-
-not-of : (b : Bool) → b ≡ false → T (not b)
-not-of true e = subst (λ (x : Bool). T (not x)) (sym e) tt
-not-of false e = tt
-
 since-has : (n : ℕ) (r q : Region) → Sound n q → (a : ℕ) → T (decided q a) → decided r a ≡ false → In a (decidedSince n r q)
 unfolding decidedSince
-since-has n r q s a t e = in-select (λ a. decided q a && not (decided r a)) (upTo n) a (in-upTo n a (decided-in n q s a t)) (and-of (decided q a) (not (decided r a)) t (not-of (decided r a) e))
+since-has n r q s a t e =
+    in-select (λ a. decided q a && not (decided r a)) (upTo n) a (in-upTo n a (decided-in n q s a t))
+    (and-of (decided q a) (not (decided r a)) t (not-of (decided r a) e))
 
 since-in : (n : ℕ) (r q : Region) (a : ℕ) → In a (decidedSince n r q) → In a (upTo n) × T (decided q a && not (decided r a))
 unfolding decidedSince
@@ -105,19 +105,23 @@ fewer f g [] h = zero-le
 fewer f g (x ∷ xs) h = go (f x) (g x) (h x) (fewer f g xs h)
   where
     go : (a b : Bool) → (T a → T b) → length (select f xs) ≤ length (select g xs)
-        → length {A = ℕ} (elim a as (λ z. List ℕ) [ true ↦ x ∷ select f xs | false ↦ select f xs ]) ≤ length {A = ℕ} (elim b as (λ z. List ℕ) [ true ↦ x ∷ select g xs | false ↦ select g xs ])
+        → length {A = ℕ} (elim a as (λ z. List ℕ) [ true ↦ x ∷ select f xs | false ↦ select f xs ])
+        ≤ length {A = ℕ} (elim b as (λ z. List ℕ) [ true ↦ x ∷ select g xs | false ↦ select g xs ])
     go true true k l = suc-le-suc l
     go true false k l = absurd (k tt)
     go false true k l = omega arith
     go false false k l = l
 
-fewer-by : (f g : ℕ → Bool) (xs : List ℕ) (a : ℕ) → ((b : ℕ) → T (f b) → T (g b)) → In a xs → (T (f a) → ⊥) → T (g a) → length (select f xs) < length (select g xs)
+fewer-by : (f g : ℕ → Bool) (xs : List ℕ) (a : ℕ) → ((b : ℕ) → T (f b) → T (g b)) → In a xs → (T (f a) → ⊥) → T (g a)
+    → length (select f xs) < length (select g xs)
 unfolding select
 fewer-by f g [] a h m u v = absurd m
 fewer-by f g (x ∷ xs) a h m u v = go (f x) (g x) refl refl (h x) m (fewer f g xs h) (λ i. fewer-by f g xs a h i u v)
   where
-    go : (b c : Bool) → f x ≡ b → g x ≡ c → (T b → T c) → In a (x ∷ xs) → length (select f xs) ≤ length (select g xs) → (In a xs → length (select f xs) < length (select g xs))
-        → length {A = ℕ} (elim b as (λ z. List ℕ) [ true ↦ x ∷ select f xs | false ↦ select f xs ]) < length {A = ℕ} (elim c as (λ z. List ℕ) [ true ↦ x ∷ select g xs | false ↦ select g xs ])
+    go : (b c : Bool) → f x ≡ b → g x ≡ c → (T b → T c) → In a (x ∷ xs) → length (select f xs) ≤ length (select g xs)
+        → (In a xs → length (select f xs) < length (select g xs))
+        → length {A = ℕ} (elim b as (λ z. List ℕ) [ true ↦ x ∷ select f xs | false ↦ select f xs ])
+        < length {A = ℕ} (elim c as (λ z. List ℕ) [ true ↦ x ∷ select g xs | false ↦ select g xs ])
     go true c p q k (inl e) l ih = absurd (u (T-of (ap f e ∙ p)))
     go true true p q k (inr i) l ih = suc-le-suc (ih i)
     go true false p q k (inr i) l ih = absurd (k tt)
@@ -137,12 +141,15 @@ pub opens-less : (n : ℕ) (r q : Region) (a : ℕ) → Contains q r → In a (d
 unfolding opens
 opens-less n r q a c i =
     let z = since-in n r q a i in
-    fewer-by (λ a. not (decided q a)) (λ a. not (decided r a)) (upTo n) a (λ b t. not-grow (decided r b) (decided q b) (decided-grow r q c b) t) (z .0)
+    fewer-by (λ a. not (decided q a)) (λ a. not (decided r a)) (upTo n) a
+    (λ b t. not-grow (decided r b) (decided q b) (decided-grow r q c b) t) (z .0)
     (λ t. not-both (decided q a) t (and-left (decided q a) (not (decided r a)) (z .1))) (and-right (decided q a) (not (decided r a)) (z .1))
 
 pub opens-le : (n : ℕ) (r : Region) → opens n r ≤ n
 unfolding opens upTo
-opens-le n r = subst (λ (k : ℕ). length (select (λ a. not (decided r a)) (upTo n)) ≤ k) (count-long 0 n) (select-short (λ a. not (decided r a)) (upTo n))
+opens-le n r =
+    subst (λ (k : ℕ). length (select (λ a. not (decided r a)) (upTo n)) ≤ k) (length-range 0 n)
+    (select-short (λ a. not (decided r a)) (upTo n))
 
 -- ---- one state after another
 module _ (n : ℕ) (rows : List Row) (fine : Fine rows) where
@@ -158,20 +165,13 @@ module _ (n : ℕ) (rows : List Row) (fine : Fine rows) where
   abbrev pub Decides : ℕ → State → State → Type 0
   Decides c s t = Step s t × T (holds (t .region) c)
 
-  or-l : (a b : Bool) → T a → T (a || b)
-  or-l true b u = tt
-  or-l false b u = absurd u
-
-  or-r : (a b : Bool) → T b → T (a || b)
-  or-r true b u = tt
-  or-r false b u = u
-
   pub decide-step : (c : ℕ) (s : State) → Step s s → OnGoing (Decides c s) (decideOn n c s)
   unfolding decideOn decide
   decide-step c s i = go (ltb (atom c) n && not (contradicts (s .region) c)) refl
     where
       go : (b : Bool) → (ltb (atom c) n && not (contradicts (s .region) c)) ≡ b
-          → OnGoing (Decides c s) (elim (elim b as (λ k. Option Region) [ true ↦ some (markLiteral (s .region) c) | false ↦ none ]) as (λ k. Turn) [ none ↦ conflict s | some r ↦ going (record { ledger = s .ledger; region = r; meter = s .meter }) ])
+          → OnGoing (Decides c s) (elim (elim b as (λ k. Option Region) [ true ↦ some (markLiteral (s .region) c) | false ↦ none ])
+          as (λ k. Turn) [ none ↦ conflict s | some r ↦ going (record { ledger = s .ledger; region = r; meter = s .meter }) ])
       go true e =
           let t = T-of e in
           let h : c < 2 * n = double n c (ltb→lt (atom c) n (and-left (ltb (atom c) n) _ t)) in
@@ -189,19 +189,23 @@ module _ (n : ℕ) (rows : List Row) (fine : Fine rows) where
   abbrev pub AllOut : Row → State → State → Type 0
   AllOut r s t = Step s t × ((y : ℕ) → In y (r .outputs) → T (holds (t .region) y))
 
-  publish-step : (fuel : ℕ) (r : Row) (w : Resting r) (k : OutputCursor) (s : State) → Asc 0 (r .outputs) → Good r k → Step s s → length (w .rest k) < fuel
+  publish-step : (fuel : ℕ) (r : Row) (w : Resting r) (k : OutputCursor) (s : State) → Asc 0 (r .outputs) → Good r k → Step s s
+      → length (w .rest k) < fuel
       → ((y : ℕ) → In y (r .outputs) → In y (w .rest k) ⊎ T (holds (s .region) y)) → OnGoing (AllOut r s) (publish fuel n r k s)
   unfolding publish withMeter
   publish-step zero r w k s a g i l f = absurd (not-suc-le-zero l)
   publish-step (suc fuel) r w k s a g i l f =
-      go (nextOutput (s .region) r k (s .meter)) (next-gives (s .region) r k (s .meter) a g) (w .turn (s .region) k (s .meter) g) (λ x t h j m z. publish-step fuel r w x t a h j m z)
+      go (nextOutput (s .region) r k (s .meter)) (next-gives (s .region) r k (s .meter) a g) (w .turn (s .region) k (s .meter) g)
+      (λ x t h j m z. publish-step fuel r w x t a h j m z)
     where
       go : (x : Published) → Given r x → Left (w .rest) (s .region) (w .rest k) x
-          → ((x : OutputCursor) (t : State) → Good r x → Step t t → length (w .rest x) < fuel → ((y : ℕ) → In y (r .outputs) → In y (w .rest x) ⊎ T (holds (t .region) y)) → OnGoing (AllOut r t) (publish fuel n r x t))
+          → ((x : OutputCursor) (t : State) → Good r x → Step t t → length (w .rest x) < fuel
+          → ((y : ℕ) → In y (r .outputs) → In y (w .rest x) ⊎ T (holds (t .region) y)) → OnGoing (AllOut r t) (publish fuel n r x t))
           → OnGoing (AllOut r s) (elim (x .next) as (λ z. Turn) [
             | deducing.stopped ↦ halted (record { ledger = s .ledger; region = s .region; meter = x .meter })
             | deducing.end ↦ going (record { ledger = s .ledger; region = s .region; meter = x .meter })
-            | deducing.output c ↦ onGoing (decideOn n c (record { ledger = s .ledger; region = s .region; meter = x .meter })) (publish fuel n r (x .cursor))
+            | deducing.output c ↦ onGoing (decideOn n c (record { ledger = s .ledger; region = s .region; meter = x .meter }))
+                (publish fuel n r (x .cursor))
           ])
       go x y v ih = by (x .next) (v .after)
         where
@@ -215,7 +219,11 @@ module _ (n : ℕ) (rows : List Row) (fine : Fine rows) where
           tt′ = record { sound = i .sound; grown = λ y h. h; same = i .same }
 
           by : (z : Next) → After (s .region) (w .rest k) z (w .rest (x .cursor))
-              → OnGoing (AllOut r s) (elim z as (λ z. Turn) [ deducing.stopped ↦ halted t | deducing.end ↦ going t | deducing.output c ↦ onGoing (decideOn n c t) (publish fuel n r (x .cursor)) ])
+              → OnGoing (AllOut r s) (elim z as (λ z. Turn) [
+                | deducing.stopped ↦ halted t
+                | deducing.end ↦ going t
+                | deducing.output c ↦ onGoing (decideOn n c t) (publish fuel n r (x .cursor))
+              ])
           by deducing.stopped e = tt
           by deducing.end e = (st, λ y j. pick y (f y j))
             where
@@ -224,17 +232,21 @@ module _ (n : ℕ) (rows : List Row) (fine : Fine rows) where
               pick y (inr u) = u
           by (deducing.output c) e =
               on-ok (Decides c t) (AllOut r s) (decideOn n c t) (publish fuel n r (x .cursor)) (decide-step c t tt′)
-              (λ u d. on-map (AllOut r u) (AllOut r s) (publish fuel n r (x .cursor) u) (λ v p. (step-trans s u v (step-trans s t u st (d .0)) (p .0), p .1))
-              (ih (x .cursor) u (y .cursor) (record { sound = d .0 .sound; grown = λ y h. h; same = d .0 .same }) (less (e .1)) (λ y j. pick u d y (f y j))))
+              (λ u d. on-map (AllOut r u) (AllOut r s) (publish fuel n r (x .cursor) u)
+              (λ v p. (step-trans s u v (step-trans s t u st (d .0)) (p .0), p .1))
+              (ih (x .cursor) u (y .cursor) (record { sound = d .0 .sound; grown = λ y h. h; same = d .0 .same }) (less (e .1))
+              (λ y j. pick u d y (f y j))))
             where
               less : length (w .rest (x .cursor)) < length (w .rest k) → length (w .rest (x .cursor)) < fuel
               less h = omega arith
 
-              pick : (u : State) → Decides c t u → (y : ℕ) → In y (w .rest k) ⊎ T (holds (s .region) y) → In y (w .rest (x .cursor)) ⊎ T (holds (u .region) y)
+              pick : (u : State) → Decides c t u → (y : ℕ) → In y (w .rest k) ⊎ T (holds (s .region) y)
+                  → In y (w .rest (x .cursor)) ⊎ T (holds (u .region) y)
               pick u d y (inr h) = inr (d .0 .grown y h)
               pick u d y (inl m) = part (e .0 y m)
                 where
-                  part : (y ≡ c) ⊎ (In y (w .rest (x .cursor)) ⊎ T (holds (s .region) y)) → In y (w .rest (x .cursor)) ⊎ T (holds (u .region) y)
+                  part : (y ≡ c) ⊎ (In y (w .rest (x .cursor)) ⊎ T (holds (s .region) y))
+                      → In y (w .rest (x .cursor)) ⊎ T (holds (u .region) y)
                   part (inl q) = inr (subst (λ (z : ℕ). T (holds (u .region) z)) (sym q) (d .1))
                   part (inr (inl j)) = inl j
                   part (inr (inr h)) = inr (d .0 .grown y h)
@@ -257,25 +269,28 @@ module _ (n : ℕ) (rows : List Row) (fine : Fine rows) where
   abbrev Settles : Row → State → State → Type 0
   Settles r s t = Step s t × Settled r (t .region)
 
-  obey-step : (p : ℕ) (r : Row) (d : Deduction) (s : State) → deduction (s .region) r ≡ d → Asc 0 (r .outputs) → Step s s → OnGoing (Settles r s) (obey n p r d s)
+  obey-step : (p : ℕ) (r : Row) (d : Deduction) (s : State) → deduction (s .region) r ≡ d → Asc 0 (r .outputs) → Step s s
+      → OnGoing (Settles r s) (obey n p r d s)
   unfolding obey
   obey-step p r Nothing s e a i = (i, settled-nothing r (s .region) e)
   obey-step p r Force s e a i =
       let w = resting r a in
       let c = counted-step p s i in
-      on-map (AllOut r (counted p s)) (Settles r s) (publish (suc (length (r .outputs))) n r startCursor (counted p s)) (λ t z. let b = step-trans s (counted p s) t c (z .0) in (b, settled-forced r (s .region) (t .region) e (b .grown) (z .1)))
-      (publish-step (suc (length (r .outputs))) r w startCursor (counted p s) a (start-good r) (self s (counted p s) c) (suc-le-suc (w .short)) (λ y j. inl (w .all y j)))
+      on-map (AllOut r (counted p s)) (Settles r s) (publish (suc (length (r .outputs))) n r startCursor (counted p s))
+      (λ t z. let b = step-trans s (counted p s) t c (z .0) in (b, settled-forced r (s .region) (t .region) e (b .grown) (z .1)))
+      (publish-step (suc (length (r .outputs))) r w startCursor (counted p s) a (start-good r) (self s (counted p s) c)
+      (suc-le-suc (w .short)) (λ y j. inl (w .all y j)))
   obey-step p r (Require c) s e a i =
       let k = counted-step p s i in
-      on-map (Decides (c .0) (counted p s)) (Settles r s) (decideOn n (c .0) (counted p s)) (λ t z. let b = step-trans s (counted p s) t k (z .0) in (
+      on-map (Decides (c .0) (counted p s)) (Settles r s) (decideOn n (c .0) (counted p s))
+      (λ t z. let b = step-trans s (counted p s) t k (z .0) in (
         b,
-        settled-required n r (s .region) (t .region) (c .0) (says (s .region) r (c .0) (subst (λ (d : Deduction). Says d r (c .0)) (sym e) refl)) (λ f. subst IsForce (sym f ∙ e) tt) (b .sound) (b .grown) (z .1),
+        settled-required n r (s .region) (t .region) (c .0)
+            (says (s .region) r (c .0) (subst (λ (d : Deduction). Says d r (c .0)) (sym e) refl)) (λ f. subst IsForce (sym f ∙ e) tt)
+            (b .sound)
+            (b .grown) (z .1),
       ))
       (decide-step (c .0) (counted p s) (self s (counted p s) k))
-
-  asc-row : (r : Row) → In r rows ⊎ (r ≡ empty-row) → Asc 0 (r .outputs)
-  asc-row r (inl m) = fine r m .outputs
-  asc-row r (inr e) = subst (λ (z : Row). Asc 0 (z .outputs)) (sym e) tt
 
   row-at : (p : ℕ) (s : State) → Step s s → rowAt p (s .ledger) ≡ rowOf p
   unfolding rowAt rowsOf rowOf
@@ -283,16 +298,20 @@ module _ (n : ℕ) (rows : List Row) (fine : Fine rows) where
 
   asc-at : (p : ℕ) → Asc 0 (rowOf p .outputs)
   unfolding rowOf
-  asc-at p = asc-row (getD rows p empty-row) (row-in rows p empty-row)
+  asc-at p = asc-row rows fine (getD rows p empty-row) (row-in rows p empty-row)
 
   act-step : (p : ℕ) (s : State) → Step s s → OnGoing (Settles (rowOf p) s) (act n p s)
   unfolding act withMeter
-  act-step p s i = subst (λ (r : Row). OnGoing (Settles (rowOf p) s) (elim (ticks (deductionTicks (s .region) r) (s .meter)) as (λ k. Turn) [
-    | Stopped m ↦ halted (record { ledger = s .ledger; region = s .region; meter = m })
-    | Ticked m ↦ obey n p r (deduction (s .region) r) (record { ledger = s .ledger; region = s .region; meter = m })
-  ])) (sym (row-at p s i))
+  act-step p s i =
+      subst (λ (r : Row). OnGoing (Settles (rowOf p) s) (elim (ticks (deductionTicks (s .region) r) (s .meter)) as (λ k. Turn) [
+        | Stopped m ↦ halted (record { ledger = s .ledger; region = s .region; meter = m })
+        | Ticked m ↦ obey n p r (deduction (s .region) r) (record { ledger = s .ledger; region = s .region; meter = m })
+      ])) (sym (row-at p s i))
       (tick-elim (OnGoing (Settles (rowOf p) s)) (ticks (deductionTicks (s .region) (rowOf p)) (s .meter)) _ _ (λ m. tt)
-      (λ m. on-map (Settles (rowOf p) (at m)) (Settles (rowOf p) s) (obey n p (rowOf p) (deduction (s .region) (rowOf p)) (at m)) (λ t z. (record { sound = z .0 .sound; grown = z .0 .grown; same = z .0 .same }, z .1)) (obey-step p (rowOf p) (deduction (s .region) (rowOf p)) (at m) refl (asc-at p) (record { sound = i .sound; grown = λ y h. h; same = i .same }))))
+      (λ m. on-map (Settles (rowOf p) (at m)) (Settles (rowOf p) s) (obey n p (rowOf p) (deduction (s .region) (rowOf p)) (at m))
+      (λ t z. (record { sound = z .0 .sound; grown = z .0 .grown; same = z .0 .same }, z .1))
+      (obey-step p (rowOf p) (deduction (s .region) (rowOf p)) (at m) refl (asc-at p)
+      (record { sound = i .sound; grown = λ y h. h; same = i .same }))))
     where
       at : Meter → State
       at m = record { ledger = s .ledger; region = s .region; meter = m }
@@ -306,11 +325,15 @@ module _ (n : ℕ) (rows : List Row) (fine : Fine rows) where
   round-step [] s i = (i, λ p m. absurd m)
   round-step (p ∷ ps) s i =
       on-ok (Settles (rowOf p) s) (Rounded (p ∷ ps) s) (act n p s) (round n ps) (act-step p s i)
-      (λ u z. on-map (Rounded ps u) (Rounded (p ∷ ps) s) (round n ps u) (λ t w. (step-trans s u t (z .0) (w .0), each u z t w)) (round-step ps u (self s u (z .0))))
+      (λ u z. on-map (Rounded ps u) (Rounded (p ∷ ps) s) (round n ps u) (λ t w. (step-trans s u t (z .0) (w .0), each u z t w))
+      (round-step ps u (self s u (z .0))))
     where
-      each : (u : State) → Settles (rowOf p) s u → (t : State) → Rounded ps u t → (q : ℕ) → In q (p ∷ ps) → Quiet (rowOf q) (s .region) (t .region) → Settled (rowOf q) (t .region)
+      each : (u : State) → Settles (rowOf p) s u → (t : State) → Rounded ps u t → (q : ℕ) → In q (p ∷ ps)
+          → Quiet (rowOf q) (s .region) (t .region) → Settled (rowOf q) (t .region)
       each u z t w q (inl e) k = subst (λ (y : ℕ). Settled (rowOf y) (t .region)) (sym e)
-          (settled-grow n (rowOf p) (u .region) (t .region) (w .0 .sound) (w .0 .grown) (quiet-later (rowOf p) (s .region) (u .region) (t .region) (z .0 .grown) (subst (λ (y : ℕ). Quiet (rowOf y) (s .region) (t .region)) e k)) (z .1))
+          (settled-grow n (rowOf p) (u .region) (t .region) (w .0 .sound) (w .0 .grown)
+          (quiet-later (rowOf p) (s .region) (u .region) (t .region) (z .0 .grown)
+          (subst (λ (y : ℕ). Quiet (rowOf y) (s .region) (t .region)) e k)) (z .1))
       each u z t w q (inr m) k = w .1 q m (quiet-later (rowOf q) (s .region) (u .region) (t .region) (z .0 .grown) k)
 
   -- ---- all rounds
@@ -360,12 +383,14 @@ module _ (n : ℕ) (rows : List Row) (fine : Fine rows) where
   in-at (q ∷ rs) r (inr m) = let z = in-at rs r m in (suc (z .0), suc-le-suc (z .1), z .2)
 
   -- each row is read in the round, or settled before it
-  read-or : (s : State) (as′ ps : List ℕ) → Ready s as′ → Reads (s .ledger .header .full) rows as′ ps → (p : ℕ) → p < length rows → In p ps ⊎ Settled (rowOf p) (s .region)
+  read-or : (s : State) (as′ ps : List ℕ) → Ready s as′ → Reads (s .ledger .header .full) rows as′ ps → (p : ℕ) → p < length rows
+      → In p ps ⊎ Settled (rowOf p) (s .region)
   unfolding rowOf
   read-or s as′ ps (inl t) f p h = inl (f p h (inl t))
   read-or s as′ ps (inr g) f p h = go (some-own (getD rows p empty-row) as′)
     where
-      go : ((x : ℕ) × Own (getD rows p empty-row) x × In (atom x) as′) ⊎ ((x : ℕ) → Own (getD rows p empty-row) x → In (atom x) as′ → ⊥) → In p ps ⊎ Settled (getD rows p empty-row) (s .region)
+      go : ((x : ℕ) × Own (getD rows p empty-row) x × In (atom x) as′) ⊎ ((x : ℕ) → Own (getD rows p empty-row) x → In (atom x) as′ → ⊥)
+          → In p ps ⊎ Settled (getD rows p empty-row) (s .region)
       go (inl z) = inl (f p h (inr z))
       go (inr k) = inr (g (getD rows p empty-row) (get-in rows p h) k)
 
@@ -385,15 +410,23 @@ module _ (n : ℕ) (rows : List Row) (fine : Fine rows) where
       go (inl i) = w .1 (z .0) i quiet
       go (inr h) = settled-grow n (getD rows (z .0) empty-row) (s .region) (u .region) (w .0 .sound) (w .0 .grown) quiet h
 
-  pub rounds-closed : (fuel : ℕ) (as′ : List ℕ) (s : State) → length rows ≤ maxRows → Step s s → Ready s as′ → OnGoing Ended (rounds fuel n as′ s)
+  pub rounds-closed : (fuel : ℕ) (as′ : List ℕ) (s : State) → length rows ≤ maxRows → Step s s → Ready s as′
+      → OnGoing Ended (rounds fuel n as′ s)
   unfolding rounds withMeter withHeader
   rounds-closed zero as′ s few i y = tt
   rounds-closed (suc fuel) as′ s few i y =
-      go (search (s .ledger) as′ (s .meter) .found) (subst (λ (l : List Row). FoundOk (s .ledger .header .full) l as′ (search (s .ledger) as′ (s .meter) .found)) (i .same) (search-reads (s .ledger) as′ (s .meter) (subst (λ (l : List Row). length l ≤ maxRows) (sym (i .same)) few)))
+      go (search (s .ledger) as′ (s .meter) .found)
+      (subst (λ (l : List Row). FoundOk (s .ledger .header .full) l as′ (search (s .ledger) as′ (s .meter) .found)) (i .same)
+      (search-reads (s .ledger) as′ (s .meter) (subst (λ (l : List Row). length l ≤ maxRows) (sym (i .same)) few)))
       (λ bs u j k. rounds-closed fuel bs u few j k)
     where
       t : State
-      t = record { ledger = record { header = search (s .ledger) as′ (s .meter) .header; entries = s .ledger .entries }; region = s .region; meter = search (s .ledger) as′ (s .meter) .meter }
+      t =
+          record {
+            ledger = record { header = search (s .ledger) as′ (s .meter) .header; entries = s .ledger .entries };
+            region = s .region;
+            meter = search (s .ledger) as′ (s .meter) .meter;
+          }
 
       next : State → Turn
       next u = elim (decidedSince n (s .region) (u .region)) as (λ k. Turn) [ [] ↦ going u | a ∷ bs ↦ rounds fuel n (a ∷ bs) u ]
@@ -402,21 +435,29 @@ module _ (n : ℕ) (rows : List Row) (fine : Fine rows) where
           → ((bs : List ℕ) (u : State) → Step u u → Ready u bs → OnGoing Ended (rounds fuel n bs u))
           → OnGoing Ended (elim o as (λ k. Turn) [ none ↦ halted t | some ps ↦ onGoing (round n ps t) next ])
       go none f ih = tt
-      go (some ps) f ih = on-ok (Rounded ps t) Ended (round n ps t) next (round-step ps t (record { sound = i .sound; grown = λ y h. h; same = i .same })) (λ u w. after u (record { sound = w .0 .sound; grown = w .0 .grown; same = w .0 .same }, w .1))
+      go (some ps) f ih =
+          on-ok (Rounded ps t) Ended (round n ps t) next (round-step ps t (record { sound = i .sound; grown = λ y h. h; same = i .same }))
+          (λ u w. after u (record { sound = w .0 .sound; grown = w .0 .grown; same = w .0 .same }, w .1))
         where
           after : (u : State) → Rounded ps s u → OnGoing Ended (next u)
           after u w = by (decidedSince n (s .region) (u .region)) refl
             where
-              by : (d : List ℕ) → decidedSince n (s .region) (u .region) ≡ d → OnGoing Ended (elim d as (λ k. Turn) [ [] ↦ going u | a ∷ bs ↦ rounds fuel n (a ∷ bs) u ])
+              by : (d : List ℕ) → decidedSince n (s .region) (u .region) ≡ d
+                  → OnGoing Ended (elim d as (λ k. Turn) [ [] ↦ going u | a ∷ bs ↦ rounds fuel n (a ∷ bs) u ])
               by [] e = λ r m. round-ok s u ps (read-or s as′ ps y f) w r m (λ x o j. subst (In (atom x)) e j)
-              by (a ∷ bs) e = ih (a ∷ bs) u (self s u (w .0)) (inr (λ r m k. round-ok s u ps (read-or s as′ ps y f) w r m (λ x o j. k x o (subst (In (atom x)) e j))))
+              by (a ∷ bs) e =
+                  ih (a ∷ bs) u (self s u (w .0))
+                  (inr (λ r m k. round-ok s u ps (read-or s as′ ps y f) w r m (λ x o j. k x o (subst (In (atom x)) e j))))
 
   full-true : (l : Ledger) → withFull (l .header) true .full ≡ true
   unfolding withFull
   full-true l = refl
 
-  pub closing-closed : (l : Ledger) (r : Region) (m : Meter) → length rows ≤ maxRows → l .header .limits .atoms ≡ n → rowsE (l .entries) ≡ rows → Sound n r → OnGoing Ended (closing l r m)
+  pub closing-closed : (l : Ledger) (r : Region) (m : Meter) → length rows ≤ maxRows → l .header .limits .atoms ≡ n
+      → rowsE (l .entries) ≡ rows → Sound n r → OnGoing Ended (closing l r m)
   unfolding closing
   closing-closed l r m few e q s =
-      subst (λ (k : ℕ). OnGoing Ended (rounds (suc k) k [] (record { ledger = record { header = withFull (l .header) true; entries = l .entries }; region = r; meter = m }))) (sym e)
+      subst (λ (k : ℕ). OnGoing Ended
+      (rounds (suc k) k []
+      (record { ledger = record { header = withFull (l .header) true; entries = l .entries }; region = r; meter = m }))) (sym e)
       (rounds-closed (suc n) [] _ few (record { sound = s; grown = λ x t. t; same = q }) (inl (T-of (full-true l))))

@@ -9,9 +9,11 @@ use native.Mathlib.Nat.{le-trans}
 use native.Mathlib.Omega.{arith}
 use lib.Dec.{T, eqb, leb, leb→le}
 use lib.ListN.{length, drop}
-use Rattle.words.specs.Literal.{atom, isPresent}
-use Rattle.words.specs.Region.{Region, has, holds, isRegion, atomsOk}
+use Rattle.lists.proofs.Bools.{bool-ext}
+use Rattle.words.specs.Literal.{isPresent}
+use Rattle.words.specs.Region.{Region, has, holds, isRegion, atomsOk, region}
 use Rattle.words.proofs.Regions.{Sound, sound-of, has-ext}
+use Rattle.words.proofs.Literals.{atom-even, atom-odd}
 use Rattle.meter.specs.declared.Meter.{Meter}
 use Rattle.model.specs.declared.LearningLimits.{LearningLimits}
 use Rattle.model.specs.declared.CloseAnswer.{CloseAnswer}
@@ -19,7 +21,7 @@ use Rattle.model.specs.declared.CloseAnswer.the-variants.{Refused, Stopp
 use Rattle.model.specs.Records.{Row, rowsOf, limitsOk, slotWords, maxRows}
 use Rattle.model.specs.Slots.{entriesIn}
 use Rattle.model.specs.Refusals.{Lent, ledgerIn, refusal, accepts, contentsOk, countsOk}
-use Rattle.model.specs.Operations.{CloseEnd, closeEnd, close, region, regionOk}
+use Rattle.model.specs.Operations.{CloseEnd, closeEnd, close, regionOk}
 use Rattle.model.specs.Closing.{Turn, going, conflict, halted, closing}
 use Rattle.model.specs.Priority.{Contains, ClosedFor, NoneClosed, Ended, Right, ClosesRight, CloseAlike, SecondHalf, Demand3}
 use Rattle.model.proofs.Cover.{and-left, and-right}
@@ -48,11 +50,15 @@ tier-ok l t =
 
 rows-few : (s : Lent) → Accepted s → s .header .rows ≤ s .header .limits .«tier_rows»
 unfolding contentsOk countsOk
-rows-few s a = leb→le (s .header .rows) (s .header .limits .«tier_rows») (and-left (leb (s .header .rows) (s .header .limits .«tier_rows»)) _ (and-left (countsOk (s .header)) _ (a .contents)))
+rows-few s a =
+    leb→le (s .header .rows) (s .header .limits .«tier_rows»)
+    (and-left (leb (s .header .rows) (s .header .limits .«tier_rows»)) _ (and-left (countsOk (s .header)) _ (a .contents)))
 
 few-rows : (s : Lent) → Accepted s → length (rowsE (ledgerIn s .entries)) ≤ maxRows
 unfolding ledgerIn
-few-rows s a = subst (λ (k : ℕ). k ≤ maxRows) (sym (entries-long (s .header .rows) (s .slots))) (le-trans (rows-few s a) (tier-ok (s .header .limits) (a .limits)))
+few-rows s a =
+    subst (λ (k : ℕ). k ≤ maxRows) (sym (entries-long (s .header .rows) (s .slots)))
+    (le-trans (rows-few s a) (tier-ok (s .header .limits) (a .limits)))
 
 -- ---- Closed is closed
 abbrev NotRefused : CloseAnswer → Type 0
@@ -66,8 +72,17 @@ pub record Shut (s : Lent) (e : CloseEnd) : Type 0 where
   pub taken : NotRefused (e .answer) → Accepted s
 
 turn-closed : (rows : List Row) (x y : List ℕ) (m : Meter) (t : Turn) → OnGoing (λ u. ClosedFor rows (u .region)) t
-    → (elim t as (λ k. CloseEnd) [ going u ↦ closeEnd Closed u x y m | conflict u ↦ closeEnd Conflict u x y m | halted u ↦ closeEnd Stopped u x y m ]) .answer ≡ Closed
-    → ClosedFor rows ((elim t as (λ k. CloseEnd) [ going u ↦ closeEnd Closed u x y m | conflict u ↦ closeEnd Conflict u x y m | halted u ↦ closeEnd Stopped u x y m ]) .region)
+    → (elim t as (λ k. CloseEnd) [
+      | going u ↦ closeEnd Closed u x y m
+      | conflict u ↦ closeEnd Conflict u x y m
+      | halted u ↦ closeEnd Stopped u x y m
+    ]) .answer ≡ Closed
+    → ClosedFor rows
+    ((elim t as (λ k. CloseEnd) [
+      | going u ↦ closeEnd Closed u x y m
+      | conflict u ↦ closeEnd Conflict u x y m
+      | halted u ↦ closeEnd Stopped u x y m
+    ]) .region)
 unfolding closeEnd
 turn-closed rows x y m (going u) i e = i
 turn-closed rows x y m (conflict u) i e = absurd (subst IsClosed (sym e) tt)
@@ -78,23 +93,32 @@ unfolding close
 close-shut s held cut x y m = go (refusal tests) refl
   where
     tests : List (Bool × ℕ)
-    tests = accepts s (eqb (length x) (s .header .limits .«tier_rows») && eqb (length y) (s .header .limits .atoms)) ((regionOk s held cut, 6) ∷ [])
+    tests =
+        accepts s (eqb (length x) (s .header .limits .«tier_rows») && eqb (length y) (s .header .limits .atoms))
+        ((regionOk s held cut, 6) ∷ [])
 
     go : (o : Option ℕ) → refusal tests ≡ o → Shut s (elim o as (λ k. CloseEnd) [
       | some n ↦ record { answer = Refused n; ledger = s; region = region held cut; rowScratch = x; atomScratch = y; meter = m; ticks = 0 }
-      | none ↦ elim (closing (ledgerIn s) (region held cut) m) [ going t ↦ closeEnd Closed t x y m | conflict t ↦ closeEnd Conflict t x y m | halted t ↦ closeEnd Stopped t x y m ]
+      | none ↦ elim (closing (ledgerIn s) (region held cut) m) [
+        | going t ↦ closeEnd Closed t x y m
+        | conflict t ↦ closeEnd Conflict t x y m
+        | halted t ↦ closeEnd Stopped t x y m
+      ]
     ])
     go (some k) e = record { closed = λ q. absurd (subst IsClosed (sym q) tt); taken = λ z. absurd z }
     go none e =
-        let a = accepted s (eqb (length x) (s .header .limits .«tier_rows») && eqb (length y) (s .header .limits .atoms)) ((regionOk s held cut, 6) ∷ []) e in
+        let a = accepted s (eqb (length x) (s .header .limits .«tier_rows») && eqb (length y) (s .header .limits .atoms))
+        ((regionOk s held cut, 6) ∷ []) e in
         record {
           closed = turn-closed (rowsE (ledgerIn s .entries)) x y m (closing (ledgerIn s) (region held cut) m)
-              (closing-closed (s .header .limits .atoms) (rowsE (ledgerIn s .entries)) (fine-in s (a .0)) (ledgerIn s) (region held cut) m (few-rows s (a .0)) (atoms-in s) refl (region-ok s held cut (refusal-cons (regionOk s held cut) 6 [] (a .1) .0)));
+              (closing-closed (s .header .limits .atoms) (rowsE (ledgerIn s .entries)) (fine-in s (a .0)) (ledgerIn s) (region held cut) m
+              (few-rows s (a .0)) (atoms-in s) refl (region-ok s held cut (refusal-cons (regionOk s held cut) 6 [] (a .1) .0)));
           taken = λ z. a .0;
         }
 
 -- ---- one closing
-pub right-end : (s : Lent) (held cut x y : List ℕ) (m : Meter) → Right (s .header .limits .atoms) (rowsE (ledgerIn s .entries)) (region held cut) (close s held cut x y m)
+pub right-end : (s : Lent) (held cut x y : List ℕ) (m : Meter)
+    → Right (s .header .limits .atoms) (rowsE (ledgerIn s .entries)) (region held cut) (close s held cut x y m)
 unfolding rowsOf
 right-end s held cut x y m =
     let a = close-end s held cut x y m in
@@ -105,14 +129,6 @@ right-end s held cut x y m =
     }
 
 -- ---- two regions with the same literals have the same words
-atom-even : (a : ℕ) → atom (2 * a) ≡ a
-unfolding atom
-atom-even a = omega arith
-
-atom-odd : (a : ℕ) → atom (2 * a + 1) ≡ a
-unfolding atom
-atom-odd a = omega arith
-
 odd-present : (a : ℕ) → isPresent (2 * a + 1) ≡ true
 unfolding isPresent
 odd-present a = let e : (2 * a + 1) % 2 ≡ 1 = omega arith in ap (λ (k : ℕ). eqb k 1) e
@@ -121,17 +137,13 @@ even-absent : (a : ℕ) → isPresent (2 * a) ≡ false
 unfolding isPresent
 even-absent a = let e : (2 * a) % 2 ≡ 0 = omega arith in ap (λ (k : ℕ). eqb k 1) e
 
-bool-ext : (a b : Bool) → (T a → T b) → (T b → T a) → a ≡ b
-bool-ext true true f g = refl
-bool-ext true false f g = absurd (f tt)
-bool-ext false true f g = absurd (g tt)
-bool-ext false false f g = refl
-
 pub region-ext : (n : ℕ) (r q : Region) → Sound n r → Sound n q → Contains q r → Contains r q → r ≡ q
 region-ext n r q g h a b =
     ap₂ {C = Region} (λ (x y : List ℕ). record { held = x; cut = y })
-    (has-ext (r .held) (q .held) (g .held .words) (h .held .words) (g .held .long ∙ sym (h .held .long)) (λ k. sym (held-of r k) ∙ both (2 * k + 1) ∙ held-of q k))
-    (has-ext (r .cut) (q .cut) (g .cut .words) (h .cut .words) (g .cut .long ∙ sym (h .cut .long)) (λ k. sym (cut-of r k) ∙ both (2 * k) ∙ cut-of q k))
+    (has-ext (r .held) (q .held) (g .held .words) (h .held .words) (g .held .long ∙ sym (h .held .long))
+    (λ k. sym (held-of r k) ∙ both (2 * k + 1) ∙ held-of q k))
+    (has-ext (r .cut) (q .cut) (g .cut .words) (h .cut .words) (g .cut .long ∙ sym (h .cut .long))
+    (λ k. sym (cut-of r k) ∙ both (2 * k) ∙ cut-of q k))
   where
     held-of : (r : Region) (k : ℕ) → holds r (2 * k + 1) ≡ has (r .held) k
     held-of r k = holds-present r (2 * k + 1) (odd-present k) ∙ ap (has (r .held)) (atom-odd k)
@@ -154,7 +166,8 @@ over-in s a r i = row-over (s .header .limits .atoms) r (rows-ok s a r i)
 abbrev ClosesAlike : ℕ → List Row → List Row → Type 0
 ClosesAlike n us vs = (d : Region) → T (isRegion n d) → ClosedFor us d ↔ ClosedFor vs d
 
-alike-end : (n : ℕ) (us vs : List Row) (r : Region) (x y : CloseEnd) → ClosesAlike n us vs → Ended (x .answer) → Ended (y .answer) → Right n us r x → Right n vs r y → CloseAlike n us vs r x y
+alike-end : (n : ℕ) (us vs : List Row) (r : Region) (x y : CloseEnd) → ClosesAlike n us vs → Ended (x .answer) → Ended (y .answer)
+    → Right n us r x → Right n vs r y → CloseAlike n us vs r x y
 alike-end n us vs r x y f a b p q = record {
   answer = go a b;
   conflict = (p .ifConflict, none a);
@@ -165,8 +178,12 @@ alike-end n us vs r x y f a b p q = record {
   where
     go : Ended (x .answer) → Ended (y .answer) → x .answer ≡ y .answer
     go (inl e) (inl z) = e ∙ sym z
-    go (inl e) (inr z) = let c = p .ifClosed e in absurd (q .ifConflict z (x .region) (c .isA) (f (x .region) (c .isA) .0 (c .closed)) (c .contains))
-    go (inr e) (inl z) = let c = q .ifClosed z in absurd (p .ifConflict e (y .region) (c .isA) (f (y .region) (c .isA) .1 (c .closed)) (c .contains))
+    go (inl e) (inr z) =
+        let c = p .ifClosed e in
+        absurd (q .ifConflict z (x .region) (c .isA) (f (x .region) (c .isA) .0 (c .closed)) (c .contains))
+    go (inr e) (inl z) =
+        let c = q .ifClosed z in
+        absurd (p .ifConflict e (y .region) (c .isA) (f (y .region) (c .isA) .1 (c .closed)) (c .contains))
     go (inr e) (inr z) = e ∙ sym z
 
     none : Ended (x .answer) → NoneClosed n us r → x .answer ≡ Conflict
@@ -180,7 +197,9 @@ alike-end n us vs r x y f a b p q = record {
         region-ext n (x .region) (y .region) (sound-of n (x .region) (c .isA)) (sound-of n (y .region) (d .isA))
         (c .least (y .region) (d .isA) (f (y .region) (d .isA) .1 (d .closed)) (d .contains))
         (d .least (x .region) (c .isA) (f (x .region) (c .isA) .0 (c .closed)) (c .contains))
-    word e (inr z) = let c = p .ifClosed e in absurd (q .ifConflict z (x .region) (c .isA) (f (x .region) (c .isA) .0 (c .closed)) (c .contains))
+    word e (inr z) =
+        let c = p .ifClosed e in
+        absurd (q .ifConflict z (x .region) (c .isA) (f (x .region) (c .isA) .0 (c .closed)) (c .contains))
 
 closes-alike : (n : ℕ) (us vs : List Row) → Over n us → Over n vs → Alike us vs → ClosesAlike n us vs
 closes-alike n us vs ou ov k d t =
@@ -194,10 +213,13 @@ second-half s t held cut x y v w m k e a b f =
     let at = close-shut t held cut v w k .taken (ended-taken (close t held cut v w k .answer) b) in
     let os = over-in s as′ in
     let ot = subst (λ (n : ℕ). Over n (rowsE (ledgerIn t .entries))) (sym e) (over-in t at) in
-    alike-end (s .header .limits .atoms) (rowsE (ledgerIn s .entries)) (rowsE (ledgerIn t .entries)) (region held cut) (close s held cut x y m) (close t held cut v w k)
-    (closes-alike (s .header .limits .atoms) (rowsE (ledgerIn s .entries)) (rowsE (ledgerIn t .entries)) os ot (force-iff (s .header .limits .atoms) (rowsE (ledgerIn s .entries)) (rowsE (ledgerIn t .entries)) (atoms-ok s as′) os ot .0 f))
+    alike-end (s .header .limits .atoms) (rowsE (ledgerIn s .entries)) (rowsE (ledgerIn t .entries)) (region held cut)
+    (close s held cut x y m) (close t held cut v w k)
+    (closes-alike (s .header .limits .atoms) (rowsE (ledgerIn s .entries)) (rowsE (ledgerIn t .entries)) os ot
+    (force-iff (s .header .limits .atoms) (rowsE (ledgerIn s .entries)) (rowsE (ledgerIn t .entries)) (atoms-ok s as′) os ot .0 f))
     a b (right-end s held cut x y m)
-    (subst (λ (n : ℕ). Right n (rowsE (ledgerIn t .entries)) (region held cut) (close t held cut v w k)) (sym e) (right-end t held cut v w k))
+    (subst (λ (n : ℕ). Right n (rowsE (ledgerIn t .entries)) (region held cut) (close t held cut v w k)) (sym e)
+    (right-end t held cut v w k))
 
 -- every closing ends right, with evictions or without
 pub closes-right : ClosesRight

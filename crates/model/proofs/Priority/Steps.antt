@@ -10,6 +10,7 @@ use native.Mathlib.Omega.{arith}
 use lib.Dec.{T, eqb, leb, ltb, le→leb, leb→le, eqb→eq, ltb→lt}
 use lib.ListN.{length}
 use Rattle.lists.specs.Lists.{all, adjust, ascending, above, below, same}
+use Rattle.lists.proofs.Bools.{and-of}
 use Rattle.words.specs.Literal.{atom}
 use Rattle.words.specs.Region.{Region, decide, atomsOk}
 use Rattle.meter.specs.declared.Meter.{Meter}
@@ -18,13 +19,19 @@ use Rattle.meter.specs.declared.Tick.the-variants.{Ticked, Stopped}
 use Rattle.meter.specs.Meter.{tickOf, ticks, pay, made}
 use Rattle.model.specs.declared.LearningLimits.{LearningLimits}
 use Rattle.model.specs.declared.Header.{Header}
-use Rattle.model.specs.Records.{Row, Entry, Ledger, rowsOf, rowAt, isRow, isRowOver, within, limitsOk, literals, plus, header, withRows, withStale, withFull, attempted, withAccount, withMark, withDeliveries, withSeeded, withHits, hitEntry, withDelivered, maxRows, maxConditions, maxOutputs}
+use Rattle.model.specs.Records.{Row, Entry, Ledger, rowsOf, rowAt, isRow, isRowOver, within, limitsOk, literals, saturatingAdd}
+use Rattle.model.specs.Records.{withRows}
+use Rattle.model.specs.Records.{withStale, withFull, attempted, withAccount, withMark, withDeliveries, withSeeded, withHits, hitEntry}
+use Rattle.model.specs.Records.{withDelivered, maxRows, maxConditions, maxOutputs}
 use Rattle.model.specs.Slots.{slotsOf, entriesIn}
-use Rattle.model.specs.Retention.{Retained, Outcome, Stops, Declines, Subsumes, Adds, retain, canCapture}
-use Rattle.model.specs.Transfers.{Transfer, Delivery, Reach, starting, ticked, receive, received, changeAt, seedRows, markFor, seeding, marked, seededTier, seededStore, passesOver, front, deliverRows, delivering, deliveredTier, deliveredStore}
+use Rattle.model.specs.Retention.{Retention, Outcome, Stops, Declines, Subsumes, Adds, retain, canCapture}
+use Rattle.model.specs.Transfers.{Transfer, Delivery, Progress, starting, ticked, receive, received, changeAt, seedRows, markFor}
+use Rattle.model.specs.Transfers.{seeding, marked, seededTier, seededStore, passesOver, front, deliverRows, delivering, deliveredTier}
+use Rattle.model.specs.Transfers.{deliveredStore}
 use Rattle.model.specs.Transfers as transfers
 use Rattle.model.specs.Refusals.{Lent, refusal, ledgerIn, lentOf, lengthsOk, entryOk, countsOk, wordsOk, contentsOk, accepts}
-use Rattle.model.specs.Operations.{OfferEnd, unoffered, capture, fitsOffer, offer, positionOk, hit, begin, TransferEnd, transferRefusal, untransferred, transferEnd, seed, deliver}
+use Rattle.model.specs.Operations.{OfferEnd, unoffered, capture, fitsOffer, offer, positionOk, hit, begin, TransferEnd}
+use Rattle.model.specs.Operations.{transferRefusal, untransferred, transferEnd, seed, deliver}
 use Rattle.model.specs.Closing.{hitAt}
 use Rattle.model.specs.Priority.{In, Gives, Covers}
 use Rattle.model.proofs.Cover.{and-left, and-right}
@@ -39,11 +46,13 @@ pub if-elim : {A : Type 0} (P : A → Type 0) (b : Bool) (x y : A) → (T b → 
 if-elim P true x y f g = f tt
 if-elim P false x y f g = g
 
-pub opt-elim : {A B : Type 0} (P : B → Type 0) (o : Option A) (x : B) (f : A → B) → (o ≡ none → P x) → ((a : A) → P (f a)) → P (elim o as (λ k. B) [ none ↦ x | some a ↦ f a ])
+pub opt-elim : {A B : Type 0} (P : B → Type 0) (o : Option A) (x : B) (f : A → B) → (o ≡ none → P x) → ((a : A) → P (f a))
+    → P (elim o as (λ k. B) [ none ↦ x | some a ↦ f a ])
 opt-elim P none x f g h = g refl
 opt-elim P (some a) x f g h = h a
 
-pub tick-elim : {A : Type 0} (P : A → Type 0) (t : Tick) (f g : Meter → A) → ((m : Meter) → P (f m)) → ((m : Meter) → P (g m)) → P (elim t as (λ k. A) [ Stopped m ↦ f m | Ticked m ↦ g m ])
+pub tick-elim : {A : Type 0} (P : A → Type 0) (t : Tick) (f g : Meter → A) → ((m : Meter) → P (f m)) → ((m : Meter) → P (g m))
+    → P (elim t as (λ k. A) [ Stopped m ↦ f m | Ticked m ↦ g m ])
 tick-elim P (Stopped m) f g h i = h m
 tick-elim P (Ticked m) f g h i = i m
 
@@ -64,12 +73,12 @@ in-split (y ∷ ys) b x (inr m) = go (in-split ys b x m)
     go (inl i) = inl (inr i)
     go (inr i) = inr i
 
-in-left : {A : Type 0} (a b : List A) (x : A) → In x a → In x (a ++ b)
+pub in-left : {A : Type 0} (a b : List A) (x : A) → In x a → In x (a ++ b)
 in-left [] b x m = absurd m
 in-left (y ∷ ys) b x (inl e) = inl e
 in-left (y ∷ ys) b x (inr m) = inr (in-left ys b x m)
 
-in-right : {A : Type 0} (a b : List A) (x : A) → In x b → In x (a ++ b)
+pub in-right : {A : Type 0} (a b : List A) (x : A) → In x b → In x (a ++ b)
 in-right [] b x m = m
 in-right (y ∷ ys) b x m = inr (in-right ys b x m)
 
@@ -81,7 +90,9 @@ covers-app C A B c = record { at = at }
       where
         go : In s C ⊎ In s B → Gives (C ++ A) (s .conditions) o
         go (inl i) = record { by = s; isRow = in-left C A s i; gives = h; within = λ x j. j }
-        go (inr i) = let g = c .at s i o h in record { by = g .by; isRow = in-right C A (g .by) (g .isRow); gives = g .gives; within = g .within }
+        go (inr i) =
+            let g = c .at s i o h in
+            record { by = g .by; isRow = in-right C A (g .by) (g .isRow); gives = g .gives; within = g .within }
 
 pub alike-app : (C : List Row) {A B : List Row} → Alike A B → Alike (C ++ A) (C ++ B)
 alike-app C {A} {B} k = record { there = covers-app C A B (k .there); back = covers-app C B A (k .back) }
@@ -151,8 +162,13 @@ row-over n r t = and-right (within maxConditions maxOutputs r) (isRowOver n r) t
 pub most-ok : (l : LearningLimits) → T (limitsOk l) → (l .«founded_conditions» ≤ maxConditions) × (l .«founded_outputs» ≤ maxOutputs)
 unfolding limitsOk
 most-ok l t =
-    let u = and-right (leb 1 (l .«tier_rows») && leb (l .«tier_rows») maxRows) (leb (l .«founded_conditions») maxConditions && leb (l .«founded_outputs») maxOutputs) (and-right (atomsOk (l .atoms)) _ t) in
-    (leb→le (l .«founded_conditions») maxConditions (and-left (leb (l .«founded_conditions») maxConditions) (leb (l .«founded_outputs») maxOutputs) u), leb→le (l .«founded_outputs») maxOutputs (and-right (leb (l .«founded_conditions») maxConditions) (leb (l .«founded_outputs») maxOutputs) u))
+    let u = and-right (leb 1 (l .«tier_rows») && leb (l .«tier_rows») maxRows)
+    (leb (l .«founded_conditions») maxConditions && leb (l .«founded_outputs») maxOutputs) (and-right (atomsOk (l .atoms)) _ t) in (
+      leb→le (l .«founded_conditions») maxConditions
+          (and-left (leb (l .«founded_conditions») maxConditions) (leb (l .«founded_outputs») maxOutputs) u),
+      leb→le (l .«founded_outputs») maxOutputs
+          (and-right (leb (l .«founded_conditions») maxConditions) (leb (l .«founded_outputs») maxOutputs) u),
+    )
 
 -- ---- written and read back
 all-valid : (es : List Entry) → Fine (rowsE es) → AllValid es
@@ -172,11 +188,20 @@ pub record StepOk (s t : Lent) (took : List Row) (evicts : Bool) : Type 0 where
   pub counted : Counted evicts (s .header .evicted) (t .header .evicted)
 
 pub still : (s : Lent) → StepOk s s [] false
-still s = record { limits = refl; alike = λ e. alike-refl (rowsE (ledgerIn s .entries)); over = λ r i. absurd i; from = covers-refl (rowsE (ledgerIn s .entries)); counted = none-counted (s .header .evicted) }
+still s =
+    record {
+      limits = refl;
+      alike = λ e. alike-refl (rowsE (ledgerIn s .entries));
+      over = λ r i. absurd i;
+      from = covers-refl (rowsE (ledgerIn s .entries));
+      counted = none-counted (s .header .evicted);
+    }
 
 -- from a ledger to the words lent
 pub to-lent : (s : Lent) (l : Ledger) (took : List Row) (evicts : Bool) → Fine (rowsE (l .entries)) → l .header .limits ≡ s .header .limits
-    → (T (not evicts) → Alike (rowsE (l .entries)) (took ++ rowsE (ledgerIn s .entries))) → Over (s .header .limits .atoms) took → Covers (took ++ rowsE (ledgerIn s .entries)) (rowsE (l .entries)) → Counted evicts (s .header .evicted) (l .header .evicted) → StepOk s (lentOf l) took evicts
+    → (T (not evicts) → Alike (rowsE (l .entries)) (took ++ rowsE (ledgerIn s .entries))) → Over (s .header .limits .atoms) took
+    → Covers (took ++ rowsE (ledgerIn s .entries)) (rowsE (l .entries)) → Counted evicts (s .header .evicted) (l .header .evicted)
+    → StepOk s (lentOf l) took evicts
 unfolding lentOf withRows
 to-lent s l took evicts f e a o c n = record {
   limits = e;
@@ -187,7 +212,8 @@ to-lent s l took evicts f e a o c n = record {
 }
 
 -- the rows are those of before
-pub quiet : (s : Lent) (l : Ledger) → Accepted s → l .header .limits ≡ s .header .limits → rowsE (l .entries) ≡ rowsE (ledgerIn s .entries) → l .header .evicted ≡ s .header .evicted → StepOk s (lentOf l) [] false
+pub quiet : (s : Lent) (l : Ledger) → Accepted s → l .header .limits ≡ s .header .limits → rowsE (l .entries) ≡ rowsE (ledgerIn s .entries)
+    → l .header .evicted ≡ s .header .evicted → StepOk s (lentOf l) [] false
 quiet s l a e q n =
     to-lent s l [] false (subst Fine (sym q) (fine-in s a)) e
     (λ t. subst (λ (rs : List Row). Alike (rowsE (l .entries)) rs) q (alike-refl (rowsE (l .entries)))) (λ r i. absurd i)
@@ -198,15 +224,20 @@ quiet s l a e q n =
 offered-valid : (l : LearningLimits) (t : Row) → T (limitsOk l) → T (fitsOffer l t) → T (isRow (l .atoms) t)
 unfolding fitsOffer isRow within
 offered-valid l t k h =
-    let c = and-left (leb (length (t .conditions)) (l .«founded_conditions»)) (leb (length (t .outputs)) (l .«founded_outputs»)) (and-left (leb (length (t .conditions)) (l .«founded_conditions») && leb (length (t .outputs)) (l .«founded_outputs»)) (isRowOver (l .atoms) t) h) in
-    let o = and-right (leb (length (t .conditions)) (l .«founded_conditions»)) (leb (length (t .outputs)) (l .«founded_outputs»)) (and-left (leb (length (t .conditions)) (l .«founded_conditions») && leb (length (t .outputs)) (l .«founded_outputs»)) (isRowOver (l .atoms) t) h) in
+    let c = and-left (leb (length (t .conditions)) (l .«founded_conditions»)) (leb (length (t .outputs)) (l .«founded_outputs»))
+    (and-left (leb (length (t .conditions)) (l .«founded_conditions») && leb (length (t .outputs)) (l .«founded_outputs»))
+    (isRowOver (l .atoms) t) h) in
+    let o = and-right (leb (length (t .conditions)) (l .«founded_conditions»)) (leb (length (t .outputs)) (l .«founded_outputs»))
+    (and-left (leb (length (t .conditions)) (l .«founded_conditions») && leb (length (t .outputs)) (l .«founded_outputs»))
+    (isRowOver (l .atoms) t) h) in
     let m = most-ok l k in
-    and-of (leb (length (t .conditions)) maxConditions && leb (length (t .outputs)) maxOutputs) (isRowOver (l .atoms) t) (and-of (leb (length (t .conditions)) maxConditions) (leb (length (t .outputs)) maxOutputs) (le-leb (length (t .conditions)) (l .«founded_conditions») maxConditions c (m .0)) (le-leb (length (t .outputs)) (l .«founded_outputs») maxOutputs o (m .1))) (and-right (leb (length (t .conditions)) (l .«founded_conditions») && leb (length (t .outputs)) (l .«founded_outputs»)) (isRowOver (l .atoms) t) h)
+    and-of (leb (length (t .conditions)) maxConditions && leb (length (t .outputs)) maxOutputs) (isRowOver (l .atoms) t)
+    (and-of (leb (length (t .conditions)) maxConditions) (leb (length (t .outputs)) maxOutputs)
+    (le-leb (length (t .conditions)) (l .«founded_conditions») maxConditions c (m .0))
+    (le-leb (length (t .outputs)) (l .«founded_outputs») maxOutputs o (m .1)))
+    (and-right (leb (length (t .conditions)) (l .«founded_conditions») && leb (length (t .outputs)) (l .«founded_outputs»))
+    (isRowOver (l .atoms) t) h)
   where
-    and-of : (a b : Bool) → T a → T b → T (a && b)
-    and-of true b x y = y
-    and-of false b x y = x
-
     le-leb : (a b c : ℕ) → T (leb a b) → b ≤ c → T (leb a c)
     le-leb a b c x y = le→leb a c (le-trans (leb→le a b x) y)
 
@@ -217,9 +248,11 @@ capture-ok : (s : Lent) (t : Row) (m : Meter) → Accepted s → T (fitsOffer (s
 unfolding capture attempted withAccount ledgerIn
 capture-ok s t m a h =
     let v = offered-valid (s .header .limits) t (a .limits) h in
-    let f = retain-fine _ (s .header .limits .«founded_outputs») 0 t _ (most-ok (s .header .limits) (a .limits) .1) (valid-of (s .header .limits .atoms) t v) (fine-in s a) in
+    let f = retain-fine _ (s .header .limits .«founded_outputs») 0 t _ (most-ok (s .header .limits) (a .limits) .1)
+    (valid-of (s .header .limits .atoms) t v) (fine-in s a) in
     to-lent s _ _ _ (f .fine) (f .limits) (retain-ok _ (s .header .limits .«founded_outputs») 0 t _)
-    (λ r i. subst (λ (x : Row). T (isRowOver (s .header .limits .atoms) x)) (sym (f .took r i)) (row-over (s .header .limits .atoms) t v)) (f .from) (f .counted)
+    (λ r i. subst (λ (x : Row). T (isRowOver (s .header .limits .atoms) x)) (sym (f .took r i)) (row-over (s .header .limits .atoms) t v))
+    (f .from) (f .counted)
 
 pub offer-ok : (s : Lent) (c o : List ℕ) (m : Meter) → OfferOk s (offer s c o m)
 unfolding offer unoffered

@@ -7,35 +7,27 @@ use Rattle.offer.proofs.answer_of.Tie as tie
 use Rattle.offer.proofs.answer_of.Reads as reads
 use Rattle.offer.proofs.answer_of.Lts as lts
 
--- src/lib.rt:61:31
 enum-told : tie.Need-enum-told
 enum-told c = search needs
 
--- src/lib.rt:62:32
 enum-told-2 : tie.Need-enum-told-2
 enum-told-2 c = search needs
 
--- src/lib.rt:63:29
 enum-known-kept : tie.Need-enum-known-kept
 enum-known-kept c = search needs
 
--- src/lib.rt:64:26
 enum-known-kept-2 : tie.Need-enum-known-kept-2
 enum-known-kept-2 c = search needs
 
--- src/lib.rt:57:1
 returns : tie.Need-returns
 returns c = search needs
 
--- src/lib.rt:57:1
 returns-2 : tie.Need-returns-2
 returns-2 c = search needs
 
--- src/lib.rt:57:1
 returns-3 : tie.Need-returns-3
 returns-3 c = ap answerOf (sym (c .before .kept .given .1))
 
--- src/lib.rt:57:1
 returns-4 : tie.Need-returns-4
 returns-4 c = ap answerOf (sym (c .before .kept2 .given .1))
 

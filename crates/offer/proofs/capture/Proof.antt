@@ -7,40 +7,72 @@ use Rattle.offer.proofs.capture.Tie as tie
 use Rattle.offer.proofs.capture.Reads as reads
 use Rattle.offer.proofs.capture.Lts as lts
 use Rattle.offer.proofs.capture_row.Reads as capture-row-reads
-use Rattle.proposals.proofs.propose.Reads as propose-reads
+use Rattle.row_propose.proofs.propose.Reads as propose-reads
 
--- src/lib.rt:138:34
+-- back from each place to the one before it that the proof names
+abbrev at-start-from-shared-slice-known2 : tie.After-shared-slice-known2 → tie.Start
+at-start-from-shared-slice-known2 c = c .before .before .before .before
+
+abbrev at-start-from-p : tie.After-p → tie.Start
+at-start-from-p c = at-start-from-shared-slice-known2 (c .before)
+
+abbrev at-start : tie.After-propose → tie.Start
+at-start c = at-start-from-shared-slice-known2 (c .before .before)
+
+abbrev at-propose-from-p3 : tie.After-p3 → tie.After-propose
+at-propose-from-p3 c = c .before .before .before .before
+
+abbrev at-propose : tie.After-capture-row → tie.After-propose
+at-propose c = at-propose-from-p3 (c .before)
+
+abbrev at-capture-row-from-slice-known4 : tie.After-slice-known4 → tie.After-capture-row
+at-capture-row-from-slice-known4 c = c .before .before .before .before
+
+abbrev at-capture-row : tie.After-p4 → tie.After-capture-row
+at-capture-row c = at-capture-row-from-slice-known4 (c .before)
+
 slice-aggregate-propose : tie.Need-slice-aggregate-propose
 slice-aggregate-propose c = search needs
 
--- src/lib.rt:138:5
 propose-requires : tie.Need-propose-requires
 propose-requires c κs =
-    let t = c .before .before .before .before .before in
-    (search needs, (fit-conditions (t .args .header .limits) (t .pre .1 .1 .0) _ (t .pre .1 .1 .1), fit-outputs (t .args .header .limits) (t .pre .1 .1 .0) _ (t .pre .1 .1 .1)))
+    let t = at-start-from-p c in (
+      search needs,
+      (
+        fit-conditions (t .args .header .limits) (t .pre .1 .1 .0) _ (t .pre .1 .1 .1),
+        fit-outputs (t .args .header .limits) (t .pre .1 .1 .0) _ (t .pre .1 .1 .1),
+      ),
+    )
 
--- src/lib.rt:139:42
 slice-aggregate-capture-row : tie.Need-slice-aggregate-capture-row
 slice-aggregate-capture-row c = search needs
 
--- src/lib.rt:139:5
 capture-row-requires : tie.Need-capture-row-requires
 capture-row-requires c κs =
-    let t = c .before .before .before .before .before .before .before .before .before .before in
-    let l = t .args .header .limits in
-    (t .pre .0, (fit-proposed l (t .pre .1 .1 .0) _ (t .pre .1 .1 .1) _ (c .before .before .before .before .propose .ensures), (fit-proposal l (t .pre .1 .1 .0) _ (t .pre .1 .1 .1) _ (c .before .before .before .before .propose .ensures), (t .pre .1 .0, most-outputs l (t .pre .1 .1 .0)))))
+    let propose = c .before .before .before .before in
+    let t = at-start propose in
+    let l = t .args .header .limits in (
+      t .pre .0,
+      (
+        fit-proposed l (t .pre .1 .1 .0) _ (t .pre .1 .1 .1) _ (propose .propose .ensures),
+        (
+          fit-proposal l (t .pre .1 .1 .0) _ (t .pre .1 .1 .1) _ (propose .propose .ensures),
+          (t .pre .1 .0, most-outputs l (t .pre .1 .1 .0)),
+        ),
+      ),
+    )
 
--- src/lib.rt:123:1
 same-length : tie.Need-same-length
 same-length c = search needs
 
--- src/lib.rt:123:1
 same-length-2 : tie.Need-same-length-2
 same-length-2 c = search needs
 
--- src/lib.rt:123:1
 returns : tie.Need-returns
-returns c = capture-proposed _ _ _ _ _ _ _ (c .before .before .before .before .before .before .before .before .before .before .propose .ensures) (c .before .before .before .before .before .capture-row .ensures)
+returns c =
+    let capture-row = at-capture-row c in
+    capture-proposed _ _ _ _ _ _ _ (at-propose capture-row .propose .ensures)
+    (capture-row .capture-row .ensures)
 
 pub capture-spec : {M : Type 1} → statement M
 capture-spec =

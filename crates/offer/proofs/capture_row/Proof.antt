@@ -7,39 +7,54 @@ use Rattle.offer.proofs.capture_row.Tie as tie
 use Rattle.offer.proofs.capture_row.Reads as reads
 use Rattle.offer.proofs.capture_row.Lts as lts
 use Rattle.offer.proofs.captured.Reads as captured-reads
-use Rattle.retention.proofs.retain.Reads as retain-reads
+use Rattle.retain.proofs.retain.Reads as retain-reads
 
--- src/lib.rt:106:19
+-- back from each place to the one before it that the proof names
+abbrev at-start-from-limits : tie.After-limits → tie.Start
+at-start-from-limits c = c .before .before .before .before
+
+abbrev at-start-from-t17 : tie.After-t17 → tie.Start
+at-start-from-t17 c = at-start-from-limits (c .before .before .before .before)
+
+abbrev at-start-from-retain-arg3 : tie.After-retain-arg3 → tie.Start
+at-start-from-retain-arg3 c = at-start-from-t17 (c .before .before .before .before)
+
+abbrev at-start : tie.After-retain → tie.Start
+at-start c = at-start-from-retain-arg3 (c .before)
+
+abbrev at-retain-from-slice-known5 : tie.After-slice-known5 → tie.After-retain
+at-retain-from-slice-known5 c = c .before .before .before .before
+
+abbrev at-retain : tie.After-captured → tie.After-retain
+at-retain c = at-retain-from-slice-known5 (c .before .before .before)
+
 add-t11 : tie.Need-add-t11
 add-t11 c = search needs
 
--- src/lib.rt:109:9
 retain-requires : tie.Need-retain-requires
 retain-requires c κs =
-    let t = c .before .before .before .before .before .before .before .before .before .before .before .before in
+    let t = at-start-from-retain-arg3 c in
     (tried-accepted (t .args .header) _ _ _ (t .pre .0), (t .pre .1 .0, (t .pre .1 .1 .0, t .pre .1 .1 .1 .1)))
 
--- src/lib.rt:119:5
 captured-requires : tie.Need-captured-requires
 captured-requires c κs = search needs
 
--- src/lib.rt:89:1
 same-length : tie.Need-same-length
 same-length c = search needs
 
--- src/lib.rt:89:1
 same-length-2 : tie.Need-same-length-2
 same-length-2 c = search needs
 
--- src/lib.rt:89:1
 same-length-3 : tie.Need-same-length-3
 same-length-3 c = search needs
 
--- src/lib.rt:89:1
 returns : tie.Need-returns
 returns c =
-    let a = c .before .before .before .before .before .before .before .before .before .before .before .before .before .before .before .before .before .before .before .before .args in
-    capture-retained (a .header) _ _ _ (a .work) (c .before .before .before .before .before .before .before .retain .result) _ _ _ (c .captured .ensures) (c .before .before .before .before .before .before .before .retain .ensures)
+    let retain = at-retain c in
+    let a =
+    at-start retain .args in
+    capture-retained (a .header) _ _ _ (a .work) (retain .retain .result) _ _ _
+    (c .captured .ensures) (retain .retain .ensures)
 
 pub capture-row-spec : {M : Type 1} → statement M
 capture-row-spec =

@@ -9,6 +9,10 @@ use Rattle.operations.proofs.Taking.{begin-refused, begin-done}
 use Rattle.operations.proofs.begin.Statement.{statement}
 use Rattle.operations.proofs.begin.Tie as tie
 
+-- back from each place to the one before it that the proof names
+abbrev at-start : tie.After-accept → tie.Start
+at-start c = c .before .before .before
+
 accept-requires : tie.Need-accept-requires
 accept-requires c κs = search needs
 
@@ -21,9 +25,11 @@ returns c =
 returns-2 : tie.Need-returns-2
 unfolding withFull
 returns-2 c =
-    let a = c .before .before .before .before .before .before .before .args in
+    let accept = c .before .before .before .before in
+    let a = at-start accept .args in
     let s = lent (a .header) (a .slots .now) (a .postings .now) in
-    begin-done (a .header) (a .slots .now) (a .postings .now) (accept-none s true _ (c .before .before .before .before .accept .ensures) (c .before .before .before .if1 .left))
+    begin-done (a .header) (a .slots .now) (a .postings .now)
+    (accept-none s true _ (accept .accept .ensures) (c .before .before .before .if1 .left))
 
 pub begin-spec : {M : Type 1} → statement M
 begin-spec = tie.close (tie.spec accept-requires returns returns-2)

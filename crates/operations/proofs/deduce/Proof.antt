@@ -5,9 +5,9 @@ use mathlib.Core.List.{[], _∷_}
 use borrow.Author.Tests.{not-true, not-false}
 use borrow.Author.Needs.{needs}
 use Rattle.model.specs.Slots.{rowIn}
+use Rattle.slots.proofs.Rows.{slot-code}
 use Rattle.contents.specs.Lent.{lent}
 use Rattle.contents.proofs.Accepting.{accepted, accept-refused, accept-passed, accept-none}
-use Rattle.contents.proofs.Walks.{slot-code}
 use Rattle.operations.specs.Ends.{deduceEnd}
 use Rattle.operations.proofs.Tests.{all-passed, position-no, position-yes, region-no, region-yes}
 use Rattle.model.specs.Operations.{positionOk, regionOk}
@@ -15,54 +15,87 @@ use Rattle.operations.proofs.Deducing.{slot-fits, matched, deduce-refus
 use Rattle.operations.proofs.deduce.Statement.{statement}
 use Rattle.operations.proofs.deduce.Tie as tie
 
+-- back from each place to the one before it that the proof names
+abbrev at-start-from-shared-slice-known4 : tie.After-shared-slice-known4 → tie.Start
+at-start-from-shared-slice-known4 c = c .before .before .before .before
+
+abbrev at-start : tie.After-accept → tie.Start
+at-start c = at-start-from-shared-slice-known4 (c .before)
+
+abbrev at-accept : tie.After-is-region → tie.After-accept
+at-accept c = c .before .before .before .before
+
 accept-requires : tie.Need-accept-requires
 accept-requires c κs = search needs
 
 returns : tie.Need-returns
 returns c =
-    let a = c .before .before .before .before .before .before .args in
+    let accept = c .before in
+    let a = at-start accept .args in
     let s = lent (a .header) (a .slots .now) (a .postings .now) in
-    deduce-refused (a .header) (a .slots .now) (a .postings .now) (a .position) (a .held .now) (a .cut .now) (a .work) _ (accept-refused s true ((positionOk s (a .position), 5) ∷ (regionOk s (a .held .now) (a .cut .now), 6) ∷ []) _ (c .before .accept .ensures) (c .if1 .taken))
+    deduce-refused (a .header) (a .slots .now) (a .postings .now) (a .position) (a .held .now) (a .cut .now) (a .work) _
+    (accept-refused s true ((positionOk s (a .position), 5) ∷ (regionOk s (a .held .now) (a .cut .now), 6) ∷ []) _
+    (accept .accept .ensures) (c .if1 .taken))
 
 returns-2 : tie.Need-returns-2
 returns-2 c =
-    let a = c .before .before .before .before .before .before .before .before .args in
+    let accept = c .before .before .before in
+    let a = at-start accept .args in
     let s = lent (a .header) (a .slots .now) (a .postings .now) in
-    deduce-refused (a .header) (a .slots .now) (a .postings .now) (a .position) (a .held .now) (a .cut .now) (a .work) 5 (accept-passed s true ((positionOk s (a .position), 5) ∷ (regionOk s (a .held .now) (a .cut .now), 6) ∷ []) _ (c .before .before .before .accept .ensures) (c .before .before .if1 .left) ∙ position-no (a .header) (a .slots .now) (a .postings .now) (a .position) ((regionOk s (a .held .now) (a .cut .now), 6) ∷ []) (c .if2 .taken))
+    deduce-refused (a .header) (a .slots .now) (a .postings .now) (a .position) (a .held .now) (a .cut .now) (a .work) 5
+    (accept-passed s true ((positionOk s (a .position), 5) ∷ (regionOk s (a .held .now) (a .cut .now), 6) ∷ []) _
+    (accept .accept .ensures) (c .before .before .if1 .left)
+    ∙ position-no (a .header) (a .slots .now) (a .postings .now) (a .position) ((regionOk s (a .held .now) (a .cut .now), 6) ∷ [])
+    (c .if2 .taken))
 
 is-region-requires : tie.Need-is-region-requires
 is-region-requires c κs = search needs
 
 returns-3 : tie.Need-returns-3
 returns-3 c =
-    let a = c .before .before .before .before .before .before .before .before .before .before .args in
+    let is-region = c .before in
+    let accept = at-accept is-region in
+    let a = at-start accept .args in
     let s = lent (a .header) (a .slots .now) (a .postings .now) in
     deduce-refused (a .header) (a .slots .now) (a .postings .now) (a .position) (a .held .now) (a .cut .now) (a .work) 6
-    (accept-passed s true ((positionOk s (a .position), 5) ∷ (regionOk s (a .held .now) (a .cut .now), 6) ∷ []) _ (c .before .before .before .before .before .accept .ensures) (c .before .before .before .before .if1 .left) ∙ position-yes (a .header) (a .slots .now) (a .postings .now) (a .position) ((regionOk s (a .held .now) (a .cut .now), 6) ∷ []) (c .before .before .if2 .left)
-    ∙ region-no (a .header) (a .slots .now) (a .postings .now) (a .held .now) (a .cut .now) [] (sym (c .before .is-region .ensures) ∙ not-true _ (c .if3 .taken)))
+    (accept-passed s true ((positionOk s (a .position), 5) ∷ (regionOk s (a .held .now) (a .cut .now), 6) ∷ []) _
+    (accept .accept .ensures) (is-region .before .before .before .if1 .left)
+    ∙ position-yes (a .header) (a .slots .now) (a .postings .now) (a .position) ((regionOk s (a .held .now) (a .cut .now), 6) ∷ [])
+    (is-region .before .if2 .left)
+    ∙ region-no (a .header) (a .slots .now) (a .postings .now) (a .held .now) (a .cut .now) []
+    (sym (is-region .is-region .ensures) ∙ not-true _ (c .if3 .taken)))
 
 mul-a : tie.Need-mul-a
 mul-a c =
-    let a = c .before .before .before .before .before .before .before .before .before .before .args in
+    let is-region = c .before in
+    let accept = at-accept is-region in
+    let a = at-start accept .args in
     let s = lent (a .header) (a .slots .now) (a .postings .now) in
-    let k = accepted (a .header) (a .slots .now) (a .postings .now) true [] (accept-none s true _ (c .before .before .before .before .before .accept .ensures) (c .before .before .before .before .if1 .left)) in
-    let f = slot-fits (a .header) (a .slots .now) (a .postings .now) (a .position) k (c .before .before .if2 .left) in
+    let k = accepted (a .header) (a .slots .now) (a .postings .now) true []
+    (accept-none s true _ (accept .accept .ensures) (is-region .before .before .before .if1 .left)) in
+    let f = slot-fits (a .header) (a .slots .now) (a .postings .now) (a .position) k (is-region .before .if2 .left) in
     search needs
 
 add-e : tie.Need-add-e
 add-e c =
-    let a = c .before .before .before .before .before .before .before .before .before .before .args in
+    let is-region = c .before in
+    let accept = at-accept is-region in
+    let a = at-start accept .args in
     let s = lent (a .header) (a .slots .now) (a .postings .now) in
-    let k = accepted (a .header) (a .slots .now) (a .postings .now) true [] (accept-none s true _ (c .before .before .before .before .before .accept .ensures) (c .before .before .before .before .if1 .left)) in
-    let f = slot-fits (a .header) (a .slots .now) (a .postings .now) (a .position) k (c .before .before .if2 .left) in
+    let k = accepted (a .header) (a .slots .now) (a .postings .now) true []
+    (accept-none s true _ (accept .accept .ensures) (is-region .before .before .before .if1 .left)) in
+    let f = slot-fits (a .header) (a .slots .now) (a .postings .now) (a .position) k (is-region .before .if2 .left) in
     search needs
 
 mul-deduction : tie.Need-mul-deduction
 mul-deduction c =
-    let a = c .before .before .before .before .before .before .before .before .before .before .args in
+    let is-region = c .before in
+    let accept = at-accept is-region in
+    let a = at-start accept .args in
     let s = lent (a .header) (a .slots .now) (a .postings .now) in
-    let k = accepted (a .header) (a .slots .now) (a .postings .now) true [] (accept-none s true _ (c .before .before .before .before .before .accept .ensures) (c .before .before .before .before .if1 .left)) in
-    let f = slot-fits (a .header) (a .slots .now) (a .postings .now) (a .position) k (c .before .before .if2 .left) in
+    let k = accepted (a .header) (a .slots .now) (a .postings .now) true []
+    (accept-none s true _ (accept .accept .ensures) (is-region .before .before .before .if1 .left)) in
+    let f = slot-fits (a .header) (a .slots .now) (a .postings .now) (a .position) k (is-region .before .if2 .left) in
     search needs
 
 sub-deduction : tie.Need-sub-deduction
@@ -73,27 +106,43 @@ part-deduction-start c = search needs
 
 part-deduction-end : tie.Need-part-deduction-end
 part-deduction-end c =
-    let a = c .before .before .before .before .before .before .before .before .before .before .args in
+    let is-region = c .before in
+    let accept = at-accept is-region in
+    let a = at-start accept .args in
     let s = lent (a .header) (a .slots .now) (a .postings .now) in
-    let k = accepted (a .header) (a .slots .now) (a .postings .now) true [] (accept-none s true _ (c .before .before .before .before .before .accept .ensures) (c .before .before .before .before .if1 .left)) in
-    let f = slot-fits (a .header) (a .slots .now) (a .postings .now) (a .position) k (c .before .before .if2 .left) in
+    let k = accepted (a .header) (a .slots .now) (a .postings .now) true []
+    (accept-none s true _ (accept .accept .ensures) (is-region .before .before .before .if1 .left)) in
+    let f = slot-fits (a .header) (a .slots .now) (a .postings .now) (a .position) k (is-region .before .if2 .left) in
     search needs
 
 deduction-requires : tie.Need-deduction-requires
 deduction-requires c κs =
-    let a = c .before .before .before .before .before .before .before .before .before .before .before .args in
+    let is-region = c .before .before in
+    let accept = at-accept is-region in
+    let a = at-start accept .args in
     let s = lent (a .header) (a .slots .now) (a .postings .now) in
-    let k = accepted (a .header) (a .slots .now) (a .postings .now) true [] (accept-none s true _ (c .before .before .before .before .before .before .accept .ensures) (c .before .before .before .before .before .if1 .left)) in
-    matched (a .header) (a .slots .now) (a .postings .now) (a .position) k (c .before .before .before .if2 .left) (a .held .now) (a .cut .now) (sym (c .before .before .is-region .ensures) ∙ not-false _ (c .before .if3 .left))
+    let k = accepted (a .header) (a .slots .now) (a .postings .now) true []
+    (accept-none s true _ (accept .accept .ensures)
+    (is-region .before .before .before .if1 .left)) in
+    matched (a .header) (a .slots .now) (a .postings .now) (a .position) k (is-region .before .if2 .left) (a .held .now)
+    (a .cut .now) (sym (is-region .is-region .ensures) ∙ not-false _ (c .before .if3 .left))
 
 returns-4 : tie.Need-returns-4
 returns-4 c =
-    let a = c .before .before .before .before .before .before .before .before .before .before .before .before .args in
+    let is-region = c .before .before .before in
+    let accept = at-accept is-region in
+    let a = at-start accept .args in
     let s = lent (a .header) (a .slots .now) (a .postings .now) in
     ap deduceEnd (c .deduction .ensures)
     ∙ deduce-done (a .header) (a .slots .now) (a .postings .now) (a .position) (a .held .now) (a .cut .now) (a .work)
-    (accept-passed s true ((positionOk s (a .position), 5) ∷ (regionOk s (a .held .now) (a .cut .now), 6) ∷ []) _ (c .before .before .before .before .before .before .before .accept .ensures) (c .before .before .before .before .before .before .if1 .left) ∙ position-yes (a .header) (a .slots .now) (a .postings .now) (a .position) ((regionOk s (a .held .now) (a .cut .now), 6) ∷ []) (c .before .before .before .before .if2 .left) ∙ region-yes (a .header) (a .slots .now) (a .postings .now) (a .held .now) (a .cut .now) [] (sym (c .before .before .before .is-region .ensures) ∙ not-false _ (c .before .before .if3 .left)) ∙ all-passed)
-    (c .before .before .before .before .if2 .left) _ (ap rowIn (slot-code (a .slots .now) (a .position)))
+    (accept-passed s true ((positionOk s (a .position), 5) ∷ (regionOk s (a .held .now) (a .cut .now), 6) ∷ []) _
+    (accept .accept .ensures)
+    (is-region .before .before .before .if1 .left)
+    ∙ position-yes (a .header) (a .slots .now) (a .postings .now) (a .position) ((regionOk s (a .held .now) (a .cut .now), 6) ∷ [])
+    (is-region .before .if2 .left)
+    ∙ region-yes (a .header) (a .slots .now) (a .postings .now) (a .held .now) (a .cut .now) []
+    (sym (is-region .is-region .ensures) ∙ not-false _ (c .before .before .if3 .left)) ∙ all-passed)
+    (is-region .before .if2 .left) _ (ap rowIn (slot-code (a .slots .now) (a .position)))
 
 pub deduce-spec : {M : Type 1} → statement M
 deduce-spec =

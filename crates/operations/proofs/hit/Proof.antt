@@ -15,6 +15,16 @@ use Rattle.operations.proofs.Hitting.{hit-refused, hit-done}
 use Rattle.operations.proofs.hit.Statement.{statement}
 use Rattle.operations.proofs.hit.Tie as tie
 
+-- back from each place to the one before it that the proof names
+abbrev at-start : tie.After-accept → tie.Start
+at-start c = c .before .before .before .before
+
+abbrev at-accept-from-hit-arg : tie.After-hit-arg → tie.After-accept
+at-accept-from-hit-arg c = c .before .before .before .before
+
+abbrev at-accept : tie.After-hit → tie.After-accept
+at-accept c = at-accept-from-hit-arg (c .before)
+
 accept-requires : tie.Need-accept-requires
 accept-requires c κs = search needs
 
@@ -23,25 +33,31 @@ same-length c = search needs
 
 returns : tie.Need-returns
 returns c =
-    let a = c .before .before .before .before .before .args in
+    let accept = c .before in
+    let a = at-start accept .args in
     let s = lent (a .header) (a .slots .now) (a .postings .now) in
-    hit-refused (a .header) (a .slots .now) (a .postings .now) (a .position) _ (accept-refused s true ((positionOk s (a .position), 5) ∷ []) _ (c .before .accept .ensures) (c .if1 .taken))
+    hit-refused (a .header) (a .slots .now) (a .postings .now) (a .position) _
+    (accept-refused s true ((positionOk s (a .position), 5) ∷ []) _ (accept .accept .ensures) (c .if1 .taken))
 
 same-length-2 : tie.Need-same-length-2
 same-length-2 c = search needs
 
 returns-2 : tie.Need-returns-2
 returns-2 c =
-    let a = c .before .before .before .before .before .before .before .args in
+    let accept = c .before .before .before in
+    let a = at-start accept .args in
     let s = lent (a .header) (a .slots .now) (a .postings .now) in
     hit-refused (a .header) (a .slots .now) (a .postings .now) (a .position) 5
-    (accept-passed s true ((positionOk s (a .position), 5) ∷ []) _ (c .before .before .before .accept .ensures) (c .before .before .if1 .left) ∙ position-no (a .header) (a .slots .now) (a .postings .now) (a .position) [] (c .if2 .taken))
+    (accept-passed s true ((positionOk s (a .position), 5) ∷ []) _ (accept .accept .ensures)
+    (c .before .before .if1 .left) ∙ position-no (a .header) (a .slots .now) (a .postings .now) (a .position) [] (c .if2 .taken))
 
 hit-requires : tie.Need-hit-requires
 hit-requires c κs =
-    let a = c .before .before .before .before .before .before .before .before .args in
+    let accept = c .before .before .before .before in
+    let a = at-start accept .args in
     let s = lent (a .header) (a .slots .now) (a .postings .now) in
-    let k = accepted (a .header) (a .slots .now) (a .postings .now) true [] (accept-none s true _ (c .before .before .before .before .accept .ensures) (c .before .before .before .if1 .left)) in
+    let k = accepted (a .header) (a .slots .now) (a .postings .now) true []
+    (accept-none s true _ (accept .accept .ensures) (c .before .before .before .if1 .left)) in
     slot-fits (a .header) (a .slots .now) (a .postings .now) (a .position) k (c .before .if2 .left) .1
 
 same-length-3 : tie.Need-same-length-3
@@ -49,11 +65,18 @@ same-length-3 c = search needs
 
 returns-3 : tie.Need-returns-3
 returns-3 c =
-    let a = c .before .before .before .before .before .before .before .before .before .before .before .args in
+    let hit = c .before .before in
+    let accept = at-accept hit in
+    let a = at-start accept .args in
     let s = lent (a .header) (a .slots .now) (a .postings .now) in
-    ap (λ (w : List ℕ). hitEnd (record { answer = Done; header = a .header; ticks = 0 }) w (a .postings .now)) (c .before .before .hit .ensures)
+    ap (λ (w : List ℕ). hitEnd (record { answer = Done; header = a .header; ticks = 0 }) w (a .postings .now))
+    (hit .hit .ensures)
     ∙ hit-done (a .header) (a .slots .now) (a .postings .now) (a .position)
-    (accept-passed s true ((positionOk s (a .position), 5) ∷ []) _ (c .before .before .before .before .before .before .before .accept .ensures) (c .before .before .before .before .before .before .if1 .left) ∙ position-yes (a .header) (a .slots .now) (a .postings .now) (a .position) [] (c .before .before .before .before .if2 .left) ∙ all-passed) (c .before .before .before .before .if2 .left)
+    (accept-passed s true ((positionOk s (a .position), 5) ∷ []) _
+    (accept .accept .ensures)
+    (hit .before .before .before .before .if1 .left)
+    ∙ position-yes (a .header) (a .slots .now) (a .postings .now) (a .position) [] (hit .before .before .if2 .left)
+    ∙ all-passed) (hit .before .before .if2 .left)
 
 pub hit-spec : {M : Type 1} → statement M
 hit-spec =

@@ -9,6 +9,10 @@ use Rattle.operations.proofs.Making.{make-limits, make-slots, make-post
 use Rattle.operations.proofs.make.Statement.{statement}
 use Rattle.operations.proofs.make.Tie as tie
 
+-- back from each place to the one before it that the proof names
+abbrev at-start : tie.After-limits-ok → tie.Start
+at-start c = c .before .before .before
+
 limits-ok-requires : tie.Need-limits-ok-requires
 limits-ok-requires c κs = search needs
 
@@ -27,21 +31,24 @@ mul-if2 c =
 
 returns-2 : tie.Need-returns-2
 returns-2 c =
-    let a = c .before .before .before .before .before .args in
-    let l = sym (c .before .before .limits-ok .ensures) ∙ not-false _ (c .before .if1 .left) in
+    let limits-ok = c .before .before in
+    let a = at-start limits-ok .args in
+    let l = sym (limits-ok .limits-ok .ensures) ∙ not-false _ (c .before .if1 .left) in
     make-slots (a .limits) (a .number) (a .slots .now) (a .postings .now) l (c .if2 .taken)
 
 mul-if3 : tie.Need-mul-if3
 mul-if3 c =
-    let a = c .before .before .before .before .before .args in
-    let l = sym (c .before .before .limits-ok .ensures) ∙ not-false _ (c .before .if1 .left) in
+    let limits-ok = c .before .before in
+    let a = at-start limits-ok .args in
+    let l = sym (limits-ok .limits-ok .ensures) ∙ not-false _ (c .before .if1 .left) in
     let r : a .limits .«tier_rows» ≤ maxRows = limits-rows (a .limits) l in
     search needs
 
 returns-3 : tie.Need-returns-3
 returns-3 c =
-    let a = c .before .before .before .before .before .before .args in
-    let l = sym (c .before .before .before .limits-ok .ensures) ∙ not-false _ (c .before .before .if1 .left) in
+    let limits-ok = c .before .before .before in
+    let a = at-start limits-ok .args in
+    let l = sym (limits-ok .limits-ok .ensures) ∙ not-false _ (c .before .before .if1 .left) in
     make-postings (a .limits) (a .number) (a .slots .now) (a .postings .now) l (c .before .if2 .left) (c .if3 .taken)
 
 fill-zero-requires : tie.Need-fill-zero-requires
@@ -61,10 +68,23 @@ same-length-2 c = search needs
 
 returns-4 : tie.Need-returns-4
 returns-4 c =
-    let a = c .before .before .before .before .before .before .before .before .before .before .before .before .before .before .before .args in
-    let l = sym (c .before .before .before .before .before .before .before .before .before .before .before .before .limits-ok .ensures) ∙ not-false _ (c .before .before .before .before .before .before .before .before .before .before .before .if1 .left) in
-    rw (c .fresh-header .ensures, c .before .before .before .before .before .before .before .fill-zero .ensures, c .before .before .before .fill-zero2 .ensures)
-    (make-made (a .limits) (a .number) (a .slots .now) (a .postings .now) l (c .before .before .before .before .before .before .before .before .before .before .if2 .left) (c .before .before .before .before .before .before .before .before .before .if3 .left))
+    let fill-zero2 = c .before .before .before in
+    let fill-zero = fill-zero2 .before .before .before .before in
+    let else1 = fill-zero .before .before .before .before in
+    let limits-ok = else1 .before in
+    let start = limits-ok .before .before .before in
+    let a =
+    start .args in
+    let l = sym (limits-ok .limits-ok .ensures)
+    ∙ not-false _ (else1 .if1 .left) in
+    rw (
+      c .fresh-header .ensures,
+      fill-zero .fill-zero .ensures,
+      fill-zero2 .fill-zero2 .ensures,
+    )
+    (make-made (a .limits) (a .number) (a .slots .now) (a .postings .now) l
+    (fill-zero .before .before .before .if2 .left)
+    (fill-zero .before .before .if3 .left))
 
 pub make-spec : {M : Type 1} → statement M
 make-spec =

@@ -45,14 +45,16 @@ returns c =
     let s = c .before in
     let t : ℕ = firstBit (bitOr (s .args .absent) (s .args .present)) in
     let e = mask-hit (s .args .absent) t (place s) (c .if1 .taken) in
-    rw (shl-one 64 t (place s)) (first-absent (s .args .word) (s .args .present) (s .args .absent) (s .fits .present .fits) (s .fits .absent .fits) (s .pre .1) e)
+    rw (shl-one 64 t (place s)) (first-absent (s .args .word) (s .args .present) (s .args .absent) (s .fits .present .fits)
+    (s .fits .absent .fits) (s .pre .1) e)
 
 returns-2 : tie.Need-returns-2
 returns-2 c =
     let s = c .before in
     let t : ℕ = firstBit (bitOr (s .args .absent) (s .args .present)) in
     let e = mask-miss (s .args .absent) t (place s) (c .if1 .left) in
-    rw (shl-one 64 t (place s)) (first-present (s .args .word) (s .args .present) (s .args .absent) (s .fits .present .fits) (s .fits .absent .fits) (s .pre .1) e)
+    rw (shl-one 64 t (place s)) (first-present (s .args .word) (s .args .present) (s .args .absent) (s .fits .present .fits)
+    (s .fits .absent .fits) (s .pre .1) e)
 
 pub take-spec : {M : Type 1} → statement M
 take-spec =

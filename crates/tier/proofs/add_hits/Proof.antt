@@ -5,45 +5,35 @@ use Rattle.tier.proofs.add_hits.Statement.{statement}
 use Rattle.tier.proofs.add_hits.Tie as tie
 use Rattle.tier.proofs.add_hits.Reads as reads
 use Rattle.tier.proofs.add_hits.Lts as lts
-use Rattle.tier.proofs.saturating_add.Reads as saturating-add-reads
+use Rattle.model.proofs.saturating_add.Reads as saturating-add-reads
 
--- src/lib.rt:40:14
 mul-at : tie.Need-mul-at
 mul-at c = search needs
 
--- src/lib.rt:41:42
 add-saturating-add : tie.Need-add-saturating-add
 add-saturating-add c = search needs
 
--- src/lib.rt:41:36
 mul-saturating-add : tie.Need-mul-saturating-add
 mul-saturating-add c = search needs
 
--- src/lib.rt:41:36
 slice-read-saturating-add : tie.Need-slice-read-saturating-add
 slice-read-saturating-add c = search needs
 
--- src/lib.rt:41:21
 saturating-add-requires : tie.Need-saturating-add-requires
 saturating-add-requires c κs = search needs
 
--- src/lib.rt:41:11
 add-slots : tie.Need-add-slots
 add-slots c = search needs
 
--- src/lib.rt:41:5
 mul-slots : tie.Need-mul-slots
 mul-slots c = search needs
 
--- src/lib.rt:41:5
 slice-write-slots : tie.Need-slice-write-slots
 slice-write-slots c = search needs
 
--- src/lib.rt:36:1
 same-length : tie.Need-same-length
 same-length c = search needs
 
--- src/lib.rt:36:1
 returns : tie.Need-returns
 unfolding hitsAdded
 returns c = rw (c .saturating-add .ensures)

@@ -19,74 +19,73 @@ Inv-loop slots₀ rows first replaced to₀ i₀ slots to i = Down (has replaced
 abbrev μ-loop : tie.MeasureT-loop
 μ-loop slots₀ rows first replaced to₀ i₀ slots to i = rows - i
 
--- src/lib.rt:148:18
+-- back from each place to the one before it that the proof names
+abbrev at-start : tie.At-loop Inv-loop μ-loop → tie.Start Inv-loop μ-loop
+at-start c = c .before .before .before
+
+abbrev at-loop : tie.After-fill-zero Inv-loop μ-loop → tie.At-loop Inv-loop μ-loop
+at-loop c = c .before .before .before
+
+abbrev at-loop-from-slots : tie.After-slots Inv-loop μ-loop → tie.At-loop Inv-loop μ-loop
+at-loop-from-slots c = c .before .before .before .before
+
+abbrev at-loop-from-slice-known2 : tie.After-slice-known2 Inv-loop μ-loop → tie.At-loop Inv-loop μ-loop
+at-loop-from-slice-known2 c = at-loop-from-slots (c .before)
+
 add-to : tie.Need-add-to Inv-loop μ-loop
 add-to c = search needs
 
--- src/lib.rt:149:17
 add-i : tie.Need-add-i Inv-loop μ-loop
 add-i c = search needs
 
--- src/lib.rt:150:5
 loop-holds : tie.Need-loop-holds Inv-loop μ-loop
 loop-holds c = (omega arith, omega arith, rows-fit _ _ (c .before .before .pre .0), refl, refl)
 
--- src/lib.rt:151:9
 keep-requires : tie.Need-keep-requires Inv-loop μ-loop
 keep-requires c κs = search needs
 
--- src/lib.rt:152:9
 add-i-2 : tie.Need-add-i-2 Inv-loop μ-loop
 add-i-2 c = search needs
 
--- src/lib.rt:150:5
 loop-less : tie.Need-loop-less Inv-loop μ-loop
 loop-less c = search needs
 
--- src/lib.rt:150:5
 loop-again : tie.Need-loop-again Inv-loop μ-loop
 loop-again c =
-    let t = c .before .before .before .before .before in
+    let t = at-loop-from-slice-known2 c in
     let k = c .before .before .keep in
     down-turn _ _ _ _ _ _ _ _ _ (t .loop .inv) (omega arith) (k .ensures)
 
--- src/lib.rt:154:13
 mul-a : tie.Need-mul-a Inv-loop μ-loop
 mul-a c = search needs
 
--- src/lib.rt:155:13
 mul-e : tie.Need-mul-e Inv-loop μ-loop
 mul-e c = search needs
 
--- src/lib.rt:156:15
 mul-fill-zero : tie.Need-mul-fill-zero Inv-loop μ-loop
 mul-fill-zero c = search needs
 
--- src/lib.rt:156:15
 sub-fill-zero : tie.Need-sub-fill-zero Inv-loop μ-loop
 sub-fill-zero c = search needs
 
--- src/lib.rt:156:15
 part-fill-zero-start : tie.Need-part-fill-zero-start Inv-loop μ-loop
 part-fill-zero-start c = search needs
 
--- src/lib.rt:156:15
 part-fill-zero-end : tie.Need-part-fill-zero-end Inv-loop μ-loop
 part-fill-zero-end c = search needs
 
--- src/lib.rt:156:5
 fill-zero-requires : tie.Need-fill-zero-requires Inv-loop μ-loop
 fill-zero-requires c κs = search needs
 
--- src/lib.rt:141:1
 same-length : tie.Need-same-length Inv-loop μ-loop
 same-length c = search needs
 
--- src/lib.rt:141:1
 returns : tie.Need-returns Inv-loop μ-loop
 returns c =
-    let t = c .before .before .before .before .before in
-    down-end _ _ _ _ _ _ _ _ (t .before .before .before .pre .0) (omega arith) (t .loop .inv) (omega arith) (c .before .before .fill-zero .ensures)
+    let fill-zero = c .before .before in
+    let t = at-loop fill-zero in
+    down-end _ _ _ _ _ _ _ _ (at-start t .pre .0) (omega arith) (t .loop .inv) (omega arith)
+    (fill-zero .fill-zero .ensures)
 
 pub close-up-spec : {M : Type 1} → statement M
 close-up-spec =

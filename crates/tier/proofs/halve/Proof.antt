@@ -21,43 +21,33 @@ Inv-loop slots₀ rows i₀ slots i =
 abbrev μ-loop : tie.MeasureT-loop
 μ-loop slots₀ rows i₀ slots i = rows - i
 
--- src/lib.rt:102:5
 loop-holds : tie.Need-loop-holds Inv-loop μ-loop
 loop-holds c = (omega arith, rows-fit _ _ (c .pre), refl, halve-start _ _ (c .pre))
 
--- src/lib.rt:103:18
 mul-at : tie.Need-mul-at Inv-loop μ-loop
 mul-at c = search needs
 
--- src/lib.rt:103:18
 add-at : tie.Need-add-at Inv-loop μ-loop
 add-at c = search needs
 
--- src/lib.rt:104:21
 mul-slots : tie.Need-mul-slots Inv-loop μ-loop
 mul-slots c = search needs
 
--- src/lib.rt:104:21
 slice-read-slots : tie.Need-slice-read-slots Inv-loop μ-loop
 slice-read-slots c = omega arith
 
--- src/lib.rt:104:9
 mul-slots-2 : tie.Need-mul-slots-2 Inv-loop μ-loop
 mul-slots-2 c = search needs
 
--- src/lib.rt:104:9
 slice-write-slots : tie.Need-slice-write-slots Inv-loop μ-loop
 slice-write-slots c = omega arith
 
--- src/lib.rt:105:9
 add-i : tie.Need-add-i Inv-loop μ-loop
 add-i c = search needs
 
--- src/lib.rt:102:5
 loop-less : tie.Need-loop-less Inv-loop μ-loop
 loop-less c = search needs
 
--- src/lib.rt:102:5
 loop-again : tie.Need-loop-again Inv-loop μ-loop
 loop-again c =
     let t = c .before .before in (
@@ -67,11 +57,9 @@ loop-again c =
       halve-step _ _ (t .before .pre) (t .loop .i) (t .loop .slots) (omega arith) (t .loop .inv .3),
     )
 
--- src/lib.rt:97:1
 same-length : tie.Need-same-length Inv-loop μ-loop
 same-length c = c .before .loop .inv .2
 
--- src/lib.rt:97:1
 returns : tie.Need-returns Inv-loop μ-loop
 returns c =
     let t = c .before in

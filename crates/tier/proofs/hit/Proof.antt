@@ -7,73 +7,56 @@ use Rattle.tier.proofs.hit.Statement.{statement}
 use Rattle.tier.proofs.hit.Tie as tie
 use Rattle.tier.proofs.hit.Reads as reads
 use Rattle.tier.proofs.hit.Lts as lts
-use Rattle.tier.proofs.saturating_add.Reads as saturating-add-reads
+use Rattle.model.proofs.saturating_add.Reads as saturating-add-reads
 
--- src/lib.rt:30:14
 mul-at : tie.Need-mul-at
 mul-at c = search needs
 
--- src/lib.rt:31:37
 add-saturating-add : tie.Need-add-saturating-add
 add-saturating-add c = search needs
 
--- src/lib.rt:31:31
 mul-saturating-add : tie.Need-mul-saturating-add
 mul-saturating-add c = search needs
 
--- src/lib.rt:31:31
 slice-read-saturating-add : tie.Need-slice-read-saturating-add
 slice-read-saturating-add c = search needs
 
--- src/lib.rt:31:9
 saturating-add-requires : tie.Need-saturating-add-requires
 saturating-add-requires c κs = search needs
 
--- src/lib.rt:32:41
 add-saturating-add-2 : tie.Need-add-saturating-add-2
 add-saturating-add-2 c = search needs
 
--- src/lib.rt:32:35
 mul-saturating-add-2 : tie.Need-mul-saturating-add-2
 mul-saturating-add-2 c = search needs
 
--- src/lib.rt:32:35
 slice-read-saturating-add-2 : tie.Need-slice-read-saturating-add-2
 slice-read-saturating-add-2 c = search needs
 
--- src/lib.rt:32:9
 saturating-add-requires-2 : tie.Need-saturating-add-requires-2
 saturating-add-requires-2 c κs = search needs
 
--- src/lib.rt:33:11
 add-slots : tie.Need-add-slots
 add-slots c = search needs
 
--- src/lib.rt:33:5
 mul-slots : tie.Need-mul-slots
 mul-slots c = search needs
 
--- src/lib.rt:33:5
 slice-write-slots : tie.Need-slice-write-slots
 slice-write-slots c = search needs
 
--- src/lib.rt:34:11
 add-slots-2 : tie.Need-add-slots-2
 add-slots-2 c = search needs
 
--- src/lib.rt:34:5
 mul-slots-2 : tie.Need-mul-slots-2
 mul-slots-2 c = search needs
 
--- src/lib.rt:34:5
 slice-write-slots-2 : tie.Need-slice-write-slots-2
 slice-write-slots-2 c = simp length-set (omega arith)
 
--- src/lib.rt:26:1
 same-length : tie.Need-same-length
 same-length c = search needs
 
--- src/lib.rt:26:1
 returns : tie.Need-returns
 unfolding hitWords
 returns c = rw (c .before .before .saturating-add .ensures, c .saturating-add2 .ensures)

@@ -8,27 +8,21 @@ use Rattle.tier.proofs.keep.Lts as lts
 use Rattle.tier.proofs.move_slot.Reads as move-slot-reads
 use Rattle.words.proofs.contains.Reads as contains-reads
 
--- src/lib.rt:133:8
 contains-requires : tie.Need-contains-requires
 contains-requires c κs = search needs
 
--- src/lib.rt:134:9
 returns : tie.Need-returns
 returns c = kept-marked _ _ _ _ (sym (c .before .contains .ensures) ∙ c .if1 .taken)
 
--- src/lib.rt:136:5
 move-slot-requires : tie.Need-move-slot-requires
 move-slot-requires c κs = search needs
 
--- src/lib.rt:137:5
 add-result : tie.Need-add-result
 add-result c = search needs
 
--- src/lib.rt:129:1
 same-length : tie.Need-same-length
 same-length c = search needs
 
--- src/lib.rt:129:1
 returns-2 : tie.Need-returns-2
 returns-2 c =
     let t = c .before .before .before .before in

@@ -5,101 +5,77 @@ use Rattle.tier.proofs.lesser.Tie as tie
 use Rattle.tier.proofs.lesser.Reads as reads
 use Rattle.tier.proofs.lesser.Lts as lts
 
--- src/lib.rt:70:13
 mul-a : tie.Need-mul-a
 mul-a c = search needs
 
--- src/lib.rt:71:13
 mul-b : tie.Need-mul-b
 mul-b c = search needs
 
--- src/lib.rt:72:14
 add-if1 : tie.Need-add-if1
 add-if1 c = search needs
 
--- src/lib.rt:72:8
 mul-if1 : tie.Need-mul-if1
 mul-if1 c = search needs
 
--- src/lib.rt:72:8
 shared-slice-read-if1 : tie.Need-shared-slice-read-if1
 shared-slice-read-if1 c = search needs
 
--- src/lib.rt:72:29
 add-if1-2 : tie.Need-add-if1-2
 add-if1-2 c = search needs
 
--- src/lib.rt:72:23
 mul-if1-2 : tie.Need-mul-if1-2
 mul-if1-2 c = search needs
 
--- src/lib.rt:72:23
 shared-slice-read-if1-2 : tie.Need-shared-slice-read-if1-2
 shared-slice-read-if1-2 c = search needs
 
--- src/lib.rt:73:9
 returns : tie.Need-returns
 returns c = lesser-hits _ _ _ (c .if1 .taken)
 
--- src/lib.rt:75:14
 add-if2 : tie.Need-add-if2
 add-if2 c = search needs
 
--- src/lib.rt:75:8
 mul-if2 : tie.Need-mul-if2
 mul-if2 c = search needs
 
--- src/lib.rt:75:8
 shared-slice-read-if2 : tie.Need-shared-slice-read-if2
 shared-slice-read-if2 c = search needs
 
--- src/lib.rt:75:29
 add-if2-2 : tie.Need-add-if2-2
 add-if2-2 c = search needs
 
--- src/lib.rt:75:23
 mul-if2-2 : tie.Need-mul-if2-2
 mul-if2-2 c = search needs
 
--- src/lib.rt:75:23
 shared-slice-read-if2-2 : tie.Need-shared-slice-read-if2-2
 shared-slice-read-if2-2 c = search needs
 
--- src/lib.rt:76:9
 returns-2 : tie.Need-returns-2
 returns-2 c = lesser-not _ _ _ (c .before .before .before .if1 .left) (c .if2 .taken)
 
--- src/lib.rt:78:14
 add-if3 : tie.Need-add-if3
 add-if3 c = search needs
 
--- src/lib.rt:78:8
 mul-if3 : tie.Need-mul-if3
 mul-if3 c = search needs
 
--- src/lib.rt:78:8
 shared-slice-read-if3 : tie.Need-shared-slice-read-if3
 shared-slice-read-if3 c = search needs
 
--- src/lib.rt:78:29
 add-if3-2 : tie.Need-add-if3-2
 add-if3-2 c = search needs
 
--- src/lib.rt:78:23
 mul-if3-2 : tie.Need-mul-if3-2
 mul-if3-2 c = search needs
 
--- src/lib.rt:78:23
 shared-slice-read-if3-2 : tie.Need-shared-slice-read-if3-2
 shared-slice-read-if3-2 c = search needs
 
--- src/lib.rt:79:9
 returns-3 : tie.Need-returns-3
 returns-3 c =
     let t = c .before .before .before in
     lesser-born _ _ _ (t .before .before .before .if1 .left) (t .if2 .left) (c .if3 .taken)
 
--- src/lib.rt:66:1
 returns-4 : tie.Need-returns-4
 returns-4 c =
     let t = c .before .before .before in

@@ -6,27 +6,21 @@ use Rattle.tier.proofs.mark_delivered.Tie as tie
 use Rattle.tier.proofs.mark_delivered.Reads as reads
 use Rattle.tier.proofs.mark_delivered.Lts as lts
 
--- src/lib.rt:49:14
 mul-at : tie.Need-mul-at
 mul-at c = search needs
 
--- src/lib.rt:50:11
 add-slots : tie.Need-add-slots
 add-slots c = search needs
 
--- src/lib.rt:50:5
 mul-slots : tie.Need-mul-slots
 mul-slots c = search needs
 
--- src/lib.rt:50:5
 slice-write-slots : tie.Need-slice-write-slots
 slice-write-slots c = search needs
 
--- src/lib.rt:45:1
 same-length : tie.Need-same-length
 same-length c = search needs
 
--- src/lib.rt:45:1
 returns : tie.Need-returns
 unfolding markedDelivered
 returns c = refl

@@ -14,56 +14,51 @@ use Rattle.tier.proofs.move_slot.Lts as lts
 
 abbrev Inv-loop : tie.InvT-loop
 Inv-loop slots₀ from to a b i₀ slots i =
-    (i ≤ slotWords) × (a ≤ b) × (b + slotWords ≤ length slots₀) × (length slots ≡ length slots₀) × (slots ≡ paste slots₀ a (drop b slots₀) i)
+    (i ≤ slotWords) × (a ≤ b) × (b + slotWords ≤ length slots₀) × (length slots ≡ length slots₀)
+    × (slots ≡ paste slots₀ a (drop b slots₀) i)
 
 abbrev μ-loop : tie.MeasureT-loop
 μ-loop slots₀ from to a b i₀ slots i = slotWords - i
 
--- src/lib.rt:119:13
 mul-a : tie.Need-mul-a Inv-loop μ-loop
 mul-a c = search needs
 
--- src/lib.rt:120:13
 mul-b : tie.Need-mul-b Inv-loop μ-loop
 mul-b c = search needs
 
--- src/lib.rt:122:5
 loop-holds : tie.Need-loop-holds Inv-loop μ-loop
-loop-holds c = (search needs, search needs, search needs, search needs, paste-zero (now (c .args .slots)) (slotWords * c .args .to) (drop (slotWords * c .args .from) (now (c .args .slots))))
+loop-holds c = (
+  search needs,
+  search needs,
+  search needs,
+  search needs,
+  paste-zero (now (c .args .slots)) (slotWords * c .args .to) (drop (slotWords * c .args .from) (now (c .args .slots))),
+)
 
--- src/lib.rt:123:30
 add-slots : tie.Need-add-slots Inv-loop μ-loop
 add-slots c = search needs
 
--- src/lib.rt:123:24
 mul-slots : tie.Need-mul-slots Inv-loop μ-loop
 mul-slots c = search needs
 
--- src/lib.rt:123:24
 slice-read-slots : tie.Need-slice-read-slots Inv-loop μ-loop
 slice-read-slots c = search needs
 
--- src/lib.rt:123:15
 add-slots-2 : tie.Need-add-slots-2 Inv-loop μ-loop
 add-slots-2 c = search needs
 
--- src/lib.rt:123:9
 mul-slots-2 : tie.Need-mul-slots-2 Inv-loop μ-loop
 mul-slots-2 c = search needs
 
--- src/lib.rt:123:9
 slice-write-slots : tie.Need-slice-write-slots Inv-loop μ-loop
 slice-write-slots c = search needs
 
--- src/lib.rt:124:9
 add-i : tie.Need-add-i Inv-loop μ-loop
 add-i c = search needs
 
--- src/lib.rt:122:5
 loop-less : tie.Need-loop-less Inv-loop μ-loop
 loop-less c = search needs
 
--- src/lib.rt:122:5
 loop-again : tie.Need-loop-again Inv-loop μ-loop
 loop-again c =
     let l = c .before .before in
@@ -75,11 +70,9 @@ loop-again c =
       rw (l .loop .inv .4) (move-more (now (p .slots)) (slotWords * p .to) (slotWords * p .from) (l .loop .i) (omega arith) (omega arith)),
     )
 
--- src/lib.rt:115:1
 same-length : tie.Need-same-length Inv-loop μ-loop
 same-length c = search needs
 
--- src/lib.rt:115:1
 returns : tie.Need-returns Inv-loop μ-loop
 returns c =
     let l = c .before in

@@ -8,39 +8,30 @@ use Rattle.tier.proofs.share_out.Tie as tie
 use Rattle.tier.proofs.share_out.Reads as reads
 use Rattle.tier.proofs.share_out.Lts as lts
 
--- src/lib.rt:58:14
 mul-at : tie.Need-mul-at
 mul-at c = search needs
 
--- src/lib.rt:59:11
 add-slots : tie.Need-add-slots
 add-slots c = search needs
 
--- src/lib.rt:59:5
 mul-slots : tie.Need-mul-slots
 mul-slots c = search needs
 
--- src/lib.rt:59:5
 slice-write-slots : tie.Need-slice-write-slots
 slice-write-slots c = search needs
 
--- src/lib.rt:60:11
 add-slots-2 : tie.Need-add-slots-2
 add-slots-2 c = search needs
 
--- src/lib.rt:60:5
 mul-slots-2 : tie.Need-mul-slots-2
 mul-slots-2 c = search needs
 
--- src/lib.rt:60:5
 slice-write-slots-2 : tie.Need-slice-write-slots-2
 slice-write-slots-2 c = simp length-set (omega arith)
 
--- src/lib.rt:54:1
 same-length : tie.Need-same-length
 same-length c = search needs
 
--- src/lib.rt:54:1
 returns : tie.Need-returns
 unfolding sharedOut
 returns c = refl

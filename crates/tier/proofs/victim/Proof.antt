@@ -22,23 +22,18 @@ Inv-loop slots rows at₀ i₀ at i =
 abbrev μ-loop : tie.MeasureT-loop
 μ-loop slots rows at₀ i₀ at i = rows - i
 
--- src/lib.rt:91:5
 loop-holds : tie.Need-loop-holds Inv-loop μ-loop
 loop-holds c = (omega arith, omega arith, rows-fit _ _ (c .before .pre .0), victim-start _ _ (c .before .pre .0) (omega arith))
 
--- src/lib.rt:92:9
 lesser-requires : tie.Need-lesser-requires Inv-loop μ-loop
 lesser-requires c κs = search needs
 
--- src/lib.rt:93:9
 add-i : tie.Need-add-i Inv-loop μ-loop
 add-i c = search needs
 
--- src/lib.rt:91:5
 loop-less : tie.Need-loop-less Inv-loop μ-loop
 loop-less c = search needs
 
--- src/lib.rt:91:5
 loop-again : tie.Need-loop-again Inv-loop μ-loop
 loop-again c =
     let t = c .before .before in
@@ -50,7 +45,6 @@ loop-again c =
       rw e (victim-step _ _ k (t .loop .at) (t .loop .i) (omega arith) (omega arith) ∙ t .loop .inv .3),
     )
 
--- src/lib.rt:85:1
 returns : tie.Need-returns Inv-loop μ-loop
 returns c =
     let t = c .before in

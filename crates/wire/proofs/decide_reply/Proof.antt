@@ -10,9 +10,12 @@ returns : tie.Need-returns
 returns c = c .refused .ensures ∙ ap decideReply (sym (c .before .before .a .given .1))
 
 returns-2 : tie.Need-returns-2
-returns-2 c = c .answered .ensures ∙ ap (λ (w : ℕ). answered w 0) (c .before .flag-word .ensures) ∙ ap decideReply (sym (c .before .before .before .a2 .given .1))
+returns-2 c =
+    c .reply-of .ensures ∙ ap (λ (w : ℕ). answered w 0) (c .before .flag-word .ensures)
+    ∙ ap decideReply (sym (c .before .before .before .a2 .given .1))
 
 pub decide-reply-spec : {M : Type 1} → statement M
 decide-reply-spec =
     tie.close
-    (tie.spec (λ c. search needs) (λ c κs. search needs) (λ c. search needs) (λ c κs. search needs) (λ c κs. search needs) returns returns-2)
+    (tie.spec (λ c. search needs) (λ c κs. search needs) (λ c. search needs) (λ c κs. search needs) (λ c κs. search needs) returns
+    returns-2)

@@ -9,7 +9,7 @@ returns : tie.Need-returns
 returns c = c .refused .ensures ∙ ap makeReply (sym (c .before .before .a .given .1))
 
 returns-2 : tie.Need-returns-2
-returns-2 c = c .answered .ensures ∙ ap makeReply (sym (c .before .enum-told .given .1))
+returns-2 c = c .reply-of .ensures ∙ ap makeReply (sym (c .before .enum-told .given .1))
 
 pub make-reply-spec : {M : Type 1} → statement M
 make-reply-spec =

@@ -7,9 +7,19 @@ use Rattle.wire.proofs.put_header.Tie as tie
 
 returns : tie.Need-returns
 unfolding headerWords
-returns c = rw (c .before .before .before .before .before .before .flag-word .ensures, c .before .before .before .before .before .flag-word2 .ensures, c .before .mark-words .ensures, mark-three)
+returns c =
+    let mark-words = c .before in
+    let flag-word2 = mark-words .before .before .before .before in
+    let flag-word = flag-word2 .before in
+    rw (
+      flag-word .flag-word .ensures,
+      flag-word2 .flag-word2 .ensures,
+      mark-words .mark-words .ensures,
+      mark-three,
+    )
 
 pub put-header-spec : {M : Type 1} → statement M
 put-header-spec =
     tie.close
-    (tie.spec (λ c κs. search needs) (λ c κs. search needs) (λ c κs. search needs) (λ c. search needs) (λ c. search needs) (λ c. search needs) returns)
+    (tie.spec (λ c κs. search needs) (λ c κs. search needs) (λ c κs. search needs) (λ c. search needs) (λ c. search needs)
+    (λ c. search needs) returns)

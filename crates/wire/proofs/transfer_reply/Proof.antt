@@ -9,12 +9,13 @@ returns : tie.Need-returns
 returns c = c .refused .ensures ∙ ap transferReply (sym (c .before .before .a .given .1))
 
 returns-2 : tie.Need-returns-2
-returns-2 c = c .answered .ensures ∙ ap transferReply (sym (c .before .enum-told .given .1))
+returns-2 c = c .reply-of .ensures ∙ ap transferReply (sym (c .before .enum-told .given .1))
 
 returns-3 : tie.Need-returns-3
-returns-3 c = c .answered2 .ensures ∙ ap transferReply (sym (c .before .enum-told2 .given .1))
+returns-3 c = c .reply-of2 .ensures ∙ ap transferReply (sym (c .before .enum-told2 .given .1))
 
 pub transfer-reply-spec : {M : Type 1} → statement M
 transfer-reply-spec =
     tie.close
-    (tie.spec (λ c. search needs) (λ c κs. search needs) (λ c. search needs) (λ c κs. search needs) (λ c. search needs) (λ c κs. search needs) returns returns-2 returns-3)
+    (tie.spec (λ c. search needs) (λ c κs. search needs) (λ c. search needs) (λ c κs. search needs) (λ c. search needs)
+    (λ c κs. search needs) returns returns-2 returns-3)

@@ -14,7 +14,12 @@ same-length-2 : tie.Need-same-length-2
 same-length-2 c = search needs
 
 returns : tie.Need-returns
-returns c = rw (code-literal (c .before .before .before .before .before .before .before .before .before .args .literal)) at (c .before .before .before .before .decide .ensures)
+returns c =
+    let decide = c .before .before .before .before in
+    let slice-known = decide .before .before .before .before in
+    let start = slice-known .before in
+    rw (code-literal (start .args .literal)) at
+    (decide .decide .ensures)
 
 pub decide-literal-spec : {M : Type 1} → statement M
 decide-literal-spec = tie.close (tie.spec decide-requires same-length same-length-2 returns)

@@ -36,7 +36,8 @@ shl-result c = search needs
 returns-3 : tie.Need-returns-3
 returns-3 c =
     let s = c .before .before .before .args in
-    set-odd (s .atoms) (s .words .now) (c .before .before .if1 .left) (λ i. c .before .shared-slice-known .given i .fits) (omega arith) (c .if2 .left)
+    set-odd (s .atoms) (s .words .now) (c .before .before .if1 .left) (λ i. c .before .shared-slice-known .given i .fits) (omega arith)
+    (c .if2 .left)
 
 pub is-set-spec : {M : Type 1} → statement M
 is-set-spec =

@@ -18,6 +18,13 @@ Inv-loop out₀ k₀ p₀ out k p = Gathered out₀ out k p
 abbrev μ-loop : tie.MeasureT-loop
 μ-loop out₀ k₀ p₀ out k p = length out₀ - p
 
+-- back from each place to the one before it that the proof names
+abbrev at-start : tie.At-loop Inv-loop μ-loop → tie.Start Inv-loop μ-loop
+at-start c = c .before .before
+
+abbrev at-loop : tie.After-fill-zero Inv-loop μ-loop → tie.At-loop Inv-loop μ-loop
+at-loop c = c .before .before .before
+
 loop-holds : tie.Need-loop-holds Inv-loop μ-loop
 loop-holds c = gathered-start _
 
@@ -72,14 +79,15 @@ same-length c = search needs
 
 returns : tie.Need-returns Inv-loop μ-loop
 returns c =
-    let l = c .before .before .before .before .before in
-    let ms = l .before .before .args .out .now in
+    let fill-zero = c .before .before in
+    let l = at-loop fill-zero in
+    let ms = at-start l .args .out .now in
     let out = l .loop .out in
     let k = l .loop .k in
-    let left = c .before .before .before .before .loop-test .left in
+    let left = fill-zero .before .before .loop-test .left in
     let n = gathered-count _ _ _ _ (l .loop .inv) left in (
       n,
-      ap (putMid k (length out - k) out) (c .before .before .fill-zero .ensures)
+      ap (putMid k (length out - k) out) (fill-zero .fill-zero .ensures)
           ∙ put-zeroed out (marked ms) k (sym n) (gathered-end _ _ _ _ (l .loop .inv) left)
           ∙ ap (λ (j : ℕ). pad j (marked ms)) (l .loop .inv .long),
     )

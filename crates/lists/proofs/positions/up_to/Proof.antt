@@ -18,6 +18,13 @@ Inv-loop out₀ n i₀ out i = (i ≤ n) × (length out ≡ length out₀) × (t
 abbrev μ-loop : tie.MeasureT-loop
 μ-loop out₀ n i₀ out i = n - i
 
+-- back from each place to the one before it that the proof names
+abbrev at-start : tie.At-loop Inv-loop μ-loop → tie.Start Inv-loop μ-loop
+at-start c = c .before .before
+
+abbrev at-loop : tie.After-fill-zero Inv-loop μ-loop → tie.At-loop Inv-loop μ-loop
+at-loop c = c .before .before .before
+
 loop-holds : tie.Need-loop-holds Inv-loop μ-loop
 loop-holds c = (omega arith, refl, sym upTo-none)
 
@@ -58,11 +65,12 @@ same-length c = search needs
 
 returns : tie.Need-returns Inv-loop μ-loop
 returns c =
-    let l = c .before .before .before .before .before in
-    let n = l .before .before .args .n in
+    let fill-zero = c .before .before in
+    let l = at-loop fill-zero in
+    let n = at-start l .args .n in
     let out = l .loop .out in
     let e : l .loop .i ≡ n = omega arith in
-    ap (putMid n (length out - n) out) (c .before .before .fill-zero .ensures)
+    ap (putMid n (length out - n) out) (fill-zero .fill-zero .ensures)
     ∙ put-zeroed out (upTo n) n (length-upTo n) (ap (λ (i : ℕ). take i out) (sym e) ∙ l .loop .inv .2 ∙ ap upTo e)
     ∙ ap (λ (j : ℕ). pad j (upTo n)) (l .loop .inv .1)
 

@@ -5,12 +5,12 @@ use lib.ListN.{length}
 use borrow.Author.Needs.{needs}
 use Rattle.lists.specs.Lists.{zeroed}
 use Rattle.lists.proofs.Pads.{length-zeroed, getD-zeroed}
-use Rattle.lists.proofs.slices.Comparing.{Compared, compared-start, compared-zero, compared-end}
+use Rattle.lists.proofs.slices.Comparing.{ComparedTo, compared-start, compared-zero, compared-end}
 use Rattle.lists.proofs.slices.all_zero.Statement.{statement}
 use Rattle.lists.proofs.slices.all_zero.Tie as tie
 
 abbrev Inv-loop : tie.InvT-loop
-Inv-loop s bits₀ i₀ bits i = Compared s (zeroed s) bits i
+Inv-loop s bits₀ i₀ bits i = ComparedTo s (zeroed s) bits i
 
 abbrev μ-loop : tie.MeasureT-loop
 μ-loop s bits₀ i₀ bits i = length s - i

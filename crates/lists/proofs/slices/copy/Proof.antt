@@ -1,17 +1,19 @@
--- The invariant of `copy`: src up to i, and the rest as it was. Assumes nothing.
-use mathlib.Core.List.{[], _++_, append-nil}
-use mathlib.Core.Path.{_≡_}
-use Prim.Native.Nat.{_-_, _≤_}
-use native.Mathlib.Omega.{arith}
-use lib.ListN.{length, take, drop, drop-of-length-le}
-use lib.Seq.{take-all}
+-- `copy` meets its contract: the words still to be written, written from position i on, make the whole. Assumes nothing.
 use borrow.Author.Needs.{needs}
-use Rattle.lists.proofs.Pads.{copy-more}
+use native.Mathlib.Omega.{arith}
+use mathlib.Core.Path.{_≡_, sym, ap, _∙_}
+use mathlib.Core.List.{List}
+use Prim.Native.Nat.{ℕ, _+_, _-_, _≤_, _<_}
+use lib.ListN.{length, getD, drop, drop-of-length-le}
+use denote.Ref.{now}
+use Rattle.lists.specs.Lists.{put}
+use Rattle.lists.proofs.Puts.{put-none, put-more}
 use Rattle.lists.proofs.slices.copy.Statement.{statement}
 use Rattle.lists.proofs.slices.copy.Tie as tie
+use Rattle.lists.proofs.Concats.{drop-next}
 
 abbrev Inv-loop : tie.InvT-loop
-Inv-loop src dst₀ i₀ dst i = (i ≤ length src) × (length dst ≡ length dst₀) × (dst ≡ take i src ++ drop i dst₀)
+Inv-loop src dst₀ i₀ dst i = (i ≤ length src) × (length dst ≡ length dst₀) × (put i (drop i src) dst ≡ put i₀ (drop i₀ src) dst₀)
 
 abbrev μ-loop : tie.MeasureT-loop
 μ-loop src dst₀ i₀ dst i = length src - i
@@ -40,9 +42,14 @@ loop-less c = search needs
 loop-again : tie.Need-loop-again Inv-loop μ-loop
 loop-again c =
     let l = c .before .before in
-    let s = l .before .args .src .now in
-    let d = l .before .args .dst .now in
-    (search needs, search needs, rw (l .loop .inv .2) (copy-more s d (l .loop .i) (omega arith) (omega arith)))
+    let src = now (l .before .args .src) in
+    let h : l .loop .i < length src = c .before .loop-test .taken in
+    let e = drop-next src (l .loop .i) h in (
+      search needs,
+      search needs,
+      put-more (l .loop .i) (getD src (l .loop .i) 0) (drop (l .loop .i + 1) src) (l .loop .dst) (omega arith)
+          ∙ ap (λ (k : List ℕ). put (l .loop .i) k (l .loop .dst)) (sym e) ∙ l .loop .inv .2,
+    )
 
 same-length : tie.Need-same-length Inv-loop μ-loop
 same-length c = search needs
@@ -50,10 +57,9 @@ same-length c = search needs
 returns : tie.Need-returns Inv-loop μ-loop
 returns c =
     let l = c .before .loop in
-    let s = c .before .before .args .src .now in
-    let d = c .before .before .args .dst .now in
-    let e : drop (l .i) d ≡ [] = drop-of-length-le d {i = l .i} (omega arith) in
-    rw (l .inv .2, e, take-all (l .i) s (omega arith)) (append-nil s)
+    let src = now (c .before .before .args .src) in
+    sym (put-none (l .i) (l .dst))
+    ∙ ap (λ (k : List ℕ). put (l .i) k (l .dst)) (sym (drop-of-length-le src (c .loop-test .left))) ∙ l .inv .2
 
 pub copy-spec : {M : Type 1} → statement M
 copy-spec =

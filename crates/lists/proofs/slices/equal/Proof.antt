@@ -4,12 +4,12 @@ use Prim.Native.Nat.{_-_}
 use lib.ListN.{length}
 use borrow.Author.Needs.{needs}
 use Rattle.lists.proofs.Tests.{same-no}
-use Rattle.lists.proofs.slices.Comparing.{Compared, compared-start, compared-xor, compared-end}
+use Rattle.lists.proofs.slices.Comparing.{ComparedTo, compared-start, compared-xor, compared-end}
 use Rattle.lists.proofs.slices.equal.Statement.{statement}
 use Rattle.lists.proofs.slices.equal.Tie as tie
 
 abbrev Inv-loop : tie.InvT-loop
-Inv-loop a b bits₀ i₀ bits i = Compared a b bits i
+Inv-loop a b bits₀ i₀ bits i = ComparedTo a b bits i
 
 abbrev μ-loop : tie.MeasureT-loop
 μ-loop a b bits₀ i₀ bits i = length a - i

@@ -28,6 +28,28 @@ Inv-loop slots rows postings₀ next₀ meter₀ position₀ postings next meter
 abbrev μ-loop : tie.MeasureT-loop
 μ-loop slots rows postings₀ next₀ meter₀ position₀ postings next meter position = rows - position
 
+-- back from each place to the one before it that the proof names
+abbrev at-start : tie.At-loop Inv-loop μ-loop → tie.Start Inv-loop μ-loop
+at-start c = c .before .before .before
+
+abbrev at-loop : tie.In-loop Inv-loop μ-loop → tie.At-loop Inv-loop μ-loop
+at-loop c = c .before
+
+abbrev at-in-loop : tie.After-post-row Inv-loop μ-loop → tie.In-loop Inv-loop μ-loop
+at-in-loop c = c .before .before .before
+
+abbrev at-post-row-from-stop : tie.After-stop Inv-loop μ-loop → tie.After-post-row Inv-loop μ-loop
+at-post-row-from-stop c = c .before .before .before .before
+
+abbrev at-post-row-from-stop2 : tie.After-stop2 Inv-loop μ-loop → tie.After-post-row Inv-loop μ-loop
+at-post-row-from-stop2 c = c .before .before .before .before
+
+abbrev at-post-row : tie.After-known-told2 Inv-loop μ-loop → tie.After-post-row Inv-loop μ-loop
+at-post-row c = at-post-row-from-stop2 (c .before)
+
+abbrev at-post-row-from-known-told : tie.After-known-told Inv-loop μ-loop → tie.After-post-row Inv-loop μ-loop
+at-post-row-from-known-told c = at-post-row-from-stop (c .before)
+
 module _ (c : tie.After-post-row Inv-loop μ-loop) where
   abbrev at : tie.At-loop Inv-loop μ-loop
   at = c .before .before .before .before
@@ -42,18 +64,25 @@ module _ (c : tie.After-post-row Inv-loop μ-loop) where
   abbrev after : List ℕ
   after = c .post-row .last .1 .1 .0
 
-  row : posted (c .post-row .result) after ≡ walk put (rowPostings p (rowIn (slotAt (now (root .args .slots)) p))) (filledTo (at .loop .next) (at .loop .postings)) (at .loop .meter)
+  row : posted (c .post-row .result) after
+      ≡ walk put (rowPostings p (rowIn (slotAt (now (root .args .slots)) p))) (filledTo (at .loop .next) (at .loop .postings))
+      (at .loop .meter)
   row =
       c .post-row .ensures
-      ∙ ap (λ (l : List ℕ). walk put (rowPostings p (rowIn l)) (filledTo (at .loop .next) (at .loop .postings)) (at .loop .meter)) (slot-code (now (root .args .slots)) p)
+      ∙ ap (λ (l : List ℕ). walk put (rowPostings p (rowIn l)) (filledTo (at .loop .next) (at .loop .postings)) (at .loop .meter))
+      (slot-code (now (root .args .slots)) p)
 
   -- the whole, by how this row ended
   ended : {t : Tick} → c .post-row .result .end ≡ t →
-      onward t (filledTo (c .post-row .result .next) after) (walk put (postingsFrom (p + 1) (rowsFrom (root .args .rows) (now (root .args .slots)) (p + 1))))
-      ≡ walk put (postingsOf (rowsIn (root .args .rows) (now (root .args .slots)))) (filledTo 0 (now (root .args .postings))) (root .args .work)
+      onward t (filledTo (c .post-row .result .next) after)
+      (walk put (postingsFrom (p + 1) (rowsFrom (root .args .rows) (now (root .args .slots)) (p + 1))))
+      ≡ walk put (postingsOf (rowsIn (root .args .rows) (now (root .args .slots)))) (filledTo 0 (now (root .args .postings)))
+      (root .args .work)
   ended e =
-      ap (λ (t : Tick). onward t (filledTo (c .post-row .result .next) after) (walk put (postingsFrom (p + 1) (rowsFrom (root .args .rows) (now (root .args .slots)) (p + 1))))) (sym e)
-      ∙ sym (rows-walk (root .args .rows) (now (root .args .slots)) p (at .loop .next) (at .loop .postings) (at .loop .meter) (posted (c .post-row .result) after) (c .before .before .before .loop-test .taken) row)
+      ap (λ (t : Tick). onward t (filledTo (c .post-row .result .next) after)
+      (walk put (postingsFrom (p + 1) (rowsFrom (root .args .rows) (now (root .args .slots)) (p + 1))))) (sym e)
+      ∙ sym (rows-walk (root .args .rows) (now (root .args .slots)) p (at .loop .next) (at .loop .postings) (at .loop .meter)
+      (posted (c .post-row .result) after) (c .before .before .before .loop-test .taken) row)
       ∙ at .loop .inv .3
 
 loop-holds : tie.Need-loop-holds Inv-loop μ-loop
@@ -100,7 +129,9 @@ same-length : tie.Need-same-length Inv-loop μ-loop
 same-length c = search needs
 
 returns : tie.Need-returns Inv-loop μ-loop
-returns c = let b = c .before .before .before .before .before in ended b (c .before .stop2 .given .1)
+returns c =
+    let b = at-post-row c in
+    ended b (c .before .stop2 .given .1)
 
 add-position : tie.Need-add-position Inv-loop μ-loop
 add-position c = search needs
@@ -110,10 +141,12 @@ loop-less c = search needs
 
 loop-again : tie.Need-loop-again Inv-loop μ-loop
 loop-again c =
-    let b = c .before .before .before .before .before in
-    let a = at b in (
-      omega (arith, b .before .before .before .loop-test .taken),
-      row-next (root b .pre) (p b) (a .loop .next) (a .loop .postings) (a .loop .meter) (posted (b .post-row .result) (after b)) (b .before .before .before .loop-test .taken) (a .loop .inv .1) (row b),
+    let b = at-post-row-from-known-told c in
+    let in-loop = at-in-loop b in
+    let a = at-loop in-loop in (
+      omega (arith, in-loop .loop-test .taken),
+      row-next (at-start a .pre) (p b) (a .loop .next) (a .loop .postings) (a .loop .meter) (posted (b .post-row .result) (after b))
+          (in-loop .loop-test .taken) (a .loop .inv .1) (row b),
       b .post-row .kept .1 .1 .0 ∙ a .loop .inv .2,
       ended b (c .before .stop .given .1),
     )
@@ -125,7 +158,8 @@ returns-2 : tie.Need-returns-2 Inv-loop μ-loop
 returns-2 c =
     let l = c .before .loop in
     let a = c .before .before .before .before .args in
-    sym (ap (λ (k : List ℕ). walk put k (filledTo (l .next) (l .postings)) (l .meter)) (rows-end (a .rows) (now (a .slots)) (l .position) (c .loop-test .left))
+    sym (ap (λ (k : List ℕ). walk put k (filledTo (l .next) (l .postings)) (l .meter))
+    (rows-end (a .rows) (now (a .slots)) (l .position) (c .loop-test .left))
     ∙ walk-none put (filledTo (l .next) (l .postings)) (l .meter)) ∙ l .inv .3
 
 pub post-rows-spec : {M : Type 1} → statement M

@@ -27,9 +27,14 @@ abbrev μ-loop : tie.MeasureT-loop
 abbrev root : tie.At-loop Inv-loop μ-loop → tie.Start Inv-loop μ-loop
 root c = c .before .before .before .before
 
+-- back from the tick to the literal that it is made for
+abbrev told : tie.After-tick Inv-loop μ-loop → tie.After-known-told Inv-loop μ-loop
+told c = c .before .before
+
 -- what is left at the loop's test, from there, is the whole
 whole : (c : tie.At-loop Inv-loop μ-loop) → let a = root c .args in
-    walk put (leftPostings (a .position) (c .loop .last) (rest (now (a .slot)) (a .side) (c .loop .cursor))) (filledTo (c .loop .next) (c .loop .postings)) (c .loop .meter)
+    walk put (leftPostings (a .position) (c .loop .last) (rest (now (a .slot)) (a .side) (c .loop .cursor)))
+    (filledTo (c .loop .next) (c .loop .postings)) (c .loop .meter)
     ≡ walk put (sidePostings (a .position) (listOf (now (a .slot)) (a .side))) (filledTo (a .at) (now (a .postings))) (a .work)
 whole c = c .loop .inv .3
 
@@ -56,7 +61,8 @@ module _ (c : tie.After-known-told Inv-loop μ-loop) where
 
   -- the literal and what is past it are the whole
   turn : let a = root at .args in
-      walk put (leftPostings (a .position) (at .loop .last) (code ∷ past)) (filledTo (at .loop .next) (at .loop .postings)) (at .loop .meter)
+      walk put (leftPostings (a .position) (at .loop .last) (code ∷ past)) (filledTo (at .loop .next) (at .loop .postings))
+      (at .loop .meter)
       ≡ walk put (sidePostings (a .position) (listOf (now (a .slot)) (a .side))) (filledTo (a .at) (now (a .postings))) (a .work)
   turn = rw taken at (whole at)
 
@@ -110,38 +116,47 @@ same-length c = search needs
 
 returns : tie.Need-returns Inv-loop μ-loop
 returns c =
-    let b = c .before .before .before .before .before in
+    let b = told (c .before .before .before) in
     let a = at b in
-    sym (left-step (root a .args .position) (a .loop .last) (code b) (past b) (filledTo (a .loop .next) (a .loop .postings)) (a .loop .meter)
+    sym (left-step (root a .args .position) (a .loop .last) (code b) (past b) (filledTo (a .loop .next) (a .loop .postings))
+    (a .loop .meter)
     (c .before .before .before .before .if1 .left) (sym (c .before .m2 .given .1) ∙ c .before .before .before .tick .ensures)) ∙ turn b
 
 mul-postings : tie.Need-mul-postings Inv-loop μ-loop
-mul-postings c = let b = c .before .before .before .before .before in omega (arith, room-head (room b))
+mul-postings c =
+    let b = told (c .before .before .before) in
+    omega (arith, room-head (room b))
 
 add-postings : tie.Need-add-postings Inv-loop μ-loop
-add-postings c = let b = c .before .before .before .before .before in omega (arith, room-head (room b))
+add-postings c =
+    let b = told (c .before .before .before) in
+    omega (arith, room-head (room b))
 
 mul-postings-2 : tie.Need-mul-postings-2 Inv-loop μ-loop
 mul-postings-2 c = search needs
 
 slice-write-postings : tie.Need-slice-write-postings Inv-loop μ-loop
-slice-write-postings c = let b = c .before .before .before .before .before in omega (arith, room-head (room b))
+slice-write-postings c =
+    let b = told (c .before .before .before) in
+    omega (arith, room-head (room b))
 
 add-next : tie.Need-add-next Inv-loop μ-loop
 add-next c = search needs
 
 loop-less-2 : tie.Need-loop-less-2 Inv-loop μ-loop
-loop-less-2 c = omega (arith, ap length (taken (c .before .before .before .before .before)))
+loop-less-2 c = omega (arith, ap length (taken (told (c .before .before .before))))
 
 loop-again-2 : tie.Need-loop-again-2 Inv-loop μ-loop
 loop-again-2 c =
-    let b = c .before .before .before .before .before in
+    let b = told (c .before .before .before) in
     let a = at b in (
       placed b,
       simp length-set (a .loop .inv .1),
       room-post (room b),
-      sym (left-step (root a .args .position) (a .loop .last) (code b) (past b) (filledTo (a .loop .next) (a .loop .postings)) (a .loop .meter)
-          (c .before .before .before .before .if1 .left) (sym (c .before .m .given .1) ∙ c .before .before .before .tick .ensures)) ∙ turn b,
+      sym (left-step (root a .args .position) (a .loop .last) (code b) (past b) (filledTo (a .loop .next) (a .loop .postings))
+          (a .loop .meter)
+          (c .before .before .before .before .if1 .left) (sym (c .before .m .given .1) ∙ c .before .before .before .tick .ensures))
+          ∙ turn b,
     )
 
 enum-told : tie.Need-enum-told Inv-loop μ-loop
@@ -156,8 +171,11 @@ returns-2 c =
     let p = root a .args in
     let none : rest (now (p .slot)) (p .side) (a .loop .cursor) ≡ [] =
     sym (c .before .before .next .ensures .0) ∙ ap (given (now (p .slot)) (p .side)) (c .enum-told .given .1) in
-    sym (ap (λ (l : List ℕ). walk put (leftPostings (p .position) (a .loop .last) l) (filledTo (a .loop .next) (a .loop .postings)) (a .loop .meter)) none
-    ∙ ap (λ (l : List ℕ). walk put l (filledTo (a .loop .next) (a .loop .postings)) (a .loop .meter)) (left-none (p .position) (a .loop .last))
+    sym (ap
+    (λ (l : List ℕ). walk put (leftPostings (p .position) (a .loop .last) l) (filledTo (a .loop .next) (a .loop .postings))
+    (a .loop .meter)) none
+    ∙ ap (λ (l : List ℕ). walk put l (filledTo (a .loop .next) (a .loop .postings)) (a .loop .meter))
+    (left-none (p .position) (a .loop .last))
     ∙ walk-none put (filledTo (a .loop .next) (a .loop .postings)) (a .loop .meter)) ∙ whole a
 
 pub post-side-spec : {M : Type 1} → statement M

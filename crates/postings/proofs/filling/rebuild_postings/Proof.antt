@@ -17,34 +17,54 @@ use Rattle.postings.proofs.Standing.{rows-room, here-short, here-low, p
 use Rattle.postings.proofs.filling.rebuild_postings.Statement.{statement}
 use Rattle.postings.proofs.filling.rebuild_postings.Tie as tie
 
-module _ (c : tie.After-post-rows) where
-  abbrev root : tie.Start
-  root = c .before .before .before .before
+-- back from each place to the one before it that the proof names
+abbrev root : tie.After-post-rows → tie.Start
+root c = c .before .before .before .before
 
+abbrev at-post-rows-from-end : tie.After-end → tie.After-post-rows
+at-post-rows-from-end c = c .before .before .before .before
+
+abbrev at-post-rows-from-end2 : tie.After-end2 → tie.After-post-rows
+at-post-rows-from-end2 c = c .before .before .before .before
+
+abbrev at-post-rows-from-zero-from2 : tie.After-zero-from2 → tie.After-post-rows
+at-post-rows-from-zero-from2 c = at-post-rows-from-end2 (c .before .before .before)
+
+abbrev at-post-rows : tie.After-sort → tie.After-post-rows
+at-post-rows c = at-post-rows-from-end (c .before .before .before .before)
+
+abbrev at-sort : tie.After-zero-from → tie.After-sort
+at-sort c = c .before .before .before .before
+
+module _ (c : tie.After-post-rows) where
   abbrev rs : List Row
-  rs = rowsIn (root .args .header .rows) (now (root .args .slots))
+  rs = rowsIn ((root c) .args .header .rows) (now ((root c) .args .slots))
 
   abbrev end : Walk Filled
   end = posted (c .post-rows .result) (c .post-rows .last .1 .1 .0)
 
-  filling : end ≡ walk put (postingsOf rs) (filledTo 0 (now (root .args .postings))) (root .args .work)
+  filling : end ≡ walk put (postingsOf rs) (filledTo 0 (now ((root c) .args .postings))) ((root c) .args .work)
   filling = c .post-rows .ensures
 
-  short : length (postingsOf rs) ≤ length (now (root .args .postings))
-  short = omega (arith, here-short (root .pre), postings-long (root .pre))
+  short : length (postingsOf rs) ≤ length (now ((root c) .args .postings))
+  short = omega (arith, here-short ((root c) .pre), postings-long ((root c) .pre))
 
-  long : length (end .state .words) ≡ length (now (root .args .postings))
+  long : length (end .state .words) ≡ length (now ((root c) .args .postings))
   long = c .post-rows .kept .1 .1 .0
 
 module _ (c : tie.After-known-told) where
   abbrev filled : tie.After-post-rows
-  filled = c .before .before .before .before .before
+  filled = at-post-rows-from-end (c .before)
 
   count : filled .post-rows .result .next ≡ length (postingsOf (rs filled))
-  count = filling-count (rs filled) (now (root filled .args .postings)) (root filled .args .work) (end filled) (c .before .end .given .0 .0) (filling filled) (c .before .end .given .1)
+  count =
+      filling-count (rs filled) (now (root filled .args .postings)) (root filled .args .work) (end filled) (c .before .end .given .0 .0)
+      (filling filled) (c .before .end .given .1)
 
   front : take (filled .post-rows .result .next) (end filled .state .words) ≡ postingsOf (rs filled)
-  front = filling-front (rs filled) (now (root filled .args .postings)) (root filled .args .work) (end filled) (c .before .end .given .0 .0) (filling filled) (c .before .end .given .1) (short filled)
+  front =
+      filling-front (rs filled) (now (root filled .args .postings)) (root filled .args .work) (end filled) (c .before .end .given .0 .0)
+      (filling filled) (c .before .end .given .1) (short filled)
 
 module _ (c : tie.After-sort) where
   abbrev before-sort : tie.After-known-told
@@ -60,7 +80,9 @@ module _ (c : tie.After-sort) where
   fits = omega (arith, count before-sort, short (filled before-sort), sorted-long)
 
 post-rows-requires : tie.Need-post-rows-requires
-post-rows-requires c κs = let t = c .before .before .before in rows-room (length (now (t .args .postings))) (t .pre) (omega (arith, postings-long (t .pre)))
+post-rows-requires c κs =
+    let t = c .before .before .before in
+    rows-room (length (now (t .args .postings))) (t .pre) (omega (arith, postings-long (t .pre)))
 
 enum-known-end : tie.Need-enum-known-end
 enum-known-end c = search needs
@@ -87,24 +109,31 @@ same-length c = search needs
 
 returns : tie.Need-returns
 returns c =
-    let b = c .before .before .before .before .before .before in
-    let k = before-sort b in
-    let a = root (filled k) .args in
-    let d = k .before .end .given in
-    ap (λ (w : List ℕ). walked (Ticked (d .0 .0)) (filledTo (end (filled k) .state .next) w)) (c .before .before .zero-from .ensures)
-    ∙ refiled-whole (rs (filled k)) (now (a .postings)) (a .work) (end (filled k)) (d .0 .0)
-    (a .header .limits .«tier_rows») (sorted b) (filling (filled k)) (d .1) (short (filled k)) (sorted-long b ∙ postings-long (root (filled k) .pre)) (b .sort .ensures)
+    let zero-from = c .before .before in
+    let b = at-sort zero-from in
+    let post-rows = at-post-rows b in
+    let start = root post-rows in
+    let k = b .before .before .before in
+    let a = start .args in
+    let d = b .before .before .before .before .end .given in
+    ap (λ (w : List ℕ). walked (Ticked (d .0 .0)) (filledTo (end post-rows .state .next) w)) (zero-from .zero-from .ensures)
+    ∙ refiled-whole (rs post-rows) (now (a .postings)) (a .work) (end post-rows) (d .0 .0)
+    (a .header .limits .«tier_rows») (sorted b) (filling post-rows) (d .1) (short post-rows)
+    (sorted-long b ∙ postings-long (start .pre)) (b .sort .ensures)
 
 same-length-2 : tie.Need-same-length-2
 same-length-2 c = search needs
 
 returns-2 : tie.Need-returns-2
 returns-2 c =
-    let b = c .before .before .before .before .before .before .before .before .before in
-    let a = root b .args in
-    let d = c .before .before .before .before .before .end2 .given in
-    ap (λ (w : List ℕ). walked (Stopped (d .0 .0)) (filledTo 0 w)) (c .before .before .zero-from2 .ensures)
-    ∙ refiled-stopped (rs b) (now (a .postings)) (a .work) (end b) (d .0 .0) (a .header .limits .«tier_rows») (end b .state .words) (filling b) (d .1) (long b ∙ postings-long (root b .pre))
+    let zero-from2 = c .before .before in
+    let b = at-post-rows-from-zero-from2 zero-from2 in
+    let start = root b in
+    let a = start .args in
+    let d = zero-from2 .before .before .before .end2 .given in
+    ap (λ (w : List ℕ). walked (Stopped (d .0 .0)) (filledTo 0 w)) (zero-from2 .zero-from2 .ensures)
+    ∙ refiled-stopped (rs b) (now (a .postings)) (a .work) (end b) (d .0 .0) (a .header .limits .«tier_rows») (end b .state .words)
+    (filling b) (d .1) (long b ∙ postings-long (start .pre))
 
 pub rebuild-postings-spec : {M : Type 1} → statement M
 rebuild-postings-spec =

@@ -10,6 +10,10 @@ use Rattle.lists.proofs.Pads.{put-zeroed}
 use Rattle.postings.proofs.filling.zero_from.Statement.{statement}
 use Rattle.postings.proofs.filling.zero_from.Tie as tie
 
+-- back from each place to the one before it that the proof names
+abbrev at-start : tie.After-fill-zero → tie.Start
+at-start c = c .before .before .before
+
 mul-fill-zero : tie.Need-mul-fill-zero
 mul-fill-zero c = search needs
 
@@ -30,10 +34,11 @@ same-length c = search needs
 
 returns : tie.Need-returns
 returns c =
-    let t = c .before .before .before .before .before in
+    let fill-zero = c .before .before in
+    let t = at-start fill-zero in
     let ws = now (t .args .words) in
     let k = t .args .from in
-    ap (putMid k (length ws - k) ws) (c .before .before .fill-zero .ensures)
+    ap (putMid k (length ws - k) ws) (fill-zero .fill-zero .ensures)
     ∙ put-zeroed ws (take k ws) k (length-take-le k ws (t .pre)) refl
 
 pub zero-from-spec : {M : Type 1} → statement M

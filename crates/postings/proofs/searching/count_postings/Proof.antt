@@ -26,12 +26,19 @@ Inv-loop slots postings conditions outputs lo₀ hi₀ lo hi = Seen postings lo�
 abbrev μ-loop : tie.MeasureT-loop
 μ-loop slots postings conditions outputs lo₀ hi₀ lo hi = hi - lo
 
+-- back from each place to the one before it that the proof names
+abbrev at-start-from-conditions : tie.After-conditions Inv-loop μ-loop → tie.Start Inv-loop μ-loop
+at-start-from-conditions c = c .before .before .before .before
+
+abbrev at-start-from-zero-first : tie.After-zero-first Inv-loop μ-loop → tie.Start Inv-loop μ-loop
+at-start-from-zero-first c = at-start-from-conditions (c .before)
+
 laid : (c : tie.Start Inv-loop μ-loop) → Laid (slotAt (now (c .args .slots)) 0)
 laid c = laid-stored (c .args .header .limits .atoms) (slotAt (now (c .args .slots)) 0) (c .pre .0 .stored 0 (c .pre .1 .1))
 
 module _ (c : tie.After-zero-first2 Inv-loop μ-loop) where
   abbrev root : tie.Start Inv-loop μ-loop
-  root = c .before .before .before .before .before .before .before
+  root = at-start-from-conditions (c .before .before .before)
 
   abbrev ps : List ℕ
   ps = postingsOf (rowsIn (root .args .header .rows) (now (root .args .slots)))
@@ -41,7 +48,8 @@ module _ (c : tie.After-zero-first2 Inv-loop μ-loop) where
   zeros =
       let w = slotAt (now (root .args .slots)) 0 in
       ap₂ _+_
-      (c .before .before .zero-first .ensures ∙ ap (λ (s : Side). zeroFirst (map atom (listOf w s))) (c .before .before .before .conditions .ensures))
+      (c .before .before .zero-first .ensures
+      ∙ ap (λ (s : Side). zeroFirst (map atom (listOf w s))) (c .before .before .before .conditions .ensures))
       (c .zero-first2 .ensures ∙ ap (λ (s : Side). zeroFirst (map atom (listOf w s))) (c .before .outputs .ensures))
       ∙ here-zeros (root .pre .0) (root .pre .1 .1)
 
@@ -71,10 +79,13 @@ zero-first-requires : tie.Need-zero-first-requires Inv-loop μ-loop
 zero-first-requires c κs = rw (c .conditions .ensures) (laid (c .before .before .before .before) .first)
 
 outputs-requires : tie.Need-outputs-requires Inv-loop μ-loop
-outputs-requires c κs = let l = laid (c .before .before .before .before .before) in (omega (arith, l .long), l .counted)
+outputs-requires c κs = let l = laid (at-start-from-zero-first c) in (omega (arith, l .long), l .counted)
 
 zero-first-requires-2 : tie.Need-zero-first-requires-2 Inv-loop μ-loop
-zero-first-requires-2 c κs = rw (c .outputs .ensures) (laid (c .before .before .before .before .before .before) .second)
+zero-first-requires-2 c κs =
+    let shared-slice-known2 = c .before .before .before .before in
+    let start = shared-slice-known2 .before .before in
+    rw (c .outputs .ensures) (laid start .second)
 
 add-lo : tie.Need-add-lo Inv-loop μ-loop
 add-lo c = omega (arith, ends c .order, ends c .within)
@@ -101,7 +112,8 @@ loop-again : tie.Need-loop-again Inv-loop μ-loop
 loop-again c =
     let l = c .before .before .before in
     seen-zero (ends (l .before))
-    (l .loop .lo) (l .loop .hi) (l .loop .lo + (l .loop .hi - l .loop .lo) / 2) (l .loop .inv) (omega arith) (omega (arith, c .before .before .loop-test .taken)) (c .if1 .taken)
+    (l .loop .lo) (l .loop .hi) (l .loop .lo + (l .loop .hi - l .loop .lo) / 2) (l .loop .inv) (omega arith)
+    (omega (arith, c .before .before .loop-test .taken)) (c .if1 .taken)
 
 add-lo-2 : tie.Need-add-lo-2 Inv-loop μ-loop
 add-lo-2 c = search needs
@@ -113,7 +125,8 @@ loop-again-2 : tie.Need-loop-again-2 Inv-loop μ-loop
 loop-again-2 c =
     let l = c .before .before .before in
     seen-some (ends (l .before))
-    (l .loop .lo) (l .loop .hi) (l .loop .lo + (l .loop .hi - l .loop .lo) / 2) (l .loop .inv) (omega arith) (omega (arith, c .before .before .loop-test .taken)) (c .if1 .left)
+    (l .loop .lo) (l .loop .hi) (l .loop .lo + (l .loop .hi - l .loop .lo) / 2) (l .loop .inv) (omega arith)
+    (omega (arith, c .before .before .loop-test .taken)) (c .if1 .left)
 
 returns : tie.Need-returns Inv-loop μ-loop
 returns c = seen-end (ends (c .before .before)) (c .before .loop .lo) (c .before .loop .hi) (c .before .loop .inv) (c .loop-test .left)

@@ -20,7 +20,8 @@ returns-3 : tie.Need-returns-3
 returns-3 c =
     let p = c .before .before in
     let t = p .before .before .before in
-    λ e. lower-here (t .args .postings .now) (t .args .bound) (t .args .at) (t .pre) (omega (arith, c .if3 .taken)) (p .is-past .ensures (not-false _ (c .before .if2 .left)))
+    λ e. lower-here (t .args .postings .now) (t .args .bound) (t .args .at) (t .pre) (omega (arith, c .if3 .taken))
+    (p .is-past .ensures (not-false _ (c .before .if2 .left)))
     (λ h. absurd (omega (arith, c .if3 .taken)))
 
 mul-result : tie.Need-mul-result
@@ -34,7 +35,8 @@ returns-4 c =
     let o = c .before in
     let p = o .before .before in
     let t = p .before .before .before in
-    λ e. lower-here (t .args .postings .now) (t .args .bound) (t .args .at) (t .pre) (p .before .if1 .left) (p .is-past .ensures (not-false _ (o .before .if2 .left)))
+    λ e. lower-here (t .args .postings .now) (t .args .bound) (t .args .at) (t .pre) (p .before .if1 .left)
+    (p .is-past .ensures (not-false _ (o .before .if2 .left)))
     (λ h. leb-true _ _ e)
 
 pub is-place-spec : {M : Type 1} → statement M

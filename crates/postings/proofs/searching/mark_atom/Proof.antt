@@ -13,8 +13,22 @@ use Rattle.postings.proofs.Marking.{marks-beyond, looks-step}
 use Rattle.postings.proofs.searching.mark_atom.Statement.{statement}
 use Rattle.postings.proofs.searching.mark_atom.Tie as tie
 
+-- back from each place to the one before it that the proof names
+abbrev at-start : tie.After-tick → tie.Start
+at-start c = c .before .before .before
+
+abbrev at-tick-from-else1 : tie.Else1 → tie.After-tick
+at-tick-from-else1 c = c .before .before .before .before
+
+abbrev at-tick-from-mark-from-arg : tie.After-mark-from-arg → tie.After-tick
+at-tick-from-mark-from-arg c = at-tick-from-else1 (c .before)
+
+abbrev at-tick : tie.After-mark-from → tie.After-tick
+at-tick c = at-tick-from-else1 (c .before .before)
+
 ended : (c : tie.After-tick) {t : Tick} → c .tick .result ≡ t → let a = c .before .before .before .args in
-    walk look (looks (now (a .postings)) (a .atom)) (now (a .answer)) (a .work) ≡ onward t (now (a .answer)) (walk look (marks (now (a .postings)) (a .atom)))
+    walk look (looks (now (a .postings)) (a .atom)) (now (a .answer)) (a .work)
+    ≡ onward t (now (a .answer)) (walk look (marks (now (a .postings)) (a .atom)))
 ended c e =
     let a = c .before .before .before .args in
     looks-step (a .atom) (now (a .postings)) (now (a .answer)) (a .work) (sym e ∙ c .tick .ensures)
@@ -32,13 +46,14 @@ returns c =
     let t = b .before .before .before in
     let a = t .args in
     sym (ended b (m .m .given .1)
-    ∙ ap (λ (xs : List (Option ℕ)). walk look xs (now (a .answer)) (m .m .given .0 .0)) (marks-beyond (a .atom) (now (a .postings)) (t .pre .0 .low) (c .if1 .taken))
+    ∙ ap (λ (xs : List (Option ℕ)). walk look xs (now (a .answer)) (m .m .given .0 .0))
+    (marks-beyond (a .atom) (now (a .postings)) (t .pre .0 .low) (c .if1 .taken))
     ∙ walk-none look (now (a .answer)) (m .m .given .0 .0))
 
 mark-from-requires : tie.Need-mark-from-requires
 mark-from-requires c κs =
+    let t = at-start (at-tick-from-mark-from-arg c) in
     let o = c .before in
-    let t = o .before .before .before .before .before .before .before in
     (t .pre .0, t .pre .1 (o .if1 .left))
 
 enum-known-m-2 : tie.Need-enum-known-m-2
@@ -49,8 +64,9 @@ same-length c = search needs
 
 returns-2 : tie.Need-returns-2
 returns-2 c =
-    let m = c .before .before .before .before .before .before in
-    c .before .before .mark-from .ensures ∙ sym (ended (m .before .before) (m .m .given .1))
+    let mark-from = c .before .before in
+    let m = mark-from .before .before .before .before in
+    mark-from .mark-from .ensures ∙ sym (ended (at-tick mark-from) (m .m .given .1))
 
 returns-3 : tie.Need-returns-3
 returns-3 c = sym (ended (c .before .before .before) (c .before .m2 .given .1))

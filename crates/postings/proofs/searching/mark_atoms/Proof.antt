@@ -23,9 +23,34 @@ Inv-loop postings atoms answer₀ meter₀ near₀ i₀ answer meter near i =
 abbrev μ-loop : tie.MeasureT-loop
 μ-loop postings atoms answer₀ meter₀ near₀ i₀ answer meter near i = length atoms - i
 
+-- back from each place to the one before it that the proof names
+abbrev at-start : tie.At-loop Inv-loop μ-loop → tie.Start Inv-loop μ-loop
+at-start c = c .before .before .before .before
+
+abbrev at-loop : tie.In-loop Inv-loop μ-loop → tie.At-loop Inv-loop μ-loop
+at-loop c = c .before
+
+abbrev at-in-loop-from-mark-atom-arg : tie.After-mark-atom-arg Inv-loop μ-loop → tie.In-loop Inv-loop μ-loop
+at-in-loop-from-mark-atom-arg c = c .before .before .before .before
+
+abbrev at-in-loop : tie.After-mark-atom Inv-loop μ-loop → tie.In-loop Inv-loop μ-loop
+at-in-loop c = at-in-loop-from-mark-atom-arg (c .before)
+
+abbrev at-mark-atom-from-m : tie.After-m Inv-loop μ-loop → tie.After-mark-atom Inv-loop μ-loop
+at-mark-atom-from-m c = c .before .before .before .before
+
+abbrev at-mark-atom-from-m2 : tie.After-m2 Inv-loop μ-loop → tie.After-mark-atom Inv-loop μ-loop
+at-mark-atom-from-m2 c = c .before .before .before .before
+
+abbrev at-mark-atom : tie.After-known-told2 Inv-loop μ-loop → tie.After-mark-atom Inv-loop μ-loop
+at-mark-atom c = at-mark-atom-from-m2 (c .before)
+
+abbrev at-mark-atom-from-known-told : tie.After-known-told Inv-loop μ-loop → tie.After-mark-atom Inv-loop μ-loop
+at-mark-atom-from-known-told c = at-mark-atom-from-m (c .before)
+
 module _ (c : tie.After-mark-atom Inv-loop μ-loop) where
   abbrev at : tie.At-loop Inv-loop μ-loop
-  at = c .before .before .before .before .before .before
+  at = at-loop (at-in-loop c)
 
   abbrev root : tie.Start Inv-loop μ-loop
   root = at .before .before .before .before
@@ -39,12 +64,17 @@ module _ (c : tie.After-mark-atom Inv-loop μ-loop) where
       onward t after (walk look (looksAll (now (root .args .postings)) (drop (at .loop .i + 1) (now (root .args .atoms)))))
       ≡ walk look (looksAll (now (root .args .postings)) (now (root .args .atoms))) (now (root .args .answer)) (root .args .work)
   turn e =
-      let ps = now (root .args .postings) in
-      let as′ = now (root .args .atoms) in
-      ap (λ (t : Tick). onward t after (walk look (looksAll ps (drop (at .loop .i + 1) as′)))) (sym e)
-      ∙ sym (ap (λ (xs : List (Option ℕ)). walk look xs (at .loop .answer) (at .loop .meter)) (looks-drop ps as′ (at .loop .i) (c .before .before .before .before .before .loop-test .taken))
-      ∙ walk-append look (looks ps (getD as′ (at .loop .i) 0)) (looksAll ps (drop (at .loop .i + 1) as′)) (at .loop .answer) (at .loop .meter) (c .mark-atom .ensures))
-      ∙ at .loop .inv .2
+      let in-loop = at-in-loop c in
+      let loop = at-loop in-loop in
+      let start = at-start loop in
+      let ps = now (start .args .postings) in
+      let as′ = now (start .args .atoms) in
+      ap (λ (t : Tick). onward t after (walk look (looksAll ps (drop (loop .loop .i + 1) as′)))) (sym e)
+      ∙ sym (ap (λ (xs : List (Option ℕ)). walk look xs (loop .loop .answer) (loop .loop .meter))
+      (looks-drop ps as′ (loop .loop .i) (in-loop .loop-test .taken))
+      ∙ walk-append look (looks ps (getD as′ (loop .loop .i) 0)) (looksAll ps (drop (loop .loop .i + 1) as′)) (loop .loop .answer)
+      (loop .loop .meter) (c .mark-atom .ensures))
+      ∙ loop .loop .inv .2
 
 loop-holds : tie.Need-loop-holds Inv-loop μ-loop
 loop-holds c = (omega arith, refl, refl)
@@ -56,7 +86,7 @@ shared-slice-read-place-from : tie.Need-shared-slice-read-place-from Inv-loop μ
 shared-slice-read-place-from c = search needs
 
 place-from-requires : tie.Need-place-from-requires Inv-loop μ-loop
-place-from-requires c κs = c .before .before .before .before .before .before .pre .sorted
+place-from-requires c κs = at-start (at-loop (c .before)) .pre .sorted
 
 mul-mark-atom : tie.Need-mul-mark-atom Inv-loop μ-loop
 mul-mark-atom c = search needs
@@ -80,7 +110,7 @@ same-length : tie.Need-same-length Inv-loop μ-loop
 same-length c = search needs
 
 returns : tie.Need-returns Inv-loop μ-loop
-returns c = turn (c .before .before .before .before .before) (c .before .m2 .given .1)
+returns c = turn (at-mark-atom c) (c .before .m2 .given .1)
 
 add-i : tie.Need-add-i Inv-loop μ-loop
 add-i c = search needs
@@ -90,8 +120,12 @@ loop-less c = search needs
 
 loop-again : tie.Need-loop-again Inv-loop μ-loop
 loop-again c =
-    let b = c .before .before .before .before .before in
-    (omega (arith, b .before .before .before .before .before .loop-test .taken), b .mark-atom .kept .1 .1 .1 .0 ∙ at b .loop .inv .1, turn b (c .before .m .given .1))
+    let b = at-mark-atom-from-known-told c in
+    let in-loop = at-in-loop b in (
+      omega (arith, in-loop .loop-test .taken),
+      b .mark-atom .kept .1 .1 .1 .0 ∙ at-loop in-loop .loop .inv .1,
+      turn b (c .before .m .given .1),
+    )
 
 same-length-2 : tie.Need-same-length-2 Inv-loop μ-loop
 same-length-2 c = search needs
@@ -100,7 +134,8 @@ returns-2 : tie.Need-returns-2 Inv-loop μ-loop
 returns-2 c =
     let l = c .before in
     let a = l .before .before .before .before .args in
-    sym (ap (λ (as′ : List ℕ). walk look (looksAll (now (a .postings)) as′) (l .loop .answer) (l .loop .meter)) (drop-of-length-le (now (a .atoms)) (c .loop-test .left))
+    sym (ap (λ (as′ : List ℕ). walk look (looksAll (now (a .postings)) as′) (l .loop .answer) (l .loop .meter))
+    (drop-of-length-le (now (a .atoms)) (c .loop-test .left))
     ∙ ap (λ (xs : List (Option ℕ)). walk look xs (l .loop .answer) (l .loop .meter)) (looks-none (now (a .postings)))
     ∙ walk-none look (l .loop .answer) (l .loop .meter)) ∙ l .loop .inv .2
 

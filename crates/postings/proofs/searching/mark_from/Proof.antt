@@ -34,9 +34,11 @@ module _ (c : tie.At-loop Inv-loop μ-loop) where
 
   -- no more postings of the atom
   ended : marks (drop (c .loop .i) (now (root .args .postings))) (root .args .atom) ≡ [] →
-      walked (Ticked (c .loop .meter)) (c .loop .answer) ≡ walk look (marks (now (root .args .postings)) (root .args .atom)) (now (root .args .answer)) (root .args .work)
+      walked (Ticked (c .loop .meter)) (c .loop .answer)
+      ≡ walk look (marks (now (root .args .postings)) (root .args .atom)) (now (root .args .answer)) (root .args .work)
   ended e =
-      sym (ap (λ (xs : List (Option ℕ)). walk look xs (c .loop .answer) (c .loop .meter)) e ∙ walk-none look (c .loop .answer) (c .loop .meter))
+      sym (ap (λ (xs : List (Option ℕ)). walk look xs (c .loop .answer) (c .loop .meter)) e
+      ∙ walk-none look (c .loop .answer) (c .loop .meter))
       ∙ c .loop .inv .3
 
 module _ (c : tie.Else1 Inv-loop μ-loop) where
@@ -48,15 +50,18 @@ module _ (c : tie.Else1 Inv-loop μ-loop) where
 
   placed : x % maxRows < length (at .loop .answer)
   placed =
-      let h = each-at (λ v. v % maxRows < length (now (root at .args .answer))) (now (root at .args .postings)) (at .loop .i) (root at .pre .0 .placed) (c .before .before .loop-test .taken) in
+      let h = each-at (λ v. v % maxRows < length (now (root at .args .answer))) (now (root at .args .postings)) (at .loop .i)
+      (root at .pre .0 .placed) (c .before .before .loop-test .taken) in
       omega (arith, at .loop .inv .2)
 
   -- the posting, by its tick
   turn : {t : Tick} → t ≡ tickOf (at .loop .meter) →
-      onward t (at .loop .answer) (λ ms. walk look (marks (drop (at .loop .i + 1) (now (root at .args .postings))) (root at .args .atom)) (set ms (x % maxRows) 1))
+      onward t (at .loop .answer) (λ ms. walk look (marks (drop (at .loop .i + 1) (now (root at .args .postings))) (root at .args .atom))
+      (set ms (x % maxRows) 1))
       ≡ walk look (marks (now (root at .args .postings)) (root at .args .atom)) (now (root at .args .answer)) (root at .args .work)
   turn e =
-      sym (marks-step (root at .args .atom) (now (root at .args .postings)) (at .loop .i) (at .loop .answer) (at .loop .meter) (c .before .before .loop-test .taken) (c .if1 .left) e)
+      sym (marks-step (root at .args .atom) (now (root at .args .postings)) (at .loop .i) (at .loop .answer) (at .loop .meter)
+      (c .before .before .loop-test .taken) (c .if1 .left) e)
       ∙ at .loop .inv .3
 
 loop-holds : tie.Need-loop-holds Inv-loop μ-loop
@@ -67,7 +72,8 @@ loop-holds c =
       omega (arith, t .pre .1, lower-le (a .atom * maxRows) (now (a .postings))),
       refl,
       ap (λ (xs : List (Option ℕ)). walk look xs (now (a .answer)) (a .work))
-          (ap (λ (i : ℕ). marks (drop i (now (a .postings))) (a .atom)) (t .pre .1) ∙ marks-from (a .atom) (now (a .postings)) (t .pre .0 .sorted)),
+          (ap (λ (i : ℕ). marks (drop i (now (a .postings))) (a .atom)) (t .pre .1)
+          ∙ marks-from (a .atom) (now (a .postings)) (t .pre .0 .sorted)),
     )
 
 mul-posting : tie.Need-mul-posting Inv-loop μ-loop
@@ -83,7 +89,8 @@ returns : tie.Need-returns Inv-loop μ-loop
 returns c =
     let l = c .before .before .before in
     let t = root l in
-    ended l (marks-past (t .args .atom) (now (t .args .postings)) (l .loop .i) (t .pre .0 .sorted) (omega (arith, t .pre .1, l .loop .inv .0)) (c .before .before .loop-test .taken) (c .if1 .taken))
+    ended l (marks-past (t .args .atom) (now (t .args .postings)) (l .loop .i) (t .pre .0 .sorted)
+    (omega (arith, t .pre .1, l .loop .inv .0)) (c .before .before .loop-test .taken) (c .if1 .taken))
 
 tick-requires : tie.Need-tick-requires Inv-loop μ-loop
 tick-requires c κs = search needs

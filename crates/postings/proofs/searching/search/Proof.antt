@@ -15,9 +15,31 @@ use Rattle.postings.proofs.Answers.{search-whole, search-stopped}
 use Rattle.postings.proofs.searching.search.Statement.{statement}
 use Rattle.postings.proofs.searching.search.Tie as tie
 
+-- back from each place to the one before it that the proof names
+abbrev at-start-from-fill-zero-arg : tie.After-fill-zero-arg → tie.Start
+at-start-from-fill-zero-arg c = c .before .before .before .before
+
+abbrev at-start : tie.After-fill-zero → tie.Start
+at-start c = at-start-from-fill-zero-arg (c .before)
+
+abbrev at-fill-zero : tie.After-mark-atoms → tie.After-fill-zero
+at-fill-zero c = c .before .before .before .before
+
+abbrev at-mark-atoms-from-m : tie.After-m → tie.After-mark-atoms
+at-mark-atoms-from-m c = c .before .before .before .before
+
+abbrev at-mark-atoms-from-m2 : tie.After-m2 → tie.After-mark-atoms
+at-mark-atoms-from-m2 c = c .before .before .before .before
+
+abbrev at-mark-atoms : tie.After-gather → tie.After-mark-atoms
+at-mark-atoms c = at-mark-atoms-from-m (c .before .before .before)
+
+abbrev at-mark-atoms-from-fill-zero2 : tie.After-fill-zero2 → tie.After-mark-atoms
+at-mark-atoms-from-fill-zero2 c = at-mark-atoms-from-m2 (c .before .before .before)
+
 module _ (c : tie.After-mark-atoms) where
   abbrev root : tie.Start
-  root = c .before .before .before .before .before .before .before .before .before
+  root = at-start (at-fill-zero c)
 
   abbrev marks : List ℕ
   marks = c .mark-atoms .last .1 .1 .0
@@ -26,7 +48,8 @@ module _ (c : tie.After-mark-atoms) where
   zeros = c .before .before .before .before .fill-zero .ensures
 
   marking : {t : Tick} → c .mark-atoms .result ≡ t →
-      walked t marks ≡ walk look (looksAll (now (root .args .postings)) (now (root .args .atoms))) (zeroed (now (root .args .answer))) (root .args .work)
+      walked t marks ≡ walk look (looksAll (now (root .args .postings)) (now (root .args .atoms))) (zeroed (now (root .args .answer)))
+      (root .args .work)
   marking e =
       ap (λ (t : Tick). walked t marks) (sym e) ∙ c .mark-atoms .ensures
       ∙ ap (λ (z : List ℕ). walk look (looksAll (now (root .args .postings)) (now (root .args .atoms))) z (root .args .work)) zeros
@@ -39,8 +62,10 @@ fill-zero-requires c κs = search needs
 
 mark-atoms-requires : tie.Need-mark-atoms-requires
 mark-atoms-requires c κs =
-    let t = c .before .before .before .before .before .before .before .before in
-    rw (c .before .before .before .fill-zero .ensures, length-zeroed (now (t .args .answer))) (t .pre)
+    let fill-zero = c .before .before .before in
+    let shared-slice-known = fill-zero .before .before .before .before in
+    let t = shared-slice-known .before in
+    rw (fill-zero .fill-zero .ensures, length-zeroed (now (t .args .answer))) (t .pre)
 
 enum-known-m : tie.Need-enum-known-m
 enum-known-m c = search needs
@@ -59,23 +84,30 @@ same-length c = search needs
 
 returns : tie.Need-returns
 returns c =
-    let b = c .before .before .before .before .before .before .before .before .before in
-    let a = root b .args in
-    let m = c .before .before .before .before .before .m .given in
-    let g = c .before .before .gather .ensures in
-    ap₂ {C = SearchEnd} (λ (k : ℕ) (xs : List ℕ). record { answer = answer.Count k; header = a .header; meter = m .0 .0; found = xs }) (g .0) (g .1)
-    ∙ search-whole (a .header) (now (a .postings)) (now (a .atoms)) (now (a .answer)) (a .work) (marks b) (m .0 .0) (root b .pre) (marking b (m .1))
+    let gather = c .before .before in
+    let b = at-mark-atoms gather in
+    let start = at-start (at-fill-zero b) in
+    let a = start .args in
+    let m = gather .before .before .before .m .given in
+    let g = gather .gather .ensures in
+    ap₂ {C = SearchEnd} (λ (k : ℕ) (xs : List ℕ). record { answer = answer.Count k; header = a .header; meter = m .0 .0; found = xs })
+    (g .0) (g .1)
+    ∙ search-whole (a .header) (now (a .postings)) (now (a .atoms)) (now (a .answer)) (a .work) (marks b) (m .0 .0) (start .pre)
+    (marking b (m .1))
 
 same-length-2 : tie.Need-same-length-2
 same-length-2 c = search needs
 
 returns-2 : tie.Need-returns-2
 returns-2 c =
-    let b = c .before .before .before .before .before .before .before .before .before in
-    let a = root b .args in
-    let m = c .before .before .before .before .before .m2 .given in
-    ap {B = SearchEnd} (λ (xs : List ℕ). record { answer = answer.Stopped; header = a .header; meter = m .0 .0; found = xs }) (c .before .before .fill-zero2 .ensures)
-    ∙ search-stopped (a .header) (now (a .postings)) (now (a .atoms)) (now (a .answer)) (a .work) (marks b) (m .0 .0) (long b) (marking b (m .1))
+    let fill-zero2 = c .before .before in
+    let b = at-mark-atoms-from-fill-zero2 fill-zero2 in
+    let a = at-start (at-fill-zero b) .args in
+    let m = fill-zero2 .before .before .before .m2 .given in
+    ap {B = SearchEnd} (λ (xs : List ℕ). record { answer = answer.Stopped; header = a .header; meter = m .0 .0; found = xs })
+    (fill-zero2 .fill-zero2 .ensures)
+    ∙ search-stopped (a .header) (now (a .postings)) (now (a .atoms)) (now (a .answer)) (a .work) (marks b) (m .0 .0) (long b)
+    (marking b (m .1))
 
 pub search-spec : {M : Type 1} → statement M
 search-spec =

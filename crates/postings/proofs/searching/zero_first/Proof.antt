@@ -22,7 +22,9 @@ start-requires : tie.Need-start-requires
 start-requires c κs = search needs
 
 next-requires : tie.Need-next-requires
-next-requires c κs = let b = c .start .ensures in (c .before .before .pre, (omega (arith, ap (λ k. k .next) b), omega (arith, ap (λ k. k .word) b)))
+next-requires c κs =
+    let b = c .start .ensures in
+    (c .before .before .pre, (omega (arith, ap (λ k. k .next) b), omega (arith, ap (λ k. k .word) b)))
 
 enum-known-code : tie.Need-enum-known-code
 enum-known-code c = search needs
@@ -35,20 +37,23 @@ returns c =
     let k = c .before .before in
     let b = k .before .before in
     let a = b .before .before .before .args in
-    sym (ap (λ (l : List ℕ). zeroFirst (map atom l)) (sym (side b) ∙ ap (given (now (a .slot)) (a .side)) (k .code .given .1)) ∙ zero-yes (k .code .given .0 .0) (rest (now (a .slot)) (a .side) (k .code .given .0 .1 .0)) (c .if1 .taken))
+    sym (ap (λ (l : List ℕ). zeroFirst (map atom l)) (sym (side b) ∙ ap (given (now (a .slot)) (a .side)) (k .code .given .1))
+    ∙ zero-yes (k .code .given .0 .0) (rest (now (a .slot)) (a .side) (k .code .given .0 .1 .0)) (c .if1 .taken))
 
 returns-2 : tie.Need-returns-2
 returns-2 c =
     let k = c .before .before in
     let b = k .before .before in
     let a = b .before .before .before .args in
-    sym (ap (λ (l : List ℕ). zeroFirst (map atom l)) (sym (side b) ∙ ap (given (now (a .slot)) (a .side)) (k .code .given .1)) ∙ zero-no (k .code .given .0 .0) (rest (now (a .slot)) (a .side) (k .code .given .0 .1 .0)) (c .if1 .left))
+    sym (ap (λ (l : List ℕ). zeroFirst (map atom l)) (sym (side b) ∙ ap (given (now (a .slot)) (a .side)) (k .code .given .1))
+    ∙ zero-no (k .code .given .0 .0) (rest (now (a .slot)) (a .side) (k .code .given .0 .1 .0)) (c .if1 .left))
 
 returns-3 : tie.Need-returns-3
 returns-3 c =
     let b = c .before .before in
     let a = b .before .before .before .args in
-    sym (ap (λ (l : List ℕ). zeroFirst (map atom l)) (sym (side b) ∙ ap (given (now (a .slot)) (a .side)) (c .enum-told .given .1)) ∙ zero-none)
+    sym (ap (λ (l : List ℕ). zeroFirst (map atom l)) (sym (side b) ∙ ap (given (now (a .slot)) (a .side)) (c .enum-told .given .1))
+    ∙ zero-none)
 
 pub zero-first-spec : {M : Type 1} → statement M
 zero-first-spec =

@@ -7,7 +7,9 @@ use Rattle.script.proofs.feed.lines.Statement.{statement}
 use Rattle.script.proofs.feed.lines.Tie as tie
 
 abbrev Inv-loop : tie.InvT-loop
-Inv-loop s table₀ slots₀ postings₀ out₀ f₀ from₀ table slots postings out f from = (length table ≡ length table₀) × (length slots ≡ length slots₀) × (length postings ≡ length postings₀) × (length out ≡ length out₀) × (from ≤ length s)
+Inv-loop s table₀ slots₀ postings₀ out₀ f₀ from₀ table slots postings out f from =
+    (length table ≡ length table₀) × (length slots ≡ length slots₀) × (length postings ≡ length postings₀) × (length out ≡ length out₀)
+    × (from ≤ length s)
 
 abbrev μ-loop : tie.MeasureT-loop
 μ-loop s table₀ slots₀ postings₀ out₀ f₀ from₀ table slots postings out f from = length s - from
@@ -15,4 +17,6 @@ abbrev μ-loop : tie.MeasureT-loop
 pub lines-spec : {M : Type 1} → statement M
 lines-spec =
     tie.close
-    (tie.spec Inv-loop μ-loop (λ c. search needs) (λ c κs. search needs) (λ c. search needs) (λ c. search needs) (λ c. search needs) (λ c. search needs) (λ c. search needs) (λ c. search needs) (λ c. search needs) (λ c. search needs) (λ c. search needs) (λ c κs. search needs) (λ c. search needs) (λ c. search needs))
+    (tie.spec Inv-loop μ-loop (λ c. search needs) (λ c κs. search needs) (λ c. search needs) (λ c. search needs) (λ c. search needs)
+    (λ c. search needs) (λ c. search needs) (λ c. search needs) (λ c. search needs) (λ c. search needs) (λ c. search needs)
+    (λ c κs. search needs) (λ c. search needs) (λ c. search needs))

@@ -7,7 +7,9 @@ use Rattle.script.proofs.feed.run.Statement.{statement}
 use Rattle.script.proofs.feed.run.Tie as tie
 
 abbrev Inv-loop : tie.InvT-loop
-Inv-loop buf₀ table₀ slots₀ postings₀ out₀ f₀ turns₀ buf table slots postings out f turns = (length table ≡ length table₀) × (length slots ≡ length slots₀) × (length postings ≡ length postings₀) × (length out ≡ length out₀) × (length buf ≡ length buf₀) × (f .bytes ≤ length buf₀)
+Inv-loop buf₀ table₀ slots₀ postings₀ out₀ f₀ turns₀ buf table slots postings out f turns =
+    (length table ≡ length table₀) × (length slots ≡ length slots₀) × (length postings ≡ length postings₀) × (length out ≡ length out₀)
+    × (length buf ≡ length buf₀) × (f .bytes ≤ length buf₀)
 
 abbrev μ-loop : tie.MeasureT-loop
 μ-loop buf₀ table₀ slots₀ postings₀ out₀ f₀ turns₀ buf table slots postings out f turns = turns
@@ -15,4 +17,7 @@ abbrev μ-loop : tie.MeasureT-loop
 pub run-spec : {M : Type 1} → statement M
 run-spec =
     tie.close
-    (tie.spec Inv-loop μ-loop (λ c. search needs) (λ c. search needs) (λ c κs. search needs) (λ c. search needs) (λ c. search needs) (λ c. search needs) (λ c κs. search needs) (λ c. search needs) (λ c. search needs) (λ c. search needs) (λ c. search needs) (λ c. search needs) (λ c. search needs) (λ c κs. search needs) (λ c. search needs) (λ c. search needs) (λ c. search needs) (λ c. search needs) (λ c. search needs) (λ c. search needs) (λ c. search needs) (λ c. search needs))
+    (tie.spec Inv-loop μ-loop (λ c. search needs) (λ c. search needs) (λ c κs. search needs) (λ c. search needs) (λ c. search needs)
+    (λ c. search needs) (λ c κs. search needs) (λ c. search needs) (λ c. search needs) (λ c. search needs) (λ c. search needs)
+    (λ c. search needs) (λ c. search needs) (λ c κs. search needs) (λ c. search needs) (λ c. search needs) (λ c. search needs)
+    (λ c. search needs) (λ c. search needs) (λ c. search needs) (λ c. search needs) (λ c. search needs))

@@ -10,14 +10,33 @@ use denote.Ref.{now}
 use Rattle.words.specs.Bit.{maxWord}
 use Rattle.model.specs.Refusals.{Lent, ledgerIn}
 use Rattle.model.specs.Operations.{transferRefusal, deliver}
-use Rattle.contents.specs.Lent.{lent, verdict}
-use Rattle.contents.proofs.Accepting.{verdict-some}
-use Rattle.keeping.specs.Stood.{Stood}
-use Rattle.keeping.proofs.Standing.{accepted-stood}
+use Rattle.contents.specs.Lent.{lent, refusedBy}
+use Rattle.contents.proofs.Accepting.{refusedBy-some}
+use Rattle.retain_keep.specs.Stood.{Stood}
+use Rattle.retain_keep.proofs.Standing.{accepted-stood}
 use Rattle.transfers.specs.Ends.{transferEnd}
 use Rattle.transfers.proofs.Ending.{tier-accepted, store-accepted, atoms-same, stood-now, deliver-refused, deliver-done}
 use Rattle.transfers.proofs.delivering.deliver.Statement.{statement}
 use Rattle.transfers.proofs.delivering.deliver.Tie as tie
+
+-- back from each place to the one before it that the proof names
+abbrev at-start-from-slice-known3 : tie.After-slice-known3 → tie.Start
+at-start-from-slice-known3 c = c .before .before .before .before
+
+abbrev at-start : tie.After-refusal → tie.Start
+at-start c = at-start-from-slice-known3 (c .before .before .before .before)
+
+abbrev at-refusal-from-deliver-rows-arg3 : tie.After-deliver-rows-arg3 → tie.After-refusal
+at-refusal-from-deliver-rows-arg3 c = c .before .before .before .before
+
+abbrev at-refusal : tie.After-deliver-rows → tie.After-refusal
+at-refusal c = at-refusal-from-deliver-rows-arg3 (c .before)
+
+abbrev at-deliver-rows-from-slice-known5 : tie.After-slice-known5 → tie.After-deliver-rows
+at-deliver-rows-from-slice-known5 c = c .before .before .before .before
+
+abbrev at-deliver-rows : tie.After-delivered → tie.After-deliver-rows
+at-deliver-rows c = at-deliver-rows-from-slice-known5 (c .before .before .before)
 
 module _ (t : tie.Start) where
   abbrev T : Lent
@@ -35,18 +54,21 @@ module _ (t : tie.Start) where
 
   module _ (e : transferRefusal T S ≡ none) where
     tier-stood : Stood (t .args .tier) (now (t .args .tier-slots)) (now (t .args .tier-postings)) (ledgerIn T)
-    tier-stood = accepted-stood (t .args .tier) (now (t .args .tier-slots)) (now (t .args .tier-postings)) true [] (tier-accepted T S e) tier-born
+    tier-stood =
+        accepted-stood (t .args .tier) (now (t .args .tier-slots)) (now (t .args .tier-postings)) true [] (tier-accepted T S e) tier-born
 
     store-stood : Stood (t .args .store) (now (t .args .store-slots)) (now (t .args .store-postings)) (ledgerIn S)
-    store-stood = accepted-stood (t .args .store) (now (t .args .store-slots)) (now (t .args .store-postings)) true [] (store-accepted T S e) store-born
+    store-stood =
+        accepted-stood (t .args .store) (now (t .args .store-slots)) (now (t .args .store-postings)) true [] (store-accepted T S e)
+        store-born
 
 -- neither is refused
 module _ (c : tie.Else1) where
   abbrev top : tie.Start
-  top = c .before .before .before .before .before .before .before .before .before
+  top = at-start (c .before)
 
   none-is : transferRefusal (T top) (S top) ≡ none
-  none-is = sym (c .before .refusal .ensures) ∙ ap verdict (c .if1 .left)
+  none-is = sym (c .before .refusal .ensures) ∙ ap refusedBy (c .if1 .left)
 
 refusal-requires : tie.Need-refusal-requires
 refusal-requires c κs = search needs
@@ -65,11 +87,14 @@ same-length-3 c = search needs
 
 returns : tie.Need-returns
 returns c =
-    let t = c .before .before .before .before .before .before .before .before .before .before in
+    let refusal = c .before .before in
+    let t = at-start refusal in
     let a = t .args in
-    ap (λ r. transferEnd r (now (a .tier-slots)) (now (a .tier-postings)) (now (a .store-slots)) (now (a .store-postings)) (deliver (T t) (S t) (a .work))) (c .untransferred .ensures)
-    ∙ deliver-refused (a .tier) (a .store) (now (a .tier-slots)) (now (a .tier-postings)) (now (a .store-slots)) (now (a .store-postings)) (a .work) _
-    (sym (c .before .before .refusal .ensures) ∙ verdict-some _ (c .before .if1 .taken))
+    ap (λ r. transferEnd r (now (a .tier-slots)) (now (a .tier-postings)) (now (a .store-slots)) (now (a .store-postings))
+    (deliver (T t) (S t) (a .work))) (c .untransferred .ensures)
+    ∙ deliver-refused (a .tier) (a .store) (now (a .tier-slots)) (now (a .tier-postings)) (now (a .store-slots)) (now (a .store-postings))
+    (a .work) _
+    (sym (refusal .refusal .ensures) ∙ refusedBy-some _ (c .before .if1 .taken))
 
 deliver-rows-requires : tie.Need-deliver-rows-requires
 deliver-rows-requires c κs =
@@ -77,7 +102,10 @@ deliver-rows-requires c κs =
     let t = top e in
     let a = t .args in
     let z = none-is e in (
-      record { postings = now (a .tier-postings); stood = stood-now (a .tier) (now (a .tier-slots)) (now (a .tier-postings)) (tier-stood t z) },
+      record {
+        postings = now (a .tier-postings);
+        stood = stood-now (a .tier) (now (a .tier-slots)) (now (a .tier-postings)) (tier-stood t z);
+      },
       (store-stood t z, atoms-same (T t) (S t) z),
     )
 
@@ -95,12 +123,14 @@ same-length-6 c = search needs
 
 returns-2 : tie.Need-returns-2
 returns-2 c =
-    let r = c .before .before .before .before .before .before .before in
+    let r = at-deliver-rows c in
+    let t = at-start (at-refusal r) in
     let e = r .before .before .before .before in
-    let t = top e in
     let a = t .args in
-    deliver-done (a .tier) (a .store) (now (a .tier-slots)) (now (a .tier-postings)) (now (a .store-slots)) (now (a .store-postings)) (a .work)
-    (a .tier .limits .atoms) (a .tier .rows) (r .deliver-rows .result) (r .deliver-rows .last .1 .0) (r .deliver-rows .last .1 .1 .1 .0) (r .deliver-rows .last .1 .1 .1 .1 .0) (r .deliver-rows .ensures)
+    deliver-done (a .tier) (a .store) (now (a .tier-slots)) (now (a .tier-postings)) (now (a .store-slots)) (now (a .store-postings))
+    (a .work)
+    (a .tier .limits .atoms) (a .tier .rows) (r .deliver-rows .result) (r .deliver-rows .last .1 .0) (r .deliver-rows .last .1 .1 .1 .0)
+    (r .deliver-rows .last .1 .1 .1 .1 .0) (r .deliver-rows .ensures)
     (stood-now (a .tier) (now (a .tier-slots)) (now (a .tier-postings)) (tier-stood t (none-is e))) (none-is e) (c .delivered .ensures)
 
 pub deliver-spec : {M : Type 1} → statement M

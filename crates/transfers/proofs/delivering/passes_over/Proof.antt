@@ -10,15 +10,18 @@ is-shared-requires : tie.Need-is-shared-requires
 is-shared-requires c κs = search needs
 
 returns : tie.Need-returns
-returns c = let t = c .before .before .before in passes-shared (now (t .args .row)) (t .args .limits) (t .pre) (sym (c .before .is-shared .ensures) ∙ c .if1 .taken)
+returns c =
+    let t = c .before .before .before in
+    passes-shared (now (t .args .row)) (t .args .limits) (t .pre) (sym (c .before .is-shared .ensures) ∙ c .if1 .taken)
 
-is-narrow-requires : tie.Need-is-narrow-requires
-is-narrow-requires c κs = search needs
+fails-filter-requires : tie.Need-fails-filter-requires
+fails-filter-requires c κs = search needs
 
 returns-2 : tie.Need-returns-2
 returns-2 c =
     let t = c .before .before .before .before in
-    c .is-narrow .ensures ∙ passes-narrow (now (t .args .row)) (t .args .limits) (t .pre) (sym (c .before .before .is-shared .ensures) ∙ c .before .if1 .left)
+    c .fails-filter .ensures ∙ passes-narrow (now (t .args .row)) (t .args .limits) (t .pre)
+    (sym (c .before .before .is-shared .ensures) ∙ c .before .if1 .left)
 
 pub passes-over-spec : {M : Type 1} → statement M
-passes-over-spec = tie.close (tie.spec is-shared-requires returns is-narrow-requires returns-2)
+passes-over-spec = tie.close (tie.spec is-shared-requires returns fails-filter-requires returns-2)

@@ -13,16 +13,23 @@ use Rattle.transfers.proofs.Reading.{end-declined, end-stopped}
 use Rattle.transfers.proofs.receiving.receive.Statement.{statement}
 use Rattle.transfers.proofs.receiving.receive.Tie as tie
 
-module _ (c : tie.After-pay) where
-  abbrev top : tie.Start
-  top = c .before .before .before .before
+-- back from each place to the one before it that the proof names
+abbrev top : tie.After-pay → tie.Start
+top c = c .before .before .before .before
 
+abbrev at-pay-from-receive-literals-arg : tie.After-receive-literals-arg → tie.After-pay
+at-pay-from-receive-literals-arg c = c .before .before .before .before
+
+abbrev at-pay : tie.After-receive-literals → tie.After-pay
+at-pay c = at-pay-from-receive-literals-arg (c .before .before)
+
+module _ (c : tie.After-pay) where
   -- the literals
   abbrev n : ℕ
-  n = literals (rowIn (now (top .args .row)))
+  n = literals (rowIn (now (top c .args .row)))
 
-  rest : {r : Read} → c .pay .result ≡ r → pay (suc n) (top .args .account) (top .args .work) ≡ andThen r (pay n)
-  rest e = pay-suc n (top .args .account) (top .args .work) (sym e ∙ c .pay .ensures)
+  rest : {r : Read} → c .pay .result ≡ r → pay (suc n) (top c .args .account) (top c .args .work) ≡ andThen r (pay n)
+  rest e = pay-suc n (top c .args .account) (top c .args .work) (sym e ∙ c .pay .ensures)
 
 pay-requires : tie.Need-pay-requires
 pay-requires c κs = search needs
@@ -48,23 +55,26 @@ same-length-2 c = search needs
 returns : tie.Need-returns
 returns c =
     let r = c .before .before .before .before in
-    let k = r .before .before .before .before .before .before in
+    let k = at-pay r in
     let a = top k .args in
     r .receive-literals .ensures
-    ∙ ap (receivedEnd (lent (a .header) (now (a .slots)) (now (a .postings))) (rowIn (now (a .row))) (a .outputs) (a .hits)) (sym (rest k (r .before .before .before .before .account .given .1)))
+    ∙ ap (receivedEnd (lent (a .header) (now (a .slots)) (now (a .postings))) (rowIn (now (a .row))) (a .outputs) (a .hits))
+    (sym (rest k (r .before .before .before .before .account .given .1)))
 
 returns-2 : tie.Need-returns-2
 returns-2 c =
     let k = c .before .before .before in
     let t = top k in
-    end-declined (t .args .header) (now (t .args .slots)) (now (t .args .postings)) (t .pre .0) (rowIn (now (t .args .row))) (t .args .outputs) (t .args .hits) _ _
+    end-declined (t .args .header) (now (t .args .slots)) (now (t .args .postings)) (t .pre .0) (rowIn (now (t .args .row)))
+    (t .args .outputs) (t .args .hits) _ _
     (sym (rest k (c .before .account2 .given .1)))
 
 returns-3 : tie.Need-returns-3
 returns-3 c =
     let k = c .before .before .before in
     let t = top k in
-    end-stopped (t .args .header) (now (t .args .slots)) (now (t .args .postings)) (t .pre .0) (rowIn (now (t .args .row))) (t .args .outputs) (t .args .hits) _ _
+    end-stopped (t .args .header) (now (t .args .slots)) (now (t .args .postings)) (t .pre .0) (rowIn (now (t .args .row)))
+    (t .args .outputs) (t .args .hits) _ _
     (sym (rest k (c .before .account3 .given .1)))
 
 pub receive-spec : {M : Type 1} → statement M

@@ -15,39 +15,58 @@ use Rattle.model.specs.Records.{literals}
 use Rattle.model.specs.Slots.{rowIn}
 use Rattle.slots.specs.Layout.{proposal}
 use Rattle.slots.proofs.Storing.{laid-stored}
-use Rattle.rows.specs.Charge.{WhereYes}
+use Rattle.meter.specs.Payment.{WhereYes}
 use Rattle.contents.specs.Lent.{lent}
-use Rattle.comparing.proofs.Answers.{told-yes, told-no, told-declined, told-stopped}
+use Rattle.retain_compare.proofs.Answers.{told-yes, told-no, told-declined, told-stopped}
 use Rattle.transfers.proofs.Reading.{end-declined, end-stopped, literals-proposed, literals-row, most-fits, literals-kept}
 use Rattle.transfers.proofs.receiving.receive_literals.Statement.{statement}
 use Rattle.transfers.proofs.receiving.receive_literals.Tie as tie
 
-module _ (c : tie.After-to-literals) where
-  abbrev top : tie.Start
-  top = c .before .before .before .before .before
+-- back from each place to the one before it that the proof names
+abbrev at-start-from-p : tie.After-p → tie.Start
+at-start-from-p c = c .before .before .before .before
 
+abbrev top : tie.After-to-literals → tie.Start
+top c = at-start-from-p (c .before)
+
+abbrev at-to-literals-from-enum-told : tie.After-enum-told → tie.After-to-literals
+at-to-literals-from-enum-told c = c .before .before .before .before
+
+abbrev at-to-literals-from-shared-slice-known2 : tie.After-shared-slice-known2 → tie.After-to-literals
+at-to-literals-from-shared-slice-known2 c = at-to-literals-from-enum-told (c .before)
+
+abbrev k : tie.After-larger → tie.After-to-literals
+k c = at-to-literals-from-enum-told (c .before .before)
+
+abbrev at-larger : tie.After-retain → tie.After-larger
+at-larger c = c .before .before .before .before
+
+abbrev at-retain-from-slice-known4 : tie.After-slice-known4 → tie.After-retain
+at-retain-from-slice-known4 c = c .before .before .before .before
+
+abbrev at-retain : tie.After-p4 → tie.After-retain
+at-retain c = at-retain-from-slice-known4 (c .before)
+
+module _ (c : tie.After-to-literals) where
   abbrev j : Judged
   j = c .to-literals .result
 
   abbrev run : Read
-  run = pay (literals (rowIn (now (top .args .row)))) (top .args .account) (top .args .work)
+  run = pay (literals (rowIn (now (top c .args .row)))) (top c .args .account) (top c .args .work)
 
 -- the literals are paid for
 module _ (c : tie.After-larger) where
-  abbrev k : tie.After-to-literals
-  k = c .before .before .before .before .before .before
-
   abbrev t : tie.Start
-  t = top k
+  t = top (k c)
 
-  abbrev yes : j k .verdict ≡ verdict.Yes
+  abbrev yes : j (k c) .verdict ≡ verdict.Yes
   yes = c .before .before .enum-told .given .1
 
   abbrev P : List ℕ
-  P = k .to-literals .last .1 .0
+  P = k c .to-literals .last .1 .0
 
   laid-out : P ≡ proposal (rowIn (now (t .args .row)))
-  laid-out = subst (λ (v : Verdict). WhereYes v (P ≡ proposal (rowIn (now (t .args .row))))) yes (k .to-literals .ensures .1)
+  laid-out = subst (λ (v : Verdict). WhereYes v (P ≡ proposal (rowIn (now (t .args .row))))) yes (k c .to-literals .ensures .1)
 
 slice-aggregate-to-literals : tie.Need-slice-aggregate-to-literals
 slice-aggregate-to-literals c = search needs
@@ -62,7 +81,7 @@ enum-told c = search needs
 
 shared-slice-read-larger : tie.Need-shared-slice-read-larger
 shared-slice-read-larger c =
-    let t = top (c .before .before .before .before .before) in
+    let t = top (at-to-literals-from-shared-slice-known2 c) in
     omega (arith, laid-stored (t .args .header .limits .atoms) (now (t .args .row)) (t .pre .1 .0) .long)
 
 larger-requires : tie.Need-larger-requires
@@ -97,25 +116,31 @@ same-length-2 c = search needs
 
 returns : tie.Need-returns
 returns c =
-    let r = c .before .before .before .before .before in
-    let l = r .before .before .before .before in
-    let a = t l .args in
+    let r = at-retain c in
+    let l = at-larger r in
+    let to-literals = k l in
+    let start = top to-literals in
+    let a = start .args in
     r .retain .ensures
-    ∙ literals-kept (a .header .limits .atoms) (now (a .row)) (t l .pre .1 .0) (P l) (laid-out l) (a .outputs) (l .larger .result) (l .larger .ensures)
-    (lent (a .header) (now (a .slots)) (now (a .postings))) (a .hits) (sym (told-yes true (run (k l)) (k l .to-literals .ensures .0) (yes l) .1))
+    ∙ literals-kept (a .header .limits .atoms) (now (a .row)) (start .pre .1 .0) (P l) (laid-out l) (a .outputs) (l .larger .result)
+    (l .larger .ensures)
+    (lent (a .header) (now (a .slots)) (now (a .postings))) (a .hits)
+    (sym (told-yes true (run to-literals) (to-literals .to-literals .ensures .0) (yes l) .1))
 
 returns-2 : tie.Need-returns-2
 returns-2 c =
     let k = c .before .before .before .before in
     let t = top k in
-    end-stopped (t .args .header) (now (t .args .slots)) (now (t .args .postings)) (t .pre .0) (rowIn (now (t .args .row))) (t .args .outputs) (t .args .hits) _ _
+    end-stopped (t .args .header) (now (t .args .slots)) (now (t .args .postings)) (t .pre .0) (rowIn (now (t .args .row)))
+    (t .args .outputs) (t .args .hits) _ _
     (sym (told-stopped true (run k) (k .to-literals .ensures .0) (c .enum-told2 .given .1)))
 
 returns-3 : tie.Need-returns-3
 returns-3 c =
     let k = c .before .before .before .before in
     let t = top k in
-    end-declined (t .args .header) (now (t .args .slots)) (now (t .args .postings)) (t .pre .0) (rowIn (now (t .args .row))) (t .args .outputs) (t .args .hits) _ _
+    end-declined (t .args .header) (now (t .args .slots)) (now (t .args .postings)) (t .pre .0) (rowIn (now (t .args .row)))
+    (t .args .outputs) (t .args .hits) _ _
     (sym (told-declined true (run k) (k .to-literals .ensures .0) (c .enum-told3 .given .1)))
 
 returns-4 : tie.Need-returns-4

@@ -10,15 +10,34 @@ use denote.Ref.{now}
 use Rattle.words.specs.Bit.{maxWord}
 use Rattle.model.specs.Refusals.{Lent}
 use Rattle.model.specs.Operations.{transferRefusal, seed}
-use Rattle.contents.specs.Lent.{lent, verdict}
+use Rattle.contents.specs.Lent.{lent, refusedBy}
 use Rattle.contents.specs.Accepted.{Accepted}
-use Rattle.contents.proofs.Accepting.{accepted, verdict-some}
-use Rattle.keeping.proofs.Holding.{accepted-lent}
-use Rattle.keeping.proofs.Standing.{accepted-stood}
+use Rattle.contents.proofs.Accepting.{accepted, refusedBy-some}
+use Rattle.retain_keep.proofs.Holding.{accepted-lent}
+use Rattle.retain_keep.proofs.Standing.{accepted-stood}
 use Rattle.transfers.specs.Ends.{transferEnd}
 use Rattle.transfers.proofs.Ending.{tier-accepted, store-accepted, atoms-same, giving, seed-refused, seed-done}
 use Rattle.transfers.proofs.seeding.seed.Statement.{statement}
 use Rattle.transfers.proofs.seeding.seed.Tie as tie
+
+-- back from each place to the one before it that the proof names
+abbrev at-start-from-shared-slice-known2 : tie.After-shared-slice-known2 → tie.Start
+at-start-from-shared-slice-known2 c = c .before .before .before .before
+
+abbrev at-start : tie.After-refusal → tie.Start
+at-start c = at-start-from-shared-slice-known2 (c .before .before .before)
+
+abbrev at-refusal : tie.After-mark-for → tie.After-refusal
+at-refusal c = c .before .before
+
+abbrev at-mark-for : tie.After-seed-rows → tie.After-mark-for
+at-mark-for c = c .before .before .before
+
+abbrev at-seed-rows-from-slice-known4 : tie.After-slice-known4 → tie.After-seed-rows
+at-seed-rows-from-slice-known4 c = c .before .before .before .before
+
+abbrev at-seed-rows : tie.After-seeded → tie.After-seed-rows
+at-seed-rows c = at-seed-rows-from-slice-known4 (c .before)
 
 module _ (t : tie.Start) where
   abbrev T : Lent
@@ -37,10 +56,10 @@ module _ (t : tie.Start) where
 -- neither is refused
 module _ (c : tie.Else1) where
   abbrev top : tie.Start
-  top = c .before .before .before .before .before .before .before .before
+  top = at-start (c .before)
 
   none-is : transferRefusal (T top) (S top) ≡ none
-  none-is = sym (c .before .refusal .ensures) ∙ ap verdict (c .if1 .left)
+  none-is = sym (c .before .refusal .ensures) ∙ ap refusedBy (c .if1 .left)
 
 refusal-requires : tie.Need-refusal-requires
 refusal-requires c κs = search needs
@@ -56,11 +75,14 @@ same-length-2 c = search needs
 
 returns : tie.Need-returns
 returns c =
-    let t = c .before .before .before .before .before .before .before .before .before in
+    let refusal = c .before .before in
+    let t = at-start refusal in
     let a = t .args in
-    ap (λ r. transferEnd r (now (a .tier-slots)) (now (a .tier-postings)) (now (a .store-slots)) (now (a .store-postings)) (seed (T t) (S t) (a .work))) (c .untransferred .ensures)
-    ∙ seed-refused (a .tier) (a .store) (now (a .tier-slots)) (now (a .tier-postings)) (now (a .store-slots)) (now (a .store-postings)) (a .work) _
-    (sym (c .before .before .refusal .ensures) ∙ verdict-some _ (c .before .if1 .taken))
+    ap (λ r. transferEnd r (now (a .tier-slots)) (now (a .tier-postings)) (now (a .store-slots)) (now (a .store-postings))
+    (seed (T t) (S t) (a .work))) (c .untransferred .ensures)
+    ∙ seed-refused (a .tier) (a .store) (now (a .tier-slots)) (now (a .tier-postings)) (now (a .store-slots)) (now (a .store-postings))
+    (a .work) _
+    (sym (refusal .refusal .ensures) ∙ refusedBy-some _ (c .before .if1 .taken))
 
 mark-for-requires : tie.Need-mark-for-requires
 mark-for-requires c κs = search needs
@@ -71,7 +93,8 @@ seed-rows-requires c κs =
     let t = top e in
     let a = t .args in (
       accepted-stood (a .tier) (now (a .tier-slots)) (now (a .tier-postings)) true [] (tier-accepted (T t) (S t) (none-is e)) (born-fits t),
-      giving (a .tier .limits .atoms) (a .store) (now (a .store-slots)) (now (a .store-postings)) (store-taken t (none-is e)) (atoms-same (T t) (S t) (none-is e)),
+      giving (a .tier .limits .atoms) (a .store) (now (a .store-slots)) (now (a .store-postings)) (store-taken t (none-is e))
+          (atoms-same (T t) (S t) (none-is e)),
     )
 
 seeded-requires : tie.Need-seeded-requires
@@ -85,13 +108,14 @@ same-length-4 c = search needs
 
 returns-2 : tie.Need-returns-2
 returns-2 c =
-    let r = c .before .before .before .before .before in
-    let k = r .before .before .before in
+    let r = at-seed-rows c in
+    let k = at-mark-for r in
+    let t = at-start (at-refusal k) in
     let e = k .before in
-    let t = top e in
     let a = t .args in
     seed-done (a .tier) (a .store) (now (a .tier-slots)) (now (a .tier-postings)) (now (a .store-slots)) (now (a .store-postings)) (a .work)
-    (a .tier .limits .atoms) (a .store .rows) (k .mark-for .result) (k .mark-for .ensures) (r .seed-rows .result) (r .seed-rows .last .1 .0) (r .seed-rows .last .1 .1 .0) (r .seed-rows .ensures)
+    (a .tier .limits .atoms) (a .store .rows) (k .mark-for .result) (k .mark-for .ensures) (r .seed-rows .result) (r .seed-rows .last .1 .0)
+    (r .seed-rows .last .1 .1 .0) (r .seed-rows .ensures)
     (none-is e) (accepted-lent (a .store) (now (a .store-slots)) (now (a .store-postings)) (store-taken t (none-is e))) (c .seeded .ensures)
 
 pub seed-spec : {M : Type 1} → statement M

@@ -1,0 +1,232 @@
+-- `close_publish::act`. One law for each way out. Assumes nothing.
+use borrow.Author.Needs.{needs}
+use Rattle.close_publish.specs.Turns.{ledgerOf}
+use Rattle.close_publish.proofs.Standing.{slot-fits, stored-part, hit-stands, decided-stands}
+use Rattle.close_publish.proofs.Obeying.{act-stopped, act-nothing, part-row, act-follows}
+use Rattle.close_publish.proofs.act.Statement.{statement}
+use Rattle.close_publish.proofs.act.Tie as tie
+
+-- back from each place to the one before it that the proof names
+abbrev at-start-from-slots : tie.After-slots → tie.Start
+at-start-from-slots c = c .before .before .before .before
+
+abbrev at-start-from-deduction-arg3 : tie.After-deduction-arg3 → tie.Start
+at-start-from-deduction-arg3 c = at-start-from-slots (c .before .before .before)
+
+abbrev at-start : tie.After-deduction → tie.Start
+at-start c = at-start-from-slots (c .before .before .before .before)
+
+abbrev at-deduction-from-known-told : tie.After-known-told → tie.After-deduction
+at-deduction-from-known-told c = c .before .before .before .before
+
+abbrev at-deduction : tie.At-match2-keys2 → tie.After-deduction
+at-deduction c = at-deduction-from-known-told (c .before)
+
+abbrev at-deduction-from-enum-told : tie.After-enum-told → tie.After-deduction
+at-deduction-from-enum-told c = at-deduction-from-known-told (c .before .before)
+
+abbrev at-match2-keys2 : tie.After-hit → tie.At-match2-keys2
+at-match2-keys2 c = c .before .before
+
+abbrev at-hit-from-slots3 : tie.After-slots3 → tie.After-hit
+at-hit-from-slots3 c = c .before .before .before
+
+abbrev at-hit : tie.After-follow-arg3 → tie.After-hit
+at-hit c = at-hit-from-slots3 (c .before .before .before)
+
+abbrev at-hit-from-cut : tie.After-cut → tie.After-hit
+at-hit-from-cut c = at-hit (c .before .before .before .before)
+
+abbrev at-hit-from-slice-known6 : tie.After-slice-known6 → tie.After-hit
+at-hit-from-slice-known6 c = at-hit-from-cut (c .before)
+
+mul-a : tie.Need-mul-a
+mul-a c =
+    let t = c .before .before .before in
+    let a = t .args in
+    let f = slot-fits (a .atoms) (a .rows) _ (a .slots .now) (a .held .now) (a .cut .now) (t .pre .0) (a .position) (t .pre .1) in
+    search needs
+
+add-e : tie.Need-add-e
+add-e c =
+    let t = c .before .before .before in
+    let a = t .args in
+    let f = slot-fits (a .atoms) (a .rows) _ (a .slots .now) (a .held .now) (a .cut .now) (t .pre .0) (a .position) (t .pre .1) in
+    search needs
+
+mul-deduction : tie.Need-mul-deduction
+mul-deduction c =
+    let t = c .before .before .before in
+    let a = t .args in
+    let f = slot-fits (a .atoms) (a .rows) _ (a .slots .now) (a .held .now) (a .cut .now) (t .pre .0) (a .position) (t .pre .1) in
+    search needs
+
+sub-deduction : tie.Need-sub-deduction
+sub-deduction c = search needs
+
+part-deduction-start : tie.Need-part-deduction-start
+part-deduction-start c = search needs
+
+part-deduction-end : tie.Need-part-deduction-end
+part-deduction-end c =
+    let t = c .before .before .before .before in
+    let a = t .args in
+    let f = slot-fits (a .atoms) (a .rows) _ (a .slots .now) (a .held .now) (a .cut .now) (t .pre .0) (a .position) (t .pre .1) in
+    search needs
+
+deduction-requires : tie.Need-deduction-requires
+deduction-requires c κs =
+    let t = at-start-from-deduction-arg3 c in
+    let a = t .args in
+    let s = stored-part (a .atoms) (a .rows) _ (a .slots .now) (a .held .now) (a .cut .now) (t .pre .0) (a .position) (t .pre .1) in
+    record { holds = record { atoms = a .atoms; stored = s }; region = t .pre .0 .region }
+
+enum-known-answer : tie.Need-enum-known-answer
+enum-known-answer c = search needs
+
+same-length : tie.Need-same-length
+same-length c = search needs
+
+same-length-2 : tie.Need-same-length-2
+same-length-2 c = search needs
+
+same-length-3 : tie.Need-same-length-3
+same-length-3 c = search needs
+
+returns : tie.Need-returns
+returns c =
+    let deduction = c .before .before in
+    let t = at-start deduction in
+    let a = t .args in
+    let d = deduction .deduction in (
+      λ h. act-stopped (a .atoms) (a .position) (ledgerOf h (a .rows) (a .slots .now)) (a .held .now) (a .cut .now) (a .work) _
+          (part-row (a .atoms) (a .rows) (a .position) (a .slots .now) (a .held .now) (a .cut .now) (a .work) (t .pre .0 .holds) (t .pre .1)
+          h)
+          (d .result) (d .ensures) (c .match .keys2),
+      t .pre .0,
+    )
+
+enum-told : tie.Need-enum-told
+enum-told c = search needs
+
+same-length-4 : tie.Need-same-length-4
+same-length-4 c = search needs
+
+same-length-5 : tie.Need-same-length-5
+same-length-5 c = search needs
+
+same-length-6 : tie.Need-same-length-6
+same-length-6 c = search needs
+
+returns-2 : tie.Need-returns-2
+returns-2 c =
+    let deduction = at-deduction-from-enum-told c in
+    let t = at-start deduction in
+    let a = t .args in
+    let d = deduction .deduction in
+    let o = c .before .before .before .answer .given in (
+      λ h. act-nothing (a .atoms) (a .position) (ledgerOf h (a .rows) (a .slots .now)) (a .held .now) (a .cut .now) (a .work) _
+          (part-row (a .atoms) (a .rows) (a .position) (a .slots .now) (a .held .now) (a .cut .now) (a .work) (t .pre .0 .holds) (t .pre .1)
+          h)
+          (d .result) (d .ensures) (o .0 .0) (o .1) (c .enum-told .given .1),
+      t .pre .0,
+    )
+
+hit-requires : tie.Need-hit-requires
+hit-requires c κs =
+    let t = at-start (at-deduction (c .before)) in
+    let a = t .args in
+    let f = slot-fits (a .atoms) (a .rows) _ (a .slots .now) (a .held .now) (a .cut .now) (t .pre .0) (a .position) (t .pre .1) in
+    search needs
+
+mul-follow : tie.Need-mul-follow
+mul-follow c =
+    let t = at-start (at-deduction (at-match2-keys2 (c .before .before))) in
+    let a = t .args in
+    let f = slot-fits (a .atoms) (a .rows) _ (a .slots .now) (a .held .now) (a .cut .now) (t .pre .0) (a .position) (t .pre .1) in
+    search needs
+
+sub-follow : tie.Need-sub-follow
+sub-follow c = search needs
+
+part-follow-start : tie.Need-part-follow-start
+part-follow-start c = search needs
+
+part-follow-end : tie.Need-part-follow-end
+part-follow-end c =
+    let t = at-start (at-deduction (at-match2-keys2 (c .before .before .before))) in
+    let a = t .args in
+    let f = slot-fits (a .atoms) (a .rows) _ (a .slots .now) (a .held .now) (a .cut .now) (t .pre .0) (a .position) (t .pre .1) in
+    search needs
+
+follow-requires : tie.Need-follow-requires
+follow-requires c κs =
+    let hit = at-hit c in
+    let t = at-start (at-deduction (at-match2-keys2 hit)) in
+    let a = t .args in
+    let s = hit-stands (a .atoms) (a .rows) _ (a .slots .now) (a .held .now) (a .cut .now) (t .pre .0) (a .position) (t .pre .1) _
+    (hit .hit .ensures) in
+    (stored-part (a .atoms) (a .rows) _ _ (a .held .now) (a .cut .now) s (a .position) (t .pre .1), t .pre .0 .region)
+
+same-length-7 : tie.Need-same-length-7
+same-length-7 c = search needs
+
+same-length-8 : tie.Need-same-length-8
+same-length-8 c = search needs
+
+same-length-9 : tie.Need-same-length-9
+same-length-9 c = search needs
+
+returns-3 : tie.Need-returns-3
+returns-3 c =
+    let hit-place = at-hit-from-slice-known6 c in
+    let match2-keys2 = at-match2-keys2 hit-place in
+    let deduction = at-deduction match2-keys2 in
+    let t = at-start deduction in
+    let a = t .args in
+    let d =
+    deduction .deduction in
+    let o =
+    match2-keys2 .before .before .answer .given in
+    let hit = hit-place .hit in
+    let g = c .before .before .before .before .follow in
+    let s = hit-stands (a .atoms) (a .rows) _ (a .slots .now) (a .held .now) (a .cut .now) (t .pre .0) (a .position) (t .pre .1) _
+    (hit .ensures) in (
+      act-follows (a .atoms) (a .rows) (a .position) (a .slots .now) (a .held .now) (a .cut .now) (a .work) (t .pre .0 .holds) (t .pre .1)
+          (d .result) (d .ensures) (o .0 .0) (o .1)
+          (match2-keys2 .match2 .keys2) _
+          (hit .ensures) (g .result) _ _ (g .ensures .0),
+      decided-stands (a .atoms) (a .rows) _ _ (a .held .now) (a .cut .now) s _ _ (g .ensures .1),
+    )
+
+pub act-spec : {M : Type 1} → statement M
+act-spec =
+    tie.close
+    (tie.spec
+    mul-a
+    add-e
+    mul-deduction
+    sub-deduction
+    part-deduction-start
+    part-deduction-end
+    deduction-requires
+    enum-known-answer
+    same-length
+    same-length-2
+    same-length-3
+    returns
+    enum-told
+    same-length-4
+    same-length-5
+    same-length-6
+    returns-2
+    hit-requires
+    mul-follow
+    sub-follow
+    part-follow-start
+    part-follow-end
+    follow-requires
+    same-length-7
+    same-length-8
+    same-length-9
+    returns-3)

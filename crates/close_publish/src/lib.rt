@@ -1,0 +1,165 @@
+// One row read in a closing: its deduction, its hit, and what is decided by it.
+ghost use mathlib.Core.Path.{_≡_};
+ghost use Prim.Native.Nat.{suc, _<_};
+ghost use lib.Dec.{T};
+ghost use lib.ListN.{length};
+ghost use Rattle.words.specs.Region.{region, isRegion};
+ghost use Rattle.model.specs.declared.Header.{Header};
+ghost use Rattle.model.specs.Records.{Ledger};
+ghost use Rattle.model.specs.Slots.{rowIn};
+ghost use Rattle.model.specs.Deduction.{startCursor};
+ghost use Rattle.model.specs.Closing.{decideOn, publish, act};
+ghost use Rattle.slots.specs.Layout.{Stored, rowsIn};
+ghost use Rattle.close_publish.specs.Turns.{state, turned, ledgerOf, follow};
+ghost use Rattle.close_publish.specs.Standing.{Standing};
+use meter::Meter;
+use model::DeduceAnswer;
+use model::Deduction;
+use model::NextAnswer;
+use model::OutputCursor;
+use model::SLOT_WORDS;
+use row_deduce::deduction;
+use row_deduce::next_publication_output;
+use tier::hit;
+use words::decide_literal;
+
+// How far a closing came: it goes on, a decision was false, or a tick was not made.
+pub enum Flow {
+    Continues,
+    Conflict,
+    Stopped,
+}
+
+// How a closing goes on, with the meter as it stands.
+pub struct Ended {
+    pub flow: Flow,
+    pub meter: Meter,
+}
+
+// Decides a literal. Conflict, and nothing changed, if it is out of range or its opposite is marked.
+fn decide_on(atoms: u64, held: &mut [u64], cut: &mut [u64], literal: u64, work: Meter) -> Ended
+    requires { ⌜ T (isRegion atoms (region (now held) (now cut))) ⌝ }
+    ensures turn { λ r. ⌜ ((l : Ledger) → turned r l (now (held .exit)) (now (cut .exit))
+        ≡ decideOn atoms literal (state l (now (held .entry)) (now (cut .entry)) work)) ⌝ }
+    ensures whole { λ _. ⌜ T (isRegion atoms (region (now (held .exit)) (now (cut .exit)))) ⌝ }
+{
+    if decide_literal(atoms, held, cut, literal) {
+        Ended {
+            flow: Flow::Continues,
+            meter: work,
+        }
+    } else {
+        Ended {
+            flow: Flow::Conflict,
+            meter: work,
+        }
+    }
+}
+
+// Decides each output that a row publishes. Conflict at the first false decision, Stopped at the first tick that was not made; what was
+// decided before stays.
+fn publish(slot: &[u64], atoms: u64, held: &mut [u64], cut: &mut [u64], work: Meter) -> Ended
+    requires { ⌜ Stored atoms (now slot) ⌝ ∗ ⌜ T (isRegion atoms (region (now held) (now cut))) ⌝ }
+    ensures turn { λ r. ⌜ ((l : Ledger) → turned r l (now (held .exit)) (now (cut .exit))
+        ≡ publish (suc (length (rowIn (now (slot .entry)) .outputs))) atoms (rowIn (now (slot .entry))) startCursor
+        (state l (now (held .entry)) (now (cut .entry)) work)) ⌝ }
+    ensures whole { λ _. ⌜ T (isRegion atoms (region (now (held .exit)) (now (cut .exit)))) ⌝ }
+{
+    let mut meter = work;
+    let mut cursor = OutputCursor {
+        next: 0,
+        word: 0,
+        present: 0,
+        absent: 0,
+    };
+    loop {
+        let found = next_publication_output(slot, cursor, held, cut, meter);
+        cursor = found.cursor;
+        meter = found.meter;
+        let answer = found.answer;
+        match answer {
+            NextAnswer::Output(literal) => {
+                if !decide_literal(atoms, held, cut, literal.0 as u64) {
+                    return Ended {
+                        flow: Flow::Conflict,
+                        meter: meter,
+                    };
+                }
+            }
+            NextAnswer::End => {
+                return Ended {
+                    flow: Flow::Continues,
+                    meter: meter,
+                };
+            }
+            _ => {
+                return Ended {
+                    flow: Flow::Stopped,
+                    meter: meter,
+                };
+            }
+        }
+    }
+}
+
+// Decides what a deduction says: the literal required, or each output published.
+fn follow(
+    slot: &[u64],
+    atoms: u64,
+    said: Deduction,
+    held: &mut [u64],
+    cut: &mut [u64],
+    work: Meter,
+) -> Ended
+    requires { ⌜ Stored atoms (now slot) ⌝ ∗ ⌜ T (isRegion atoms (region (now held) (now cut))) ⌝ }
+    ensures turn { λ r. ⌜ ((l : Ledger) → turned r l (now (held .exit)) (now (cut .exit))
+        ≡ follow atoms (rowIn (now (slot .entry))) said (state l (now (held .entry)) (now (cut .entry)) work)) ⌝ }
+    ensures whole { λ _. ⌜ T (isRegion atoms (region (now (held .exit)) (now (cut .exit)))) ⌝ }
+{
+    match said {
+        Deduction::Nothing => Ended {
+            flow: Flow::Continues,
+            meter: work,
+        },
+        Deduction::Force => publish(slot, atoms, held, cut, work),
+        Deduction::Require(literal) => decide_on(atoms, held, cut, literal.0 as u64, work),
+    }
+}
+
+// Reads the row at a position. Going, and nothing changed, if nothing follows; else one hit is counted before anything is decided, and what
+// the row says is decided. Stopped, and nothing changed, if the deduction's ticks were not all made.
+pub fn act(
+    atoms: u64,
+    rows: u64,
+    slots: &mut [u64],
+    position: usize,
+    held: &mut [u64],
+    cut: &mut [u64],
+    work: Meter,
+) -> Ended
+    requires { ⌜ Standing atoms rows (rowsIn rows (now slots)) (now slots) (now held) (now cut) ⌝ ∗ ⌜ position < rows ⌝ }
+    ensures turn { λ r. ⌜ ((h : Header) → turned r (ledgerOf h rows (now (slots .exit))) (now (held .exit)) (now (cut .exit))
+        ≡ act atoms position (state (ledgerOf h rows (now (slots .entry))) (now (held .entry)) (now (cut .entry)) work)) ⌝ }
+    ensures stands { λ _. ⌜ Standing atoms rows (rowsIn rows (now (slots .entry))) (now (slots .exit)) (now (held .exit))
+        (now (cut .exit)) ⌝ }
+{
+    let a = SLOT_WORDS * position;
+    let e = a + SLOT_WORDS;
+    let found = deduction(&slots[a..e], held, cut, work);
+    let answer = found.answer;
+    let meter = found.meter;
+    let DeduceAnswer::Deduced(said) = answer else {
+        return Ended {
+            flow: Flow::Stopped,
+            meter: meter,
+        };
+    };
+    if let Deduction::Nothing = said {
+        return Ended {
+            flow: Flow::Continues,
+            meter: meter,
+        };
+    }
+    hit(slots, position);
+    follow(&slots[a..e], atoms, said, held, cut, meter)
+}

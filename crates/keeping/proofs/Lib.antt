@@ -1,9 +1,0 @@
-pub mod Holding
-pub mod Joining
-pub mod Placing
-pub mod Retaining
-pub mod Lending
-pub mod Recounting
-pub mod Changing
-pub mod Standing
-pub mod Headers

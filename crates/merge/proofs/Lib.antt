@@ -1,4 +1,0 @@
-pub mod Union
-pub mod Asking
-pub mod Growing
-pub mod Joining

@@ -1,0 +1,9 @@
+pub mod Codes
+pub mod Groups
+pub mod Walks
+pub mod Turns
+pub mod Packed
+pub mod Scalar
+pub mod Stored
+pub mod Publishing
+pub mod Cursors

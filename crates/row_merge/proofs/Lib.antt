@@ -1,0 +1,3 @@
+pub mod Union
+pub mod Asking
+pub mod Growing

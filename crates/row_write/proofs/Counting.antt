@@ -1,0 +1,79 @@
+-- The words that are new after each code are the groups of the codes. Assumes nothing.
+use mathlib.Core.Path.{_≡_, refl, sym, ap, _∙_}
+use mathlib.Core.Bool.{Bool, true, false}
+use mathlib.Core.List.{List, [], _∷_}
+use Prim.Native.Nat.{ℕ, suc, _+_, _*_, _/_, _≤_, _<_}
+use native.Mathlib.Omega.{arith}
+use lib.Dec.{eqb, ltb}
+use lib.ListN.{length, getD, drop, drop-of-length-le}
+use borrow.Author.Tests.{eq-eqb, ne-eqb, eqb-true, eqb-false, ltb-true}
+use Rattle.lists.specs.Lists.{all, below}
+use Rattle.lists.proofs.Bools.{and-both}
+use Rattle.lists.proofs.Concats.{drop-next}
+use Rattle.words.specs.Literal.{atom, wordOf}
+use Rattle.words.specs.Region.{maxAtoms, maxWords}
+use Rattle.model.specs.Rows.{enter, groups}
+use Rattle.model.proofs.Packing.{groups-head}
+use Rattle.row_write.specs.Counts.{newWords}
+
+new-same : (x c : ℕ) (cs : List ℕ) → wordOf (atom c) ≡ x → newWords x (c ∷ cs) ≡ newWords x cs
+unfolding newWords
+new-same x c cs e =
+    ap (λ (b : Bool). elim b as (λ k. ℕ) [ true ↦ newWords x cs | false ↦ suc (newWords (wordOf (atom c)) cs) ])
+    (eq-eqb (wordOf (atom c)) x e)
+
+new-other : (x c : ℕ) (cs : List ℕ) → (wordOf (atom c) ≡ x → ⊥) → newWords x (c ∷ cs) ≡ suc (newWords (wordOf (atom c)) cs)
+unfolding newWords
+new-other x c cs f =
+    ap (λ (b : Bool). elim b as (λ k. ℕ) [ true ↦ newWords x cs | false ↦ suc (newWords (wordOf (atom c)) cs) ])
+    (ne-eqb (wordOf (atom c)) x f)
+
+-- after the first code
+new-groups : (c : ℕ) (cs : List ℕ) → suc (newWords (wordOf (atom c)) cs) ≡ length (groups (c ∷ cs))
+unfolding newWords groups enter
+new-groups c [] = refl
+new-groups c (d ∷ ds) =
+    let h = groups-head d ds in
+    go (eqb (wordOf (atom d)) (wordOf (atom c))) refl (h .0) (h .1) (new-groups d ds ∙ ap length (h .2))
+    ∙ sym (ap (λ (gs : List (List ℕ)). length (enter c gs)) (h .2))
+  where
+    joined : Bool → List ℕ → List (List ℕ) → ℕ
+    joined b es gs = length {A = List ℕ} (elim b as (λ k. List (List ℕ)) [ true ↦ (c ∷ d ∷ es) ∷ gs | false ↦ (c ∷ []) ∷ (d ∷ es) ∷ gs ])
+
+    go : (b : Bool) → eqb (wordOf (atom d)) (wordOf (atom c)) ≡ b → (es : List ℕ) (gs : List (List ℕ)) →
+        suc (newWords (wordOf (atom d)) ds) ≡ suc (length gs) →
+        suc (newWords (wordOf (atom c)) (d ∷ ds)) ≡ joined (eqb (wordOf (atom c)) (wordOf (atom d))) es gs
+    go true q es gs e =
+        let s : wordOf (atom d) ≡ wordOf (atom c) = eqb-true (wordOf (atom d)) (wordOf (atom c)) q in
+        ap suc (new-same (wordOf (atom c)) d ds s) ∙ ap (λ (x : ℕ). suc (newWords x ds)) (sym s) ∙ e
+        ∙ sym (ap (λ (b : Bool). joined b es gs) (eq-eqb (wordOf (atom c)) (wordOf (atom d)) (sym s)))
+    go false q es gs e =
+        let f : (wordOf (atom d) ≡ wordOf (atom c) → ⊥) = eqb-false (wordOf (atom d)) (wordOf (atom c)) q in
+        ap suc (new-other (wordOf (atom c)) d ds f ∙ e)
+        ∙ sym (ap (λ (b : Bool). joined b es gs) (ne-eqb (wordOf (atom c)) (wordOf (atom d)) (λ s. f (sym s))))
+
+-- before it: no code is of the word past the last
+not-past : (c : ℕ) → c < 2 * maxAtoms → wordOf (atom c) ≡ maxWords → ⊥
+unfolding wordOf atom
+not-past c l e = omega arith
+
+pub count-start : (cs : List ℕ) → below (2 * maxAtoms) cs ≡ true → newWords maxWords cs ≡ length (groups cs)
+unfolding newWords groups below all
+count-start [] h = refl
+count-start (c ∷ cs) h =
+    let l = ltb-true c (2 * maxAtoms) (and-both (ltb c (2 * maxAtoms)) _ h .0) in
+    new-other maxWords c cs (not-past c l) ∙ new-groups c cs
+
+-- a turn of the loop
+module _ (cs : List ℕ) (i x : ℕ) (l : i < length cs) where
+  pub count-same : getD cs i 0 / 2 / 64 ≡ x → newWords x (drop i cs) ≡ newWords x (drop (i + 1) cs)
+  unfolding wordOf atom
+  count-same e = ap (newWords x) (drop-next cs i l) ∙ new-same x (getD cs i 0) (drop (i + 1) cs) e
+
+  pub count-new : (getD cs i 0 / 2 / 64 ≡ x → ⊥) → newWords x (drop i cs) ≡ suc (newWords (getD cs i 0 / 2 / 64) (drop (i + 1) cs))
+  unfolding wordOf atom
+  count-new f = ap (newWords x) (drop-next cs i l) ∙ new-other x (getD cs i 0) (drop (i + 1) cs) f
+
+pub count-end : (cs : List ℕ) (i x : ℕ) → length cs ≤ i → newWords x (drop i cs) ≡ 0
+unfolding newWords
+count-end cs i x l = ap (newWords x) (drop-of-length-le cs l)

@@ -1,0 +1,3 @@
+pub mod Counts
+pub mod Forms
+pub mod Packs

@@ -1,4 +1,0 @@
-pub mod Compare
-pub mod Charges
-pub mod Including
-pub mod Subsuming

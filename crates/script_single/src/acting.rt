@@ -1,0 +1,234 @@
+// The calls on one ledger that have numbers and then two lists, or none:
+// - `begin I`, `hit I P`: `hit I Done charge=0 HEAD`
+// - `offer I M CONDS OUTS`: `offer I ANSWER charge=N HEAD`, ANSWER one of `Shut`, `Stopped`, `Declined`, `Subsumed P`, `Added P`
+// - `rule I M ITEMS -> ITEMS`: an offer by items, in any order, each counted once;
+// `Subsumed P` and `Added P` are followed by the row at P as it is then
+// - `deduce I M P HELD CUT`: `deduce I ANSWER charge=N HEAD`, ANSWER one of `Nothing`, `Force`, `Stopped`, `Require CODE`
+// - `close I M HELD CUT`: `close I ANSWER charge=N held=LIST cut=LIST HEAD`, ANSWER one of `Closed`, `Conflict`, `Stopped`
+// - `plan I M ITEMS`: a closing by items, and an atom stands in the lists by its name where it has one
+ghost use Prim.Native.Nat.{_≤_};
+use boundary::ledger_begin;
+use boundary::ledger_close;
+use boundary::ledger_deduce;
+use boundary::ledger_hit;
+use boundary::ledger_offer;
+use script_answers::put_call;
+use script_answers::put_case;
+use script_answers::put_charge;
+use script_answers::put_head;
+use script_answers::put_refused;
+use script_answers::put_row;
+use script_notation::arguments::read_lists;
+use script_notation::calls::Asked;
+use script_notation::calls::Call;
+use script_notation::calls::Said;
+use script_notation::memory;
+use script_notation::regions::put_region;
+use text::kept;
+use text::put_text;
+use wire::ANSWER_WORDS;
+use wire::HEADER_WORDS;
+use wire::METER_WORDS;
+
+// How many numbers stand before the lists.
+fn number_count(call: Call) -> usize
+    ensures { λ r. ⌜ r ≤ 2 ⌝ }
+{
+    match call {
+        Call::Begin => 0,
+        Call::Deduce => 2,
+        _ => 1,
+    }
+}
+
+// The closing, with scratch as long as the header's limits ask for.
+fn close(
+    head: &mut [u64; HEADER_WORDS],
+    answer: &mut [u64; ANSWER_WORDS],
+    meter: &mut [u64; METER_WORDS],
+    slots: &mut [u64],
+    postings: &mut [u64],
+    held: &mut [u64],
+    cut: &mut [u64],
+) -> u64 {
+    let mut rows = memory::rows();
+    let mut atoms = memory::decided();
+    let n = kept(&rows, head[1] as usize);
+    let m = kept(&atoms, head[0] as usize);
+    let rows = &mut rows[0..n];
+    let atoms = &mut atoms[0..m];
+    ledger_close(head, answer, meter, slots, postings, held, cut, rows, atoms)
+}
+
+// The call itself; `given` are its numbers. Its refusal, or 0.
+fn operate(
+    call: Call,
+    given: &[u64; 2],
+    head: &mut [u64; HEADER_WORDS],
+    answer: &mut [u64; ANSWER_WORDS],
+    slots: &mut [u64],
+    postings: &mut [u64],
+    first: &mut [u64],
+    second: &mut [u64],
+) -> u64 {
+    let mut meter = [0u64; METER_WORDS];
+    meter[1] = given[0];
+    match call {
+        Call::Begin => ledger_begin(head, answer, slots, postings),
+        Call::Hit => ledger_hit(head, answer, slots, postings, given[0]),
+        Call::Offer | Call::Rule => {
+            ledger_offer(head, answer, &mut meter, slots, postings, first, second)
+        }
+        Call::Deduce => ledger_deduce(
+            head,
+            answer,
+            &mut meter,
+            slots,
+            postings,
+            given[1],
+            first,
+            second,
+        ),
+        _ => close(head, answer, &mut meter, slots, postings, first, second),
+    }
+}
+
+// The answer's words.
+fn put_word(out: &mut [u8], to: usize, call: Call, answer: &[u64; ANSWER_WORDS]) -> usize {
+    match call {
+        Call::Offer | Call::Rule => put_case(
+            out,
+            to,
+            b"- Shut Stopped Declined Subsumed: Added:",
+            answer,
+        ),
+        Call::Deduce => put_case(out, to, b"Nothing Force Stopped Require:", answer),
+        Call::Close | Call::Plan => put_case(out, to, b"Closed Conflict Stopped", answer),
+        _ => put_text(out, to, b" Done"),
+    }
+}
+
+// After the answer of `rule` the row at its position, where it has one: Subsumed is 4 and Added 5.
+fn put_joined(
+    out: &mut [u8],
+    to: usize,
+    call: Call,
+    answer: &[u64; ANSWER_WORDS],
+    slots: &[u64],
+    points: &[u64],
+) -> usize {
+    match call {
+        Call::Rule => {
+            if answer[0] < 4 {
+                return to;
+            }
+            put_row(out, to, points, slots, answer[1])
+        }
+        _ => to,
+    }
+}
+
+// After the charge of `close` and `plan` the region.
+fn put_closed(
+    out: &mut [u8],
+    to: usize,
+    call: Call,
+    atoms: u64,
+    held: &[u64],
+    cut: &[u64],
+    points: &[u64],
+) -> usize {
+    match call {
+        Call::Close => put_region(out, to, atoms, held, cut, &points[0..0]),
+        Call::Plan => put_region(out, to, atoms, held, cut, points),
+        _ => to,
+    }
+}
+
+// The line after the ledger's number.
+fn put_answer(
+    out: &mut [u8],
+    to: usize,
+    call: Call,
+    answer: &[u64; ANSWER_WORDS],
+    head: &[u64; HEADER_WORDS],
+    slots: &[u64],
+    first: &[u64],
+    second: &[u64],
+    points: &[u64],
+) -> usize {
+    let to = put_word(out, to, call, answer);
+    let to = put_joined(out, to, call, answer, slots, points);
+    let to = put_charge(out, to, answer[2]);
+    let to = put_closed(out, to, call, head[0], first, second, points);
+    put_head(out, to, head)
+}
+
+// The line; `refusal` is 0 for none.
+fn put_line(
+    q: Asked,
+    s: &[u8],
+    refusal: u64,
+    answer: &[u64; ANSWER_WORDS],
+    head: &[u64; HEADER_WORDS],
+    slots: &[u64],
+    first: &[u64],
+    second: &[u64],
+    points: &[u64],
+    out: &mut [u8],
+) -> Said {
+    let to = put_call(out, q.to, s, q.index);
+    if refusal != 0 {
+        return Said::Line(put_refused(out, to, refusal));
+    }
+    let call = q.call;
+    Said::Line(put_answer(out, to, call, answer, head, slots, first, second, points))
+}
+
+pub fn act(
+    q: Asked,
+    s: &[u8],
+    head: &mut [u64; HEADER_WORDS],
+    slots: &mut [u64],
+    postings: &mut [u64],
+    points: &[u64],
+    out: &mut [u8],
+) -> Said {
+    let mut given = [0u64; 2];
+    let mut first = memory::list();
+    let mut second = memory::list();
+    let mut answer = [0u64; ANSWER_WORDS];
+    let call = q.call;
+    let n = number_count(call);
+    let g = text::numbers(s, q.at, &mut given[0..n]);
+    let l = read_lists(call, s, g.at, points, head[0], &mut first, &mut second);
+    if !g.ok || !l.ok {
+        return Said::Error;
+    }
+    let a = l.first;
+    let b = l.second;
+    let first = &mut first[0..a];
+    let second = &mut second[0..b];
+    let refusal = operate(
+        call,
+        &given,
+        head,
+        &mut answer,
+        slots,
+        postings,
+        first,
+        second,
+    );
+    put_line(
+        q,
+        s,
+        refusal,
+        &answer,
+        head,
+        slots,
+        first,
+        second,
+        points,
+        out,
+    )
+}

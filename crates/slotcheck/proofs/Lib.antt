@@ -1,6 +1,0 @@
-pub mod Order
-pub mod Codes
-pub mod Groups
-pub mod Slot
-pub mod Loops
-pub mod Ways

@@ -1,1 +1,0 @@
-// No code: cards of the definitions, with ends that the Rust gave.

@@ -1,4 +1,0 @@
-pub mod Forms
-pub mod Laying
-pub mod Packing
-pub mod Proposal

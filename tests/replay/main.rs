@@ -1,0 +1,52 @@
+//! Writes what crates/replay replays: calls on raw words, and their ends as the oracle gives them.
+//!
+//!     replay stdin|stdout|counts
+//!
+//! Nothing here is taken from the verified code. Ledgers and answers are the oracle's, laid out as words by tests/layout.rs. What the
+//! oracle cannot tell is said where it is worked out: ledgers of few rows that are not stale (`given`).
+
+#[path = "../differential/ledger/call.rs"]
+#[allow(dead_code)]
+mod call;
+#[path = "../differential/ledger/end.rs"]
+#[allow(dead_code)]
+mod end;
+#[path = "../differential/ledger/generate.rs"]
+#[allow(dead_code)]
+mod generate;
+mod given;
+#[path = "../layout.rs"]
+#[allow(dead_code)]
+mod layout;
+mod lines;
+#[path = "../differential/ledger/parts.rs"]
+mod parts;
+#[path = "../random.rs"]
+#[allow(dead_code)]
+mod random;
+#[path = "../differential/ledger/rust.rs"]
+#[allow(dead_code)]
+mod rust;
+mod saturation;
+mod scripts;
+mod searches;
+mod sweeps;
+
+use lines::Lines;
+
+fn main() {
+    let mut lines = Lines::default();
+    sweeps::write(&mut lines);
+    searches::write(&mut lines);
+    saturation::write(&mut lines);
+    scripts::write(&mut lines);
+    match std::env::args().nth(1).as_deref() {
+        Some("stdin") => print!("{}", lines.calls),
+        Some("stdout") => print!("{}", lines.ends),
+        _ => {
+            for (answer, count) in &lines.counts {
+                println!("    {answer:<24}{count:6}");
+            }
+        }
+    }
+}

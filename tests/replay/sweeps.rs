@@ -1,0 +1,321 @@
+//! Calls at every value of their account and every limit of their meter, and offers whose whole end tells what a porter would miss.
+
+use oracle::{Header, Record};
+
+use crate::call::{Call, Meter, Region};
+use crate::given::{AMPLE, ENDLESS, Given, PAST, entry, header, left, limits};
+use crate::lines::{Books, Lines};
+
+/// A row's conditions and outputs.
+pub type Codes<'a> = (&'a [u64], &'a [u64]);
+
+/// A ledger alone.
+pub fn alone(given: &Given) -> Books {
+    Books {
+        tier: Some(given.book()),
+        store: None,
+    }
+}
+
+/// A tier and a store.
+pub fn pair(tier: &Given, store: &Given) -> Books {
+    Books {
+        tier: Some(tier.book()),
+        store: Some(store.book()),
+    }
+}
+
+pub fn offer(row: Codes<'_>, meter: Meter) -> Call {
+    Call::Offer {
+        place: 0,
+        meter,
+        conditions: row.0.to_vec(),
+        outputs: row.1.to_vec(),
+    }
+}
+
+pub fn seed(meter: Meter) -> Call {
+    Call::Seed {
+        tier: 0,
+        store: 1,
+        meter,
+    }
+}
+
+pub fn deliver(meter: Meter) -> Call {
+    Call::Deliver {
+        tier: 0,
+        store: 1,
+        meter,
+    }
+}
+
+/// A call at every limit, up to one past its charge, and with a meter past its limit.
+fn meters(lines: &mut Lines, about: &str, books: &Books, call: impl Fn(Meter) -> Call) {
+    let ample = call(ENDLESS);
+    let charge = lines
+        .call(&format!("{about}:ample"), &ample, &mut books.clone())
+        .charge;
+    for ticks in 0..=charge + 1 {
+        let about = format!("{about}:left={ticks}");
+        lines.call(&about, &call(left(ticks)), &mut books.clone());
+    }
+    for meter in [
+        PAST,
+        Meter {
+            charged: u64::MAX,
+            limit: 0,
+        },
+    ] {
+        let about = format!("{about}:past={}", meter.charged);
+        lines.call(&about, &call(meter), &mut books.clone());
+    }
+}
+
+/// What a call's account has left: of an offer the capture account, else the sharing account of the tier.
+fn account(call: &Call, books: &Books) -> u64 {
+    let header = books.tier.as_ref().expect("a tier").ledger.header();
+    match call {
+        Call::Offer { .. } => header.remaining,
+        _ => header.sharing,
+    }
+}
+
+/// The same, and with every account up to one past the charge, and with every account and limit that are used up both.
+fn sweep(
+    lines: &mut Lines,
+    about: &str,
+    books: impl Fn(u64) -> Books,
+    call: impl Fn(Meter) -> Call,
+) {
+    meters(lines, about, &books(AMPLE), &call);
+    let charge = Lines::dry(&call(ENDLESS), &mut books(AMPLE)).charge;
+    for value in 0..=charge + 1 {
+        let about = format!("{about}:account={value}");
+        let last = lines.call(&about, &call(ENDLESS), &mut books(value)).charge;
+        for limit in 0..=last {
+            let call = call(Meter::fresh(limit));
+            let mut tried = books(value);
+            let ticks = Lines::dry(&call, &mut tried).charge;
+            if ticks == limit && account(&call, &tried) == 0 {
+                lines.call(&format!("{about},left={limit}"), &call, &mut books(value));
+            }
+        }
+    }
+}
+
+/// An offer that joins the second row and replaces the third; the first stays. Its addition halves all hits.
+fn offers(lines: &mut Lines) {
+    let given = Given {
+        limits: limits(130, 3, 8, 0),
+        header: Header {
+            epoch: 2,
+            mark: Some((2, 5)),
+            ..header(7, 9)
+        },
+        rows: vec![
+            entry(&[5], &[142, 144], (4, 1, 2, true)),
+            entry(&[1], &[140, 142], (7, 2, 5, false)),
+            entry(&[1, 3], &[140, 144], (1, 0, 9, true)),
+        ],
+    };
+    let books = |account| alone(&given.with(|header| header.remaining = account));
+    sweep(lines, "joins", books, |meter| {
+        offer((&[1], &[142, 144]), meter)
+    });
+}
+
+/// A seeding: the first row is passed over by the mark, the second subsumed, the third joins the tier's row. The union is
+/// within the tier's outputs, and past the store's.
+fn seedings(lines: &mut Lines) {
+    let tier = Given {
+        limits: limits(130, 2, 3, 0),
+        header: Header {
+            epoch: 1,
+            mark: Some((9, 1)),
+            ..header(4, 3)
+        },
+        rows: vec![entry(&[1], &[140, 142], (5, 1, 2, false))],
+    };
+    let store = Given {
+        limits: limits(130, 3, 1, 0),
+        header: Header {
+            mark: Some((4, 2)),
+            ..header(9, 6)
+        },
+        rows: vec![
+            entry(&[9], &[150], (1, 0, 1, false)),
+            entry(&[1, 3], &[140], (2, 1, 3, true)),
+            entry(&[1], &[144], (7, 2, 6, false)),
+        ],
+    };
+    let books = |account| pair(&tier.with(|header| header.sharing = account), &store);
+    sweep(lines, "three", books, seed);
+}
+
+/// A delivery: the first row is subsumed, the second passed over, the third joins a row of the store, the fourth evicts.
+/// The union is within the tier's outputs, and past the store's.
+fn deliveries(lines: &mut Lines) {
+    let tier = Given {
+        limits: limits(130, 4, 3, 0),
+        header: Header {
+            epoch: 3,
+            mark: Some((8, 1)),
+            ..header(4, 7)
+        },
+        rows: vec![
+            entry(&[7], &[150], (3, 3, 1, false)),
+            entry(&[1, 3], &[140], (1, 1, 3, false)),
+            entry(&[11], &[158], (6, 5, 4, true)),
+            entry(&[13], &[20], (2, 0, 7, false)),
+        ],
+    };
+    let store = Given {
+        limits: limits(130, 2, 2, 1),
+        header: Header {
+            mark: Some((4, 2)),
+            ..header(8, 5)
+        },
+        rows: vec![
+            entry(&[7], &[148, 150], (1, 2, 4, false)),
+            entry(&[11], &[154, 156], (9, 0, 5, true)),
+        ],
+    };
+    let books = |account| pair(&tier.with(|header| header.sharing = account), &store);
+    sweep(lines, "four", books, deliver);
+}
+
+/// A scalar row and a packed one, with an atom on both sides, and postings.
+fn posted() -> Given {
+    Given {
+        limits: limits(130, 3, 8, 0),
+        header: header(7, 9),
+        rows: vec![
+            entry(&[7], &[140], (4, 1, 2, true)),
+            entry(&[1, 3], &[3, 132, 134], (0, 0, 9, false)),
+        ],
+    }
+}
+
+/// Closings, deductions and outputs of a ledger of few rows with its postings: forced, required, a conflict.
+fn looks(lines: &mut Lines) {
+    let books = alone(&posted());
+    let regions: [(&str, &[u64], &[u64]); 4] = [
+        ("forced", &[0, 1, 3], &[]),
+        ("required", &[1, 66, 70], &[]),
+        ("clashing", &[0, 1, 3, 67], &[5]),
+        ("empty", &[], &[]),
+    ];
+    for (about, held, cut) in regions {
+        let region = Region {
+            held: held.to_vec(),
+            cut: cut.to_vec(),
+        };
+        meters(lines, about, &books, |meter| Call::Close {
+            place: 0,
+            meter,
+            region: region.clone(),
+        });
+        for position in 0..2 {
+            let about = format!("{about}:{position}");
+            meters(lines, &about, &books, |meter| Call::Deduce {
+                place: 0,
+                meter,
+                position,
+                region: region.clone(),
+            });
+            meters(lines, &about, &books, |meter| Call::Next {
+                place: 0,
+                meter,
+                position,
+                cursor: [0; 4],
+                region: region.clone(),
+            });
+        }
+    }
+    lines.call("posted", &Call::Begin { place: 0 }, &mut books.clone());
+    meters(lines, "posted", &books, |meter| Call::Candidates {
+        place: 0,
+        meter,
+        atoms: vec![3, 3, 500],
+    });
+}
+
+/// The errors that a porter would make, and the choice of a victim.
+fn porter(lines: &mut Lines) {
+    let given = Given {
+        limits: limits(128, 3, 64, 0),
+        header: Header {
+            epoch: 2,
+            ..header(7, 5)
+        },
+        rows: vec![
+            entry(&[1], &[140], (4, 1, 2, true)),
+            entry(&[], &[142], (3, 2, 5, false)),
+        ],
+    };
+    let mut full = Given {
+        limits: limits(128, 2, 64, 0),
+        ..given.with(|header| header.epoch = 0)
+    };
+    let mut offered = |about: &str, given: &Given, row: Codes<'_>| {
+        lines.call(about, &offer(row, ENDLESS), &mut alone(given));
+    };
+    // The second row subsumes the proposal, but not what it has grown to.
+    offered("grown", &given, (&[1], &[142]));
+    // A row that is subsumed halves no hits, one that is added halves all.
+    offered("unhalved", &given, (&[1, 3], &[140]));
+    offered("halved", &given, (&[9], &[150]));
+    for (row, born) in [(0, 5), (1, 2)] {
+        full.rows[row].record = Record {
+            hits: 3,
+            born,
+            ..full.rows[row].record
+        };
+    }
+    // Of equal hits the least born is evicted, of equal borns the first.
+    offered("elder", &full, (&[9], &[150]));
+    full.rows[1].record.born = 5;
+    offered("first", &full, (&[9], &[150]));
+    // A floor that protects both.
+    full.limits.founded_floor = 2;
+    offered("protected", &full, (&[9], &[150]));
+}
+
+/// Transfers to a ledger whose rows are all protected.
+fn floors(lines: &mut Lines) {
+    let held = Given {
+        limits: limits(128, 2, 64, 2),
+        header: header(4, 5),
+        rows: vec![
+            entry(&[1], &[140], (4, 1, 2, true)),
+            entry(&[], &[142], (3, 2, 5, false)),
+        ],
+    };
+    let mut other = Given {
+        limits: limits(128, 2, 64, 0),
+        header: header(9, 6),
+        rows: vec![
+            entry(&[3], &[142], (1, 1, 3, false)),
+            entry(&[9], &[150], (6, 2, 6, false)),
+        ],
+    };
+    // A row is subsumed, one declined by the floor.
+    lines.call("floor", &seed(ENDLESS), &mut pair(&held, &other));
+    other.rows[0].record = Record {
+        unshared: 0,
+        delivered: true,
+        ..other.rows[0].record
+    };
+    // A row was delivered before, one is declined by the floor.
+    lines.call("floor", &deliver(ENDLESS), &mut pair(&other, &held));
+}
+
+pub fn write(lines: &mut Lines) {
+    offers(lines);
+    seedings(lines);
+    deliveries(lines);
+    looks(lines);
+    porter(lines);
+    floors(lines);
+}
