@@ -10,8 +10,8 @@
  *   1  limits outside their ranges: atoms 1 to 32,768, tier_rows 1 to 4,096, founded_conditions 0 to 16, founded_outputs 0 to 64
  *   2  a slice of another length: slots 168 * tier_rows words, postings 80 * tier_rows words, and the buffers that a call asks for
  *   3  header, slots and postings that are no ledger's
- *   4  conditions and outputs that are no row: more than founded_conditions or founded_outputs of them, a code at 2 * atoms or above, outputs that
- *      do not ascend, or conditions whose atoms do not ascend
+ *   4  conditions and outputs that are no row: more than founded_conditions or founded_outputs of them, a code at 2 * atoms or above,
+ *      outputs that do not ascend, or conditions whose atoms do not ascend
  *   5  no row at the position
  *   6  held and cut are no region: each is (atoms + 63) / 64 words, with no common bit and no bit at `atoms` or above
  *   7  a tier and a store over different numbers of atoms
@@ -30,7 +30,7 @@
 extern "C" {
 #endif
 
-/* ---- The header, `head`: the limits, the counts, two flags (0 or 1; any word but 0 is read as 1), the seed mark. */
+/* ---- The header, `head`: the limits, the counts, two flags (any word but 0 is read as 1, and comes back as 1), the seed mark. */
 enum {
     LEDGER_ATOMS = 0,
     LEDGER_TIER_ROWS = 1,
@@ -55,7 +55,7 @@ enum {
     LEDGER_SEEDED = 19,
     LEDGER_STALE = 20,
     LEDGER_FULL = 21,
-    LEDGER_MARKED = 22,      /* 0: no mark, and the next two words are 0 */
+    LEDGER_MARKED = 22,      /* 0: no mark, the next two words are ignored and come back as 0; any other: a mark, and it comes back as 1 */
     LEDGER_MARK_NUMBER = 23, /* the store's number */
     LEDGER_MARK_BORN = 24,
     LEDGER_HEAD_WORDS = 25
@@ -98,8 +98,8 @@ uint64_t ledger_begin(uint64_t head[LEDGER_HEAD_WORDS], uint64_t answer[LEDGER_A
 
 /*
  * Hit. Lent: a ledger, a position.
- * Back: the row there has one hit more, and one more that is not shared yet, both at most 2^64 - 1; `head` is written, its numbers as they were;
- * `answer` is 0, 0, 0.
+ * Back: the row there has one hit more, and one more that is not shared yet, both at most 2^64 - 1; `head` is written, its numbers as they
+ * were; `answer` is 0, 0, 0.
  * Refused: 1, 2, 3, 5.
  */
 uint64_t ledger_hit(uint64_t head[LEDGER_HEAD_WORDS], uint64_t answer[LEDGER_ANSWER_WORDS],
@@ -117,7 +117,8 @@ uint64_t ledger_deduce(const uint64_t head[LEDGER_HEAD_WORDS], uint64_t answer[L
 
 /*
  * Next output. Lent: as Deduce, and a cursor: four zeros at first, then as the last call left it.
- * Back: `answer` is 0 End; 1 Output, with the output's code as its value; 2 Stopped. `cursor` stands past it, `meter` has the ticks charged.
+ * Back: `answer` is 0 End; 1 Output, with the output's code as its value; 2 Stopped. `cursor` stands past it, `meter` has the ticks
+ * charged.
  * Refused: 1, 2, 3, 5, 6, 8.
  */
 uint64_t ledger_next_output(const uint64_t head[LEDGER_HEAD_WORDS], uint64_t answer[LEDGER_ANSWER_WORDS],
@@ -127,8 +128,8 @@ uint64_t ledger_next_output(const uint64_t head[LEDGER_HEAD_WORDS], uint64_t ans
 
 /*
  * Decide. Lent: a region over `atoms` atoms; an atom, to be cut if `value` is 0 and else held.
- * Back: `answer` is 1, and the atom is marked (it may have been so already); or 0, and nothing is changed: the atom is not below `atoms`, or the
- * opposite is marked.
+ * Back: `answer` is 1, and the atom is marked (it may have been so already); or 0, and nothing is changed: the atom is not below `atoms`,
+ * or the opposite is marked.
  * Refused: 6, also for `atoms` outside 1 to 32,768.
  */
 uint64_t ledger_decide(uint64_t answer[LEDGER_ANSWER_WORDS], uint64_t atoms, uint64_t *held, size_t held_len, uint64_t *cut, size_t cut_len,
@@ -136,9 +137,9 @@ uint64_t ledger_decide(uint64_t answer[LEDGER_ANSWER_WORDS], uint64_t atoms, uin
 
 /*
  * Offer. Lent: a ledger, a meter, a row as its conditions and its outputs, ascending codes.
- * Back: `answer` is 1 Shut, the ledger takes no offers; 2 Stopped; 3 Declined, the reads left do not pay for it; 4 Subsumed, with the position of
- * the row that says as much as its value; 5 Added, with the row's own position as its value. `head`, `slots` and `postings` are the ledger after
- * it, `meter` has the ticks charged.
+ * Back: `answer` is 1 Shut, the ledger takes no offers; 2 Stopped; 3 Declined, the reads left do not pay for it; 4 Subsumed, with the
+ * position of the row that says as much as its value; 5 Added, with the row's own position as its value. `head`, `slots` and `postings` are
+ * the ledger after it, `meter` has the ticks charged.
  * Refused: 1, 2, 3, 4.
  */
 uint64_t ledger_offer(uint64_t head[LEDGER_HEAD_WORDS], uint64_t answer[LEDGER_ANSWER_WORDS], uint64_t meter[LEDGER_METER_WORDS],
@@ -147,9 +148,9 @@ uint64_t ledger_offer(uint64_t head[LEDGER_HEAD_WORDS], uint64_t answer[LEDGER_A
 
 /*
  * Candidates. Lent: a ledger, a meter, the atoms that were decided, and `found`, tier_rows words.
- * Back: `found` has the positions of the rows to be looked at, ascending, then zeros; `answer` is 0, with their count as its value; or 2 Stopped,
- * and every word of `found` is 0. All rows, if full is 1 or there are at most 64; full is 0 then. `head` and `postings` are the ledger after it,
- * `meter` has the ticks charged.
+ * Back: `found` has the positions of the rows to be looked at, ascending, then zeros; `answer` is 0, with their count as its value; or 2
+ * Stopped, and every word of `found` is 0. All rows, if full is 1 or there are at most 64; full is 0 then. `head` and `postings` are the
+ * ledger after it, `meter` has the ticks charged.
  * Refused: 1, 2, 3.
  */
 uint64_t ledger_candidates(uint64_t head[LEDGER_HEAD_WORDS], uint64_t answer[LEDGER_ANSWER_WORDS], uint64_t meter[LEDGER_METER_WORDS],
@@ -157,10 +158,11 @@ uint64_t ledger_candidates(uint64_t head[LEDGER_HEAD_WORDS], uint64_t answer[LED
                            const uint64_t *atoms, size_t atoms_len, uint64_t *found, size_t found_len);
 
 /*
- * Close. Lent: a ledger, a meter, a region, and two buffers to work in: `rows`, tier_rows words, and `atoms`, as many words as there are atoms.
- * Back: `held` and `cut` with all that the rows force or require. `answer` is 0 Closed; 1 Conflict, a row decides against the region; 2 Stopped.
- * Conflict and Stopped keep what was decided so far. Every word of `rows` and `atoms` is 0; what they held before does not matter. `head`, `slots`
- * (hits) and `postings` are the ledger after it, `meter` has the ticks charged.
+ * Close. Lent: a ledger, a meter, a region, and two buffers to work in: `rows`, tier_rows words, and `atoms`, as many words as there are
+ * atoms.
+ * Back: `held` and `cut` with all that the rows force or require. `answer` is 0 Closed; 1 Conflict, a row decides against the region; 2
+ * Stopped. Conflict and Stopped keep what was decided so far. Every word of `rows` and `atoms` is 0; what they held before does not matter.
+ * `head`, `slots` (hits) and `postings` are the ledger after it, `meter` has the ticks charged.
  * Refused: 1, 2, 3, 6.
  */
 uint64_t ledger_close(uint64_t head[LEDGER_HEAD_WORDS], uint64_t answer[LEDGER_ANSWER_WORDS], uint64_t meter[LEDGER_METER_WORDS],
@@ -170,10 +172,11 @@ uint64_t ledger_close(uint64_t head[LEDGER_HEAD_WORDS], uint64_t answer[LEDGER_A
 
 /*
  * Seed. Lent: two ledgers that share no word, a tier and a store, and a meter. Any ledger may stand as the store.
- * Back: the tier has taken the store's rows in turn, each with its hits; those born up to its seed mark are passed over, if the mark has the store's
- * number. The reads are paid from the tier's sharing account. `answer` is 0 Done, also where it ended at a row that the account did not pay for or
- * that found no place; or 2 Stopped. What was taken stays. `tier`, `tier_slots` and `tier_postings` are the tier after it, marked with the store's
- * number and born if it came to the end. `store` has the rows added counted under seeded. `meter` has the ticks charged.
+ * Back: the tier has taken the store's rows in turn, each with its hits; those born up to its seed mark are passed over, if the mark has
+ * the store's number. The reads are paid from the tier's sharing account. `answer` is 0 Done, also where it ended at a row that the account
+ * did not pay for or that found no place; or 2 Stopped. What was taken stays. `tier`, `tier_slots` and `tier_postings` are the tier after
+ * it, marked with the store's number and born if it came to the end. `store` has the rows added counted under seeded. `meter` has the ticks
+ * charged.
  * Refused: the tier's 1, 2, 3; the store's 1, 2, 3; 7.
  */
 uint64_t ledger_seed(uint64_t tier[LEDGER_HEAD_WORDS], uint64_t store[LEDGER_HEAD_WORDS],
@@ -183,10 +186,11 @@ uint64_t ledger_seed(uint64_t tier[LEDGER_HEAD_WORDS], uint64_t store[LEDGER_HEA
 
 /*
  * Deliver. Lent: as Seed.
- * Back: the store has taken the tier's rows in turn, each with its unshared hits. Passed over are those delivered with none unshared, and those with
- * more conditions than the tier's share_conditions and fewer hits than its share_hits. The reads are paid from the tier's sharing account. `answer`
- * is as Seed's. What was taken stays. `tier` has what is left of the account; in `tier_slots` a row taken is delivered, with none unshared. `store`,
- * `store_slots` and `store_postings` are the store after it, with the rows added counted under deliveries. `meter` has the ticks charged.
+ * Back: the store has taken the tier's rows in turn, each with its unshared hits. Passed over are those delivered with none unshared, and
+ * those with more conditions than the tier's share_conditions and fewer hits than its share_hits. The reads are paid from the tier's
+ * sharing account. `answer` is as Seed's. What was taken stays. `tier` has what is left of the account; in `tier_slots` a row taken is
+ * delivered, with none unshared. `store`, `store_slots` and `store_postings` are the store after it, with the rows added counted under
+ * deliveries. `meter` has the ticks charged.
  * Refused: as Seed.
  */
 uint64_t ledger_deliver(uint64_t tier[LEDGER_HEAD_WORDS], uint64_t store[LEDGER_HEAD_WORDS],

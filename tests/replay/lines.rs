@@ -11,20 +11,6 @@ use crate::given::Book;
 use crate::layout::limit_words;
 use crate::rust;
 
-/// The functions of include/ledger.h, in the order of `Call::NAMES`.
-const NAMES: [&str; 11] = [
-    "make",
-    "offer",
-    "hit",
-    "begin",
-    "candidates",
-    "deduce",
-    "next_output",
-    "seed",
-    "deliver",
-    "close",
-    "decide",
-];
 /// The room that the program has for slots, for postings, and for each of the four other slices.
 const ROOM: [usize; 6] = [67 * 168, 67 * 80, 1_008, 1_008, 1_008, 1_008];
 /// What stands for a word that was used before: it is short.
@@ -158,9 +144,17 @@ pub struct Ended {
     pub charge: u64,
 }
 
+/// The function of include/ledger.h that a call is of.
+fn function(call: &Call) -> &'static str {
+    match Call::NAMES[call.operation().expect("a call")] {
+        "next" => "next_output",
+        name => name,
+    }
+}
+
 /// The answer without its value.
 pub fn kind(call: &Call, answer: Answer) -> String {
-    let name = NAMES[call.operation().expect("a call")];
+    let name = function(call);
     let text = answer.to_string();
     let word = text.split(' ').next().unwrap_or("");
     match answer {
@@ -195,7 +189,7 @@ impl Lines {
                 true => before.clone(),
                 false => books.lent(call, &ended.end, true),
             };
-            let name = NAMES[call.operation().expect("a call")];
+            let name = function(call);
             self.calls += &format!("{name} {about}{}\n", before.text());
             self.ends += &format!("{name} {about} {}{}\n", ended.end.result, after.text());
             *self.counts.entry(kind(call, ended.answer)).or_default() += 1;

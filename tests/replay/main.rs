@@ -5,34 +5,18 @@
 //! Nothing here is taken from the verified code. Ledgers and answers are the oracle's, laid out as words by tests/layout.rs. What the
 //! oracle cannot tell is said where it is worked out: ledgers of few rows that are not stale (`given`).
 
-#[path = "../differential/ledger/call.rs"]
-#[allow(dead_code)]
-mod call;
-#[path = "../differential/ledger/end.rs"]
-#[allow(dead_code)]
-mod end;
-#[path = "../differential/ledger/generate.rs"]
-#[allow(dead_code)]
-mod generate;
 mod given;
-#[path = "../layout.rs"]
-#[allow(dead_code)]
-mod layout;
 mod lines;
-#[path = "../differential/ledger/parts.rs"]
-mod parts;
-#[path = "../random.rs"]
+#[path = "../recorded.rs"]
 #[allow(dead_code)]
-mod random;
-#[path = "../differential/ledger/rust.rs"]
-#[allow(dead_code)]
-mod rust;
+mod recorded;
 mod saturation;
 mod scripts;
 mod searches;
 mod sweeps;
 
 use lines::Lines;
+use recorded::{call, end, generate, layout, parts, random, rust};
 
 fn main() {
     let mut lines = Lines::default();

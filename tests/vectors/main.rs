@@ -3,26 +3,10 @@
 //!
 //!     vectors [PARTS [SEED]]
 
-#[path = "../differential/ledger/call.rs"]
-#[allow(dead_code)]
-mod call;
 mod closings;
-#[path = "../differential/ledger/end.rs"]
+#[path = "../recorded.rs"]
 #[allow(dead_code)]
-mod end;
-#[path = "../differential/ledger/generate.rs"]
-#[allow(dead_code)]
-mod generate;
-#[path = "../layout.rs"]
-#[allow(dead_code)]
-mod layout;
-#[path = "../differential/ledger/parts.rs"]
-mod parts;
-#[path = "../random.rs"]
-mod random;
-#[path = "../differential/ledger/rust.rs"]
-#[allow(dead_code)]
-mod rust;
+mod recorded;
 mod stops;
 
 use std::fmt::Display;
@@ -30,6 +14,7 @@ use std::fmt::Display;
 use call::{Call, Meter, PLACES};
 use generate::{Author, Kind, Ledgers};
 use random::Random;
+use recorded::{call, end, generate, layout, parts, random, rust};
 
 /// The bench cards, as tests/oracle/check runs them.
 const CARDS: &str = include_str!("../oracle/cards.script");

@@ -1,6 +1,6 @@
 //! What the calls answer. Each `match` on a case ends with its last one: the call's contract has no other number.
 
-use crate::boundary::Answer;
+use crate::boundary::{ANSWER_WORDS, Answer};
 use crate::region::Literal;
 use std::error::Error;
 use std::fmt;
@@ -9,13 +9,12 @@ use std::fmt;
 #[derive(Clone, Copy, Debug, PartialEq, Eq, Hash)]
 pub struct Refusal(pub u8);
 
-impl Refusal {
-    /// The refusal of a call that gave `result` back, if it is one.
-    pub(crate) fn of(result: u64) -> Result<(), Refusal> {
-        match result {
-            0 => Ok(()),
-            number => Err(Refusal(number as u8)),
-        }
+/// The words that a call answers, or the refusal that it gives back.
+pub(crate) fn answered(call: impl FnOnce(&mut Answer) -> u64) -> Result<Answer, Refusal> {
+    let mut answer = [0; ANSWER_WORDS];
+    match call(&mut answer) {
+        0 => Ok(answer),
+        number => Err(Refusal(number as u8)),
     }
 }
 

@@ -25,6 +25,32 @@ pub type MeterWords = [u64; METER_WORDS];
 /// Next, word, present, absent.
 pub type CursorWords = [u64; CURSOR_WORDS];
 
+/// Calls a function of the library: an argument in brackets is a slice, lent to be written (`mut`) or to be read.
+macro_rules! call {
+    ($function:ident($($argument:tt)*)) => {
+        call!(@ $function [] $($argument)*,)
+    };
+    // The last argument may have a comma of its own.
+    (@ $function:ident [$($done:expr,)*] ,) => {
+        call!(@ $function [$($done,)*])
+    };
+    (@ $function:ident [$($done:expr,)*]) => {
+        // SAFETY: each pointer is of an array or a slice that lives through the call, the latter with its own length; what is
+        // written is borrowed for writing, and so overlaps nothing else.
+        unsafe { $function($($done,)*) }
+    };
+    (@ $function:ident [$($done:expr,)*] [mut $slice:expr], $($rest:tt)*) => {
+        call!(@ $function [$($done,)* $slice.as_mut_ptr(), $slice.len(),] $($rest)*)
+    };
+    (@ $function:ident [$($done:expr,)*] [$slice:expr], $($rest:tt)*) => {
+        call!(@ $function [$($done,)* $slice.as_ptr(), $slice.len(),] $($rest)*)
+    };
+    (@ $function:ident [$($done:expr,)*] $plain:expr, $($rest:tt)*) => {
+        call!(@ $function [$($done,)* $plain,] $($rest)*)
+    };
+}
+pub(crate) use call;
+
 #[link(name = "boundary", kind = "static")]
 unsafe extern "C" {
     pub fn ledger_make(

@@ -1,15 +1,15 @@
 //! A ledger and its calls.
 
 use crate::answers::{
-    Candidates, Charged, Closing, Deduction, NextOutput, Offer, Refusal, Transfer,
+    Candidates, Charged, Closing, Deduction, NextOutput, Offer, Refusal, Transfer, answered,
 };
 use crate::boundary::{
-    ANSWER_WORDS, CursorWords, HEADER_WORDS, Header, MeterWords, POSTING_WORDS, SLOT_WORDS,
-    ledger_begin, ledger_candidates, ledger_close, ledger_deduce, ledger_deliver, ledger_hit,
-    ledger_make, ledger_next_output, ledger_offer, ledger_seed,
+    CursorWords, HEADER_WORDS, Header, MeterWords, POSTING_WORDS, SLOT_WORDS, call, ledger_begin,
+    ledger_candidates, ledger_close, ledger_deduce, ledger_deliver, ledger_hit, ledger_make,
+    ledger_next_output, ledger_offer, ledger_seed,
 };
 use crate::limits::LearningLimits;
-use crate::region::{Literal, Region};
+use crate::region::{Literal, Region, codes};
 
 /// What is charged so far, and the limit that it may not pass.
 #[derive(Clone, Copy, Debug, PartialEq, Eq)]
@@ -74,21 +74,9 @@ impl Ledger {
         let mut header = [0; HEADER_WORDS];
         let mut slots = vec![0; SLOT_WORDS * rows];
         let mut postings = vec![0; POSTING_WORDS * rows];
-        let mut answer = [0; ANSWER_WORDS];
-        // SAFETY: both lengths are those of the vectors, which are this function's own, and overlap nothing.
-        let result = unsafe {
-            ledger_make(
-                &limits.words(),
-                number,
-                &mut header,
-                &mut answer,
-                slots.as_mut_ptr(),
-                slots.len(),
-                postings.as_mut_ptr(),
-                postings.len(),
-            )
-        };
-        Refusal::of(result)?;
+        answered(
+            |answer| call!(ledger_make(&limits.words(), number, &mut header, answer, [mut slots], [mut postings])),
+        )?;
         Ok(Ledger::with_buffers(header, slots, postings))
     }
 
@@ -101,7 +89,7 @@ impl Ledger {
     ) -> Result<Ledger, Refusal> {
         // Begin has no refusal but these, and writes the header alone: a copy of it.
         let mut copy = header;
-        Refusal::of(begin(&mut copy, &slots, &postings))?;
+        begin(&mut copy, &slots, &postings)?;
         Ok(Ledger::with_buffers(header, slots, postings))
     }
 
@@ -125,49 +113,26 @@ impl Ledger {
         conditions: &[Literal],
         outputs: &[Literal],
     ) -> Result<Charged<Offer>, Refusal> {
-        let mut answer = [0; ANSWER_WORDS];
-        // SAFETY: every length is that of its slice or vector; a literal is one word; `self` and `meter` are borrowed mutably,
-        // so that nothing written overlaps anything else.
-        let result = unsafe {
-            ledger_offer(
-                &mut self.header,
-                &mut answer,
-                &mut meter.words,
-                self.slots.as_mut_ptr(),
-                self.slots.len(),
-                self.postings.as_mut_ptr(),
-                self.postings.len(),
-                conditions.as_ptr().cast(),
-                conditions.len(),
-                outputs.as_ptr().cast(),
-                outputs.len(),
-            )
-        };
-        Refusal::of(result)?;
+        let answer = answered(|answer| {
+            call!(ledger_offer(
+                &mut self.header, answer, &mut meter.words, [mut self.slots], [mut self.postings],
+                [codes(conditions)], [codes(outputs)]
+            ))
+        })?;
         Ok(Charged::new(Offer::of(answer), answer))
     }
 
     /// Counts one hit more for the row at a position, and one more that is not shared yet. Refused by 5.
     pub fn hit(&mut self, position: usize) -> Result<(), Refusal> {
-        let mut answer = [0; ANSWER_WORDS];
-        // SAFETY: both lengths are those of the vectors, and `self` is borrowed mutably.
-        let result = unsafe {
-            ledger_hit(
-                &mut self.header,
-                &mut answer,
-                self.slots.as_mut_ptr(),
-                self.slots.len(),
-                self.postings.as_ptr(),
-                self.postings.len(),
-                position as u64,
-            )
-        };
-        Refusal::of(result)
+        answered(|answer| {
+            call!(ledger_hit(&mut self.header, answer, [mut self.slots], [self.postings], position as u64))
+        })
+        .map(drop)
     }
 
     /// Has the next search take all rows. Refused by nothing: the words are a ledger's.
     pub fn begin(&mut self) -> Result<(), Refusal> {
-        Refusal::of(begin(&mut self.header, &self.slots, &self.postings))
+        begin(&mut self.header, &self.slots, &self.postings)
     }
 
     /// The rows to be looked at after these atoms were decided; all rows, if there are at most 64, or after
@@ -177,25 +142,11 @@ impl Ledger {
         meter: &mut Meter,
         atoms: &[u64],
     ) -> Result<Charged<Candidates>, Refusal> {
-        let mut answer = [0; ANSWER_WORDS];
-        // SAFETY: every length is that of its slice or vector; `self` and `meter` are borrowed mutably, so that nothing written
-        // overlaps anything else.
-        let result = unsafe {
-            ledger_candidates(
-                &mut self.header,
-                &mut answer,
-                &mut meter.words,
-                self.slots.as_ptr(),
-                self.slots.len(),
-                self.postings.as_mut_ptr(),
-                self.postings.len(),
-                atoms.as_ptr(),
-                atoms.len(),
-                self.row_words.as_mut_ptr(),
-                self.row_words.len(),
-            )
-        };
-        Refusal::of(result)?;
+        let answer = answered(|answer| {
+            call!(ledger_candidates(
+                &mut self.header, answer, &mut meter.words, [self.slots], [mut self.postings], [atoms], [mut self.row_words]
+            ))
+        })?;
         let found = match answer[0] {
             0 => Candidates::Rows(
                 self.row_words
@@ -209,37 +160,31 @@ impl Ledger {
         Ok(Charged::new(found, answer))
     }
 
-    /// What the row at a position says of a region. Refused by 5 and 6.
+    /// What the row at a position says of a region. Refused by 5, and 6 for a region over another number of atoms.
     pub fn deduce(
         &self,
         meter: &mut Meter,
         position: usize,
         region: &Region,
     ) -> Result<Charged<Deduction>, Refusal> {
-        let mut answer = [0; ANSWER_WORDS];
-        // SAFETY: every length is that of its vector; what is written is `answer` and `meter`, which is borrowed mutably.
-        let result = unsafe {
-            ledger_deduce(
+        let (held, cut) = region.over(self.atoms());
+        let answer = answered(|answer| {
+            call!(ledger_deduce(
                 &self.header,
-                &mut answer,
+                answer,
                 &mut meter.words,
-                self.slots.as_ptr(),
-                self.slots.len(),
-                self.postings.as_ptr(),
-                self.postings.len(),
+                [self.slots],
+                [self.postings],
                 position as u64,
-                region.held.as_ptr(),
-                region.held.len(),
-                region.cut.as_ptr(),
-                region.cut.len(),
-            )
-        };
-        Refusal::of(result)?;
+                [held],
+                [cut]
+            ))
+        })?;
         Ok(Charged::new(Deduction::of(answer), answer))
     }
 
     /// The next output of the row at a position, and the cursor past it; a packed row's outputs that the region has already
-    /// are passed over. Refused by 5, 6, and 8 for another row's cursor.
+    /// are passed over. Refused by 5, 6 for a region over another number of atoms, and 8 for another row's cursor.
     pub fn next_output(
         &self,
         meter: &mut Meter,
@@ -247,59 +192,37 @@ impl Ledger {
         cursor: &mut Cursor,
         region: &Region,
     ) -> Result<Charged<NextOutput>, Refusal> {
-        let mut answer = [0; ANSWER_WORDS];
-        // SAFETY: every length is that of its vector; what is written is `answer`, and `meter` and `cursor`, which are borrowed
-        // mutably.
-        let result = unsafe {
-            ledger_next_output(
+        let (held, cut) = region.over(self.atoms());
+        let answer = answered(|answer| {
+            call!(ledger_next_output(
                 &self.header,
-                &mut answer,
+                answer,
                 &mut meter.words,
                 &mut cursor.words,
-                self.slots.as_ptr(),
-                self.slots.len(),
-                self.postings.as_ptr(),
-                self.postings.len(),
+                [self.slots],
+                [self.postings],
                 position as u64,
-                region.held.as_ptr(),
-                region.held.len(),
-                region.cut.as_ptr(),
-                region.cut.len(),
-            )
-        };
-        Refusal::of(result)?;
+                [held],
+                [cut]
+            ))
+        })?;
         Ok(Charged::new(NextOutput::of(answer), answer))
     }
 
-    /// Closes a region under the rows: all that they force or require is marked in it. Refused by 6.
+    /// Closes a region under the rows: all that they force or require is marked in it. Refused by 6 for a region over another
+    /// number of atoms.
     pub fn close(
         &mut self,
         meter: &mut Meter,
         region: &mut Region,
     ) -> Result<Charged<Closing>, Refusal> {
-        let mut answer = [0; ANSWER_WORDS];
-        // SAFETY: every length is that of its vector; `self`, `meter` and `region` are borrowed mutably, so that nothing written
-        // overlaps anything else.
-        let result = unsafe {
-            ledger_close(
-                &mut self.header,
-                &mut answer,
-                &mut meter.words,
-                self.slots.as_mut_ptr(),
-                self.slots.len(),
-                self.postings.as_mut_ptr(),
-                self.postings.len(),
-                region.held.as_mut_ptr(),
-                region.held.len(),
-                region.cut.as_mut_ptr(),
-                region.cut.len(),
-                self.row_words.as_mut_ptr(),
-                self.row_words.len(),
-                self.atom_words.as_mut_ptr(),
-                self.atom_words.len(),
-            )
-        };
-        Refusal::of(result)?;
+        let (held, cut) = region.over_mut(self.atoms());
+        let answer = answered(|answer| {
+            call!(ledger_close(
+                &mut self.header, answer, &mut meter.words, [mut self.slots], [mut self.postings], [mut held], [mut cut],
+                [mut self.row_words], [mut self.atom_words]
+            ))
+        })?;
         Ok(Charged::new(Closing::of(answer), answer))
     }
 
@@ -310,26 +233,12 @@ impl Ledger {
         store: &mut Ledger,
         meter: &mut Meter,
     ) -> Result<Charged<Transfer>, Refusal> {
-        let mut answer = [0; ANSWER_WORDS];
-        // SAFETY: every length is that of its vector; `self`, `store` and `meter` are borrowed mutably, so that nothing written
-        // overlaps anything else.
-        let result = unsafe {
-            ledger_seed(
-                &mut self.header,
-                &mut store.header,
-                &mut answer,
-                &mut meter.words,
-                self.slots.as_mut_ptr(),
-                self.slots.len(),
-                self.postings.as_mut_ptr(),
-                self.postings.len(),
-                store.slots.as_ptr(),
-                store.slots.len(),
-                store.postings.as_ptr(),
-                store.postings.len(),
-            )
-        };
-        Refusal::of(result)?;
+        let answer = answered(|answer| {
+            call!(ledger_seed(
+                &mut self.header, &mut store.header, answer, &mut meter.words, [mut self.slots], [mut self.postings],
+                [store.slots], [store.postings]
+            ))
+        })?;
         Ok(Charged::new(Transfer::of(answer), answer))
     }
 
@@ -340,27 +249,17 @@ impl Ledger {
         store: &mut Ledger,
         meter: &mut Meter,
     ) -> Result<Charged<Transfer>, Refusal> {
-        let mut answer = [0; ANSWER_WORDS];
-        // SAFETY: every length is that of its vector; `self`, `store` and `meter` are borrowed mutably, so that nothing written
-        // overlaps anything else.
-        let result = unsafe {
-            ledger_deliver(
-                &mut self.header,
-                &mut store.header,
-                &mut answer,
-                &mut meter.words,
-                self.slots.as_mut_ptr(),
-                self.slots.len(),
-                self.postings.as_ptr(),
-                self.postings.len(),
-                store.slots.as_mut_ptr(),
-                store.slots.len(),
-                store.postings.as_mut_ptr(),
-                store.postings.len(),
-            )
-        };
-        Refusal::of(result)?;
+        let answer = answered(|answer| {
+            call!(ledger_deliver(
+                &mut self.header, &mut store.header, answer, &mut meter.words, [mut self.slots], [self.postings],
+                [mut store.slots], [mut store.postings]
+            ))
+        })?;
         Ok(Charged::new(Transfer::of(answer), answer))
+    }
+
+    fn atoms(&self) -> u64 {
+        self.limits().atoms
     }
 
     /// The limits that it was made with.
@@ -435,18 +334,6 @@ impl Ledger {
     }
 }
 
-/// The result of `ledger_begin`.
-fn begin(header: &mut Header, slots: &[u64], postings: &[u64]) -> u64 {
-    let mut answer = [0; ANSWER_WORDS];
-    // SAFETY: both lengths are those of the slices; what is written is `answer` and the header, which is borrowed mutably.
-    unsafe {
-        ledger_begin(
-            header,
-            &mut answer,
-            slots.as_ptr(),
-            slots.len(),
-            postings.as_ptr(),
-            postings.len(),
-        )
-    }
+fn begin(header: &mut Header, slots: &[u64], postings: &[u64]) -> Result<(), Refusal> {
+    answered(|answer| call!(ledger_begin(header, answer, [slots], [postings]))).map(drop)
 }

@@ -1,7 +1,7 @@
 //! Literals, and the marks of a plan.
 
-use crate::answers::Refusal;
-use crate::boundary::{ANSWER_WORDS, ledger_decide};
+use crate::answers::{Refusal, answered};
+use crate::boundary::{call, ledger_decide};
 use std::ops::Not;
 
 /// An atom with a sign: held, or cut. It is one word, the code 2 × atom, plus 1 for held.
@@ -41,6 +41,12 @@ impl Literal {
     }
 }
 
+/// The codes of literals.
+pub(crate) const fn codes(literals: &[Literal]) -> &[u64] {
+    // SAFETY: a literal is laid out as its code, one word.
+    unsafe { std::slice::from_raw_parts(literals.as_ptr().cast(), literals.len()) }
+}
+
 /// The same atom with the opposite sign.
 impl Not for Literal {
     type Output = Literal;
@@ -54,8 +60,8 @@ impl Not for Literal {
 #[derive(Clone, Debug, PartialEq, Eq)]
 pub struct Region {
     atoms: u64,
-    pub(crate) held: Vec<u64>,
-    pub(crate) cut: Vec<u64>,
+    held: Vec<u64>,
+    cut: Vec<u64>,
 }
 
 impl Region {
@@ -74,34 +80,41 @@ impl Region {
     pub fn from_words(atoms: u64, held: Vec<u64>, cut: Vec<u64>) -> Result<Region, Refusal> {
         let mut region = Region { atoms, held, cut };
         // No region has this atom, so that nothing is marked.
-        Refusal::of(region.ask(Literal::cut(atoms)).0)?;
+        region.ask(Literal::cut(atoms))?;
         Ok(region)
     }
 
     /// Marks a literal. False, and nothing is changed, if the opposite is marked or the atom is none of the region's.
     pub fn decide(&mut self, literal: Literal) -> bool {
-        // A region is never refused: it was tested when it was made.
-        self.ask(literal) == (0, 1)
+        self.ask(literal) == Ok(true)
     }
 
-    /// The result of `ledger_decide`, and the case answered.
-    fn ask(&mut self, literal: Literal) -> (u64, u64) {
-        let mut answer = [0; ANSWER_WORDS];
-        // SAFETY: both lengths are those of the vectors, and `self` is borrowed mutably, so that nothing written overlaps
-        // anything else.
-        let result = unsafe {
-            ledger_decide(
-                &mut answer,
-                self.atoms,
-                self.held.as_mut_ptr(),
-                self.held.len(),
-                self.cut.as_mut_ptr(),
-                self.cut.len(),
-                literal.atom(),
-                literal.is_held() as u64,
-            )
-        };
-        (result, answer[0])
+    /// Whether the literal is marked now.
+    fn ask(&mut self, literal: Literal) -> Result<bool, Refusal> {
+        let (atom, value) = (literal.atom(), literal.is_held() as u64);
+        let [case, ..] = answered(
+            |answer| call!(ledger_decide(answer, self.atoms, [mut self.held], [mut self.cut], atom, value)),
+        )?;
+        Ok(case == 1)
+    }
+
+    /// The words to lend to a ledger over so many atoms: held and cut. Of a region over another number there are none: a call
+    /// refuses them by 6, after the refusals that come before it. The words alone would not tell, where they are as many.
+    pub(crate) fn over(&self, atoms: u64) -> (&[u64], &[u64]) {
+        if self.atoms == atoms {
+            (&self.held, &self.cut)
+        } else {
+            (&[], &[])
+        }
+    }
+
+    /// As [`Region::over`], to be written.
+    pub(crate) fn over_mut(&mut self, atoms: u64) -> (&mut [u64], &mut [u64]) {
+        if self.atoms == atoms {
+            (&mut self.held, &mut self.cut)
+        } else {
+            (&mut [], &mut [])
+        }
     }
 
     /// How many atoms there are.

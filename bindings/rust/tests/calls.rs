@@ -371,6 +371,45 @@ fn regions_are_closed() {
     );
 }
 
+/// A region over up to 64 atoms has one word a side, over up to 128 two: others than the ledger's have fewer, more or as many.
+#[test]
+fn a_region_over_other_atoms_is_refused() {
+    for (atoms, others) in [
+        (20, [1, 3, 19, 21, 64, 65]),
+        (100, [3, 64, 65, 99, 101, 129]),
+    ] {
+        let mut ledger = Ledger::make(&LearningLimits::tier(atoms), 9).unwrap();
+        let mut meter = Meter::new(1000);
+        // Every plan holds point 15.
+        ledger.offer(&mut meter, &[], &[Literal::held(15)]).unwrap();
+        for other in others {
+            refused_unchanged(&mut ledger, other);
+        }
+        let mut plan = Region::new(atoms).unwrap();
+        let closed = ledger.close(&mut meter, &mut plan).unwrap();
+        assert_eq!(closed.answer, Closing::Closed);
+        assert!(plan.literals().eq([Literal::held(15)]));
+    }
+}
+
+/// Every call with a region over so many atoms is refused by 6, and changes nothing.
+fn refused_unchanged(ledger: &mut Ledger, atoms: u64) {
+    let before = ledger.clone();
+    let mut plan = Region::new(atoms).unwrap();
+    assert!(plan.decide(Literal::held(0)));
+    let (lent, mut cursor, mut meter) = (plan.clone(), Cursor::default(), Meter::new(1000));
+    assert_eq!(ledger.deduce(&mut meter, 0, &plan), Err(Refusal(6)));
+    assert_eq!(
+        ledger.next_output(&mut meter, 0, &mut cursor, &plan),
+        Err(Refusal(6))
+    );
+    assert_eq!(ledger.close(&mut meter, &mut plan), Err(Refusal(6)));
+    // The position is tested before the region.
+    assert_eq!(ledger.deduce(&mut meter, 1, &plan), Err(Refusal(5)));
+    assert_eq!((meter, cursor), (Meter::new(1000), Cursor::default()));
+    assert!(plan == lent && same_words(ledger, &before));
+}
+
 #[test]
 fn a_tier_is_seeded_from_a_store() {
     let mut store = two_rows(4);

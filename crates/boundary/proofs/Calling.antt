@@ -15,24 +15,25 @@ use Rattle.model.specs.declared.DecideResult.{DecideResult}
 use Rattle.model.specs.Operations.{make, begin, hit, deduce, nextOutput, decide}
 use Rattle.contents.specs.Lent.{lent}
 use Rattle.operations.specs.Ends.{makeEnd, beginEnd, hitEnd, deduceEnd, outputEnd, decideEnd}
-use Rattle.wire.specs.declared.Reply.{Reply}
+use Rattle.wire.specs.declared.ReplyWords.{ReplyWords}
 use Rattle.wire.specs.Words.{flagIn, limitsIn, headerIn, headerWords, meterIn, meterWords, cursorIn, cursorWords}
-use Rattle.wire.specs.Replies.{answerWords, makeReply, madeWords, beginReply, hitReply, deduceReply, nextReply, decideReply}
+use Rattle.model.specs.Answers.{makeReply, madeHeader, beginReply, hitReply, deduceReply, nextReply, decideReply}
+use Rattle.wire.specs.Replies.{replyWords, answerWords, madeWords}
 use Rattle.boundary.specs.Calls.{left, makeLeft, makeCall, beginLeft, beginCall, hitLeft, hitCall, deduceLeft, deduceCall, outputLeft}
 use Rattle.boundary.specs.Calls.{outputCall, decideLeft, decideCall}
 use Rattle.boundary.proofs.Leaving.{refused-way, done-way}
 use Rattle.boundary.proofs.Keeping.{makeLends, hitLends, decideLends, make-keeps, hit-keeps, decide-keeps}
 
-module _ (w t : Reply) (told : w ≡ t) where
+module _ (w t : ReplyWords) (told : w ≡ t) where
   pub number : w .refusal ≡ t .refusal
-  number = ap (λ (x : Reply). x .refusal) told
+  number = ap (λ (x : ReplyWords). x .refusal) told
 
-  pub answered : (y : List ℕ) (ticks : ℕ) → y ≡ answerWords w ticks → y ≡ answerWords t ticks
-  answered y ticks e = e ∙ ap (λ (x : Reply). answerWords x ticks) told
+  pub answer-told : (y : List ℕ) (ticks : ℕ) → y ≡ answerWords w ticks → y ≡ answerWords t ticks
+  answer-told y ticks e = e ∙ ap (λ (x : ReplyWords). answerWords x ticks) told
 
 module _ (limits : List ℕ) (n : ℕ) (head answer slots postings : List ℕ) (l : LearningLimits) (read : l ≡ limitsIn limits) (r : MakeResult)
     (s p : List ℕ)
-    (ends : makeEnd r s p ≡ make l n slots postings) (w : Reply) (told : w ≡ makeReply (r .answer)) where
+    (ends : makeEnd r s p ≡ make l n slots postings) (w : ReplyWords) (told : w ≡ replyWords (makeReply (r .answer))) where
   make-end : makeEnd r s p ≡ make (limitsIn limits) n slots postings
   make-end = ends ∙ ap (λ (x : LearningLimits). make x n slots postings) read
 
@@ -42,15 +43,16 @@ module _ (limits : List ℕ) (n : ℕ) (head answer slots postings : List ℕ) (
       refused-way (makeLeft head) _ _ _ make-end _ (number w _ told) _ f
       (λ g. ap (λ (ws : List (List ℕ)). head ∷ answer ∷ ws) (ap makeLends make-end ∙ make-keeps _ n slots postings g))
 
-  pub make-done : (x y : List ℕ) → w .refusal ≡ 0 → x ≡ madeWords (r .answer) head → y ≡ answerWords w (r .ticks) →
+  pub make-done : (x y : List ℕ) → w .refusal ≡ 0 → x ≡ madeWords (madeHeader (r .answer)) head → y ≡ answerWords w (r .ticks) →
       left 0 (x ∷ y ∷ s ∷ p ∷ []) ≡ makeCall limits n head answer slots postings
   unfolding makeCall
   make-done x y z ex ey =
       done-way (makeLeft head) _ _ _ make-end _ (number w _ told) _ z
-      (ap₂ (λ (a b : List ℕ). a ∷ b ∷ s ∷ p ∷ []) ex (answered w _ told y (r .ticks) ey))
+      (ap₂ (λ (a b : List ℕ). a ∷ b ∷ s ∷ p ∷ []) ex (answer-told w _ told y (r .ticks) ey))
 
-module _ (head answer slots postings : List ℕ) (h : Header) (read : h ≡ headerIn head) (w : Reply) where
-  module _ (r : BeginResult) (ends : beginEnd r slots postings ≡ begin (lent h slots postings)) (told : w ≡ beginReply (r .answer)) where
+module _ (head answer slots postings : List ℕ) (h : Header) (read : h ≡ headerIn head) (w : ReplyWords) where
+  module _ (r : BeginResult) (ends : beginEnd r slots postings ≡ begin (lent h slots postings))
+      (told : w ≡ replyWords (beginReply (r .answer))) where
     begin-end : beginEnd r slots postings ≡ begin (lent (headerIn head) slots postings)
     begin-end = ends ∙ ap (λ (x : Header). begin (lent x slots postings)) read
 
@@ -63,10 +65,10 @@ module _ (head answer slots postings : List ℕ) (h : Header) (read : h ≡ head
     unfolding beginCall
     begin-done x y z ex ey =
         done-way beginLeft _ _ _ begin-end _ (number w _ told) _ z
-        (ap₂ (λ (a b : List ℕ). a ∷ b ∷ []) ex (answered w _ told y (r .ticks) ey))
+        (ap₂ (λ (a b : List ℕ). a ∷ b ∷ []) ex (answer-told w _ told y (r .ticks) ey))
 
   module _ (p : ℕ) (r : HitResult) (s : List ℕ) (ends : hitEnd r s postings ≡ hit (lent h slots postings) p)
-      (told : w ≡ hitReply (r .answer)) where
+      (told : w ≡ replyWords (hitReply (r .answer))) where
     hit-end : hitEnd r s postings ≡ hit (lent (headerIn head) slots postings) p
     hit-end = ends ∙ ap (λ (x : Header). hit (lent x slots postings) p) read
 
@@ -81,11 +83,11 @@ module _ (head answer slots postings : List ℕ) (h : Header) (read : h ≡ head
     unfolding hitCall
     hit-done x y z ex ey =
         done-way hitLeft _ _ _ hit-end _ (number w _ told) _ z
-        (ap₂ (λ (a b : List ℕ). a ∷ b ∷ s ∷ []) ex (answered w _ told y (r .ticks) ey))
+        (ap₂ (λ (a b : List ℕ). a ∷ b ∷ s ∷ []) ex (answer-told w _ told y (r .ticks) ey))
 
   module _ (meter held cut : List ℕ) (p : ℕ) (m : Meter) (metered : m ≡ meterIn meter) where
     module _ (r : DeduceResult) (ends : deduceEnd r ≡ deduce (lent h slots postings) p held cut m)
-        (told : w ≡ deduceReply (r .answer)) where
+        (told : w ≡ replyWords (deduceReply (r .answer) (r .deduction))) where
       deduce-end : deduceEnd r ≡ deduce (lent (headerIn head) slots postings) p held cut (meterIn meter)
       deduce-end = ends ∙ ap₂ (λ (x : Header) (y : Meter). deduce (lent x slots postings) p held cut y) read metered
 
@@ -99,10 +101,10 @@ module _ (head answer slots postings : List ℕ) (h : Header) (read : h ≡ head
       unfolding deduceCall
       deduce-done x y z ex ey =
           done-way deduceLeft _ _ _ deduce-end _ (number w _ told) _ z
-          (ap₂ (λ (a b : List ℕ). a ∷ b ∷ []) (answered w _ told x (r .ticks) ex) ey)
+          (ap₂ (λ (a b : List ℕ). a ∷ b ∷ []) (answer-told w _ told x (r .ticks) ex) ey)
 
     module _ (cursor : List ℕ) (k : OutputCursor) (placed : k ≡ cursorIn cursor) (r : NextResult)
-        (ends : outputEnd r ≡ nextOutput (lent h slots postings) p k held cut m) (told : w ≡ nextReply (r .answer)) where
+        (ends : outputEnd r ≡ nextOutput (lent h slots postings) p k held cut m) (told : w ≡ replyWords (nextReply (r .answer))) where
       output-end : outputEnd r ≡ nextOutput (lent (headerIn head) slots postings) p (cursorIn cursor) held cut (meterIn meter)
       output-end =
           ends ∙ ap₂ (λ (x : Header) (y : Meter). nextOutput (lent x slots postings) p k held cut y) read metered
@@ -119,10 +121,11 @@ module _ (head answer slots postings : List ℕ) (h : Header) (read : h ≡ head
       unfolding outputCall
       output-done x y v z ex ey ev =
           done-way outputLeft _ _ _ output-end _ (number w _ told) _ z
-          (ap₂ (λ (a : List ℕ) (b : List (List ℕ)). a ∷ b) (answered w _ told x (r .ticks) ex) (ap₂ (λ (a b : List ℕ). a ∷ b ∷ []) ey ev))
+          (ap₂ (λ (a : List ℕ) (b : List (List ℕ)). a ∷ b) (answer-told w _ told x (r .ticks) ex)
+          (ap₂ (λ (a b : List ℕ). a ∷ b ∷ []) ey ev))
 
 module _ (answer : List ℕ) (n : ℕ) (held cut : List ℕ) (a value : ℕ) (r : DecideResult) (x y : List ℕ)
-    (ends : decideEnd r x y ≡ decide n held cut a (flagIn value)) (w : Reply) (told : w ≡ decideReply (r .answer)) where
+    (ends : decideEnd r x y ≡ decide n held cut a (flagIn value)) (w : ReplyWords) (told : w ≡ replyWords (decideReply (r .answer))) where
   pub decide-refused : (w .refusal ≡ 0 → ⊥) → left (w .refusal) (answer ∷ x ∷ y ∷ []) ≡ decideCall answer n held cut a value
   unfolding decideCall
   decide-refused f =
@@ -134,4 +137,4 @@ module _ (answer : List ℕ) (n : ℕ) (held cut : List ℕ) (a value : ℕ) (r 
   unfolding decideCall
   decide-done v z e =
       done-way decideLeft _ _ _ ends _ (number w _ told) _ z
-      (ap (λ (b : List ℕ). b ∷ x ∷ y ∷ []) (answered w _ told v (r .ticks) e))
+      (ap (λ (b : List ℕ). b ∷ x ∷ y ∷ []) (answer-told w _ told v (r .ticks) e))

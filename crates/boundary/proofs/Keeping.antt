@@ -11,7 +11,7 @@ use Rattle.model.specs.declared.LearningLimits.{LearningLimits}
 use Rattle.model.specs.Records.{limitsOk, slotWords, postingWords}
 use Rattle.model.specs.Refusals.{Lent, refusal, accepts}
 use Rattle.model.specs.Operations.{MakeEnd, HitEnd, DecideEnd, make, hit, decide, positionOk}
-use Rattle.wire.specs.Replies.{makeReply, hitReply, decideReply}
+use Rattle.wire.specs.Replies.{replyWords}
 use Rattle.boundary.proofs.Leaving.{keeps, neither}
 
 -- the slices that each writes
@@ -25,28 +25,29 @@ abbrev pub decideLends : DecideEnd → List (List ℕ)
 decideLends e = e .region .held ∷ e .region .cut ∷ []
 
 pub make-keeps : (l : LearningLimits) (number : ℕ) (slots postings : List ℕ)
-    → (makeReply (make l number slots postings .answer) .refusal ≡ 0 → ⊥) →
+    → (replyWords (make l number slots postings .answer) .refusal ≡ 0 → ⊥) →
     makeLends (make l number slots postings) ≡ slots ∷ postings ∷ []
 unfolding make
 make-keeps l number slots postings =
-    keeps (λ (e : MakeEnd). makeReply (e .answer) .refusal) makeLends (slots ∷ postings ∷ [])
+    keeps (λ (e : MakeEnd). replyWords (e .answer) .refusal) makeLends (slots ∷ postings ∷ [])
     (refusal
     ((limitsOk l, 1) ∷ (eqb (length slots) (slotWords * l .«tier_rows») && eqb (length postings) (postingWords * l .«tier_rows»), 2) ∷ []))
     _ _
     (λ n. refl) refl
 
-pub hit-keeps : (s : Lent) (p : ℕ) → (hitReply (hit s p .answer) .refusal ≡ 0 → ⊥) → hitLends (hit s p) ≡ s .slots ∷ []
+pub hit-keeps : (s : Lent) (p : ℕ) → (replyWords (hit s p .answer) .refusal ≡ 0 → ⊥) → hitLends (hit s p) ≡ s .slots ∷ []
 unfolding hit
 hit-keeps s p =
-    keeps (λ (e : HitEnd). hitReply (e .answer) .refusal) hitLends (s .slots ∷ []) (refusal (accepts s true ((positionOk s p, 5) ∷ []))) _ _
+    keeps (λ (e : HitEnd). replyWords (e .answer) .refusal) hitLends (s .slots ∷ [])
+    (refusal (accepts s true ((positionOk s p, 5) ∷ []))) _ _
     (λ n. refl) refl
 
 pub decide-keeps : (n : ℕ) (held cut : List ℕ) (a : ℕ) (present : Bool)
-    → (decideReply (decide n held cut a present .answer) .refusal ≡ 0 → ⊥) →
+    → (replyWords (decide n held cut a present .answer) .refusal ≡ 0 → ⊥) →
     decideLends (decide n held cut a present) ≡ held ∷ cut ∷ []
 unfolding decide
 decide-keeps n held cut a present =
-    keeps (λ (e : DecideEnd). decideReply (e .answer) .refusal) decideLends (held ∷ cut ∷ [])
+    keeps (λ (e : DecideEnd). replyWords (e .answer) .refusal) decideLends (held ∷ cut ∷ [])
     (refusal ((isRegion n (region held cut), 6) ∷ [])) _ _
     (λ k. refl)
-    (neither (λ (e : DecideEnd). decideReply (e .answer) .refusal) (decideRegion n (region held cut) (code a present)) _ _ (λ r. refl) refl)
+    (neither (λ (e : DecideEnd). replyWords (e .answer) .refusal) (decideRegion n (region held cut) (code a present)) _ _ (λ r. refl) refl)

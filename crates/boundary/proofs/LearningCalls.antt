@@ -12,13 +12,14 @@ use Rattle.contents.specs.Lent.{lent}
 use Rattle.offer.specs.Ends.{offerEnd}
 use Rattle.postings_search.specs.Ends.{candidatesEnd}
 use Rattle.close.specs.Ends.{closedEnd}
-use Rattle.wire.specs.declared.Reply.{Reply}
+use Rattle.wire.specs.declared.ReplyWords.{ReplyWords}
 use Rattle.wire.specs.Words.{headerIn, headerWords, meterIn, meterWords}
-use Rattle.wire.specs.Replies.{answerWords, offerReply, candidatesReply, closeReply}
+use Rattle.model.specs.Answers.{offerReply, candidatesReply, closeReply}
+use Rattle.wire.specs.Replies.{replyWords, answerWords}
 use Rattle.boundary.specs.Calls.{left}
 use Rattle.boundary.specs.Learning.{offerLeft, offerCall, candidatesLeft, candidatesCall, closeLeft, closeCall}
 use Rattle.boundary.proofs.Leaving.{refused-way, done-way}
-use Rattle.boundary.proofs.Calling.{number, answered}
+use Rattle.boundary.proofs.Calling.{number, answer-told}
 use Rattle.boundary.proofs.LearningKeeps.{offerLends, candidatesLends, closeLends, offer-keeps, candidates-keeps, close-keeps}
 
 -- header, answer and meter, then the slices
@@ -28,9 +29,10 @@ three a b c {x} ws ex ey ev =
     ∙ ap₂ (λ (z u : List ℕ). x ∷ z ∷ u ∷ ws) ey ev
 
 module _ (head answer meter slots postings : List ℕ) (h : Header) (read : h ≡ headerIn head) (m : Meter) (metered : m ≡ meterIn meter)
-    (w : Reply) where
+    (w : ReplyWords) where
   module _ (atoms found : List ℕ) (r : CandidatesResult) (p f : List ℕ)
-      (ends : candidatesEnd r slots p f ≡ candidates (lent h slots postings) atoms found m) (told : w ≡ candidatesReply (r .answer)) where
+      (ends : candidatesEnd r slots p f ≡ candidates (lent h slots postings) atoms found m)
+      (told : w ≡ replyWords (candidatesReply (r .answer))) where
     candidates-end : candidatesEnd r slots p f ≡ candidates (lent (headerIn head) slots postings) atoms found (meterIn meter)
     candidates-end = ends ∙ ap₂ (λ (x : Header) (y : Meter). candidates (lent x slots postings) atoms found y) read metered
 
@@ -48,15 +50,13 @@ module _ (head answer meter slots postings : List ℕ) (h : Header) (read : h �
     unfolding candidatesCall
     candidates-done x y v z ex ey ev =
         done-way candidatesLeft _ _ _ candidates-end _ (number w _ told) _ z
-        (three x y v (p ∷ f ∷ []) ex (answered w _ told y (r .ticks) ey) ev)
+        (three x y v (p ∷ f ∷ []) ex (answer-told w _ told y (r .ticks) ey) ev)
 
-  -- what was taken and what was evicted is the definition's own
   module _ (conditions outputs : List ℕ) (r : OfferResult) (s p : List ℕ)
-      (ends : offerEnd r s p (offer (lent h slots postings) conditions outputs m) ≡ offer (lent h slots postings) conditions outputs m)
-      (told : w ≡ offerReply (r .answer)) where
-    offer-end : offerEnd r s p (offer (lent h slots postings) conditions outputs m)
-        ≡ offer (lent (headerIn head) slots postings) conditions outputs (meterIn meter)
-    offer-end = ends ∙ ap₂ (λ (x : Header) (y : Meter). offer (lent x slots postings) conditions outputs y) read metered
+      (ends : offerEnd r s p ≡ offer (lent h slots postings) conditions outputs m .seen)
+      (told : w ≡ replyWords (offerReply (r .answer))) where
+    offer-end : offerEnd r s p ≡ offer (lent (headerIn head) slots postings) conditions outputs (meterIn meter) .seen
+    offer-end = ends ∙ ap₂ (λ (x : Header) (y : Meter). offer (lent x slots postings) conditions outputs y .seen) read metered
 
     pub offer-refused : (w .refusal ≡ 0 → ⊥) →
         left (w .refusal) (head ∷ answer ∷ meter ∷ s ∷ p ∷ []) ≡ offerCall head answer meter slots postings conditions outputs
@@ -71,10 +71,11 @@ module _ (head answer meter slots postings : List ℕ) (h : Header) (read : h �
     unfolding offerCall
     offer-done x y v z ex ey ev =
         done-way offerLeft _ _ _ offer-end _ (number w _ told) _ z
-        (three x y v (s ∷ p ∷ []) ex (answered w _ told y (r .ticks) ey) ev)
+        (three x y v (s ∷ p ∷ []) ex (answer-told w _ told y (r .ticks) ey) ev)
 
   module _ (held cut rows atoms : List ℕ) (r : CloseResult) (s p a b i j : List ℕ)
-      (ends : closedEnd r s p a b i j ≡ close (lent h slots postings) held cut rows atoms m) (told : w ≡ closeReply (r .answer)) where
+      (ends : closedEnd r s p a b i j ≡ close (lent h slots postings) held cut rows atoms m)
+      (told : w ≡ replyWords (closeReply (r .answer))) where
     close-end : closedEnd r s p a b i j ≡ close (lent (headerIn head) slots postings) held cut rows atoms (meterIn meter)
     close-end = ends ∙ ap₂ (λ (x : Header) (y : Meter). close (lent x slots postings) held cut rows atoms y) read metered
 
@@ -92,4 +93,4 @@ module _ (head answer meter slots postings : List ℕ) (h : Header) (read : h �
     unfolding closeCall
     close-done x y v z ex ey ev =
         done-way closeLeft _ _ _ close-end _ (number w _ told) _ z
-        (three x y v (s ∷ p ∷ a ∷ b ∷ i ∷ j ∷ []) ex (answered w _ told y (r .ticks) ey) ev)
+        (three x y v (s ∷ p ∷ a ∷ b ∷ i ∷ j ∷ []) ex (answer-told w _ told y (r .ticks) ey) ev)

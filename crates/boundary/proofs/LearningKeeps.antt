@@ -11,9 +11,11 @@ use Rattle.meter.specs.declared.Meter.{Meter}
 use Rattle.model.specs.Retention.{Outcome, Stops, Declines, Subsumes, Adds, canCapture}
 use Rattle.model.specs.Closing.{State, Turn, going, conflict, halted, closing}
 use Rattle.model.specs.Refusals.{Lent, refusal, accepts, ledgerIn}
-use Rattle.model.specs.Operations.{OfferEnd, CandidatesEnd, CloseEnd, offer, capture, unoffered, offerAnswer, fitsOffer, candidates}
+use Rattle.model.specs.Operations.{OfferEnd, Offered, CandidatesEnd, CloseEnd}
+use Rattle.model.specs.Operations.{offer, capture, unoffered, offerAnswer, fitsOffer, candidates}
 use Rattle.model.specs.Operations.{candidatesAnswer, close, closeEnd, regionOk}
-use Rattle.wire.specs.Replies.{offerReply, candidatesReply, closeReply}
+use Rattle.model.specs.Answers.{offerReply, candidatesReply}
+use Rattle.wire.specs.Replies.{replyWords}
 use Rattle.boundary.proofs.Leaving.{keeps}
 
 -- the slices that each writes
@@ -27,7 +29,7 @@ abbrev pub closeLends : CloseEnd → List (List ℕ)
 closeLends e = e .ledger .slots ∷ e .ledger .postings ∷ e .region .held ∷ e .region .cut ∷ e .rowScratch ∷ e .atomScratch ∷ []
 
 -- ---- no answer of an operation that was not refused has a refusal's number
-offered : (o : Outcome) → offerReply (offerAnswer o) .refusal ≡ 0
+offered : (o : Outcome) → replyWords (offerReply (offerAnswer o)) .refusal ≡ 0
 unfolding offerAnswer
 offered Stops = refl
 offered Declines = refl
@@ -38,7 +40,7 @@ taken : {E : Type 0} (result : E → ℕ) (b : Bool) (x y : E) → result x ≡ 
 taken result true x y p q = p
 taken result false x y p q = q
 
-searched : (o : Option (List ℕ)) → candidatesReply (candidatesAnswer o) .refusal ≡ 0
+searched : (o : Option (List ℕ)) → replyWords (candidatesReply (candidatesAnswer o)) .refusal ≡ 0
 unfolding candidatesAnswer
 searched none = refl
 searched (some ps) = refl
@@ -51,29 +53,29 @@ turned result (conflict s) f g h p q r = q s
 turned result (halted s) f g h p q r = r s
 
 -- ---- what is refused keeps what was lent
-pub offer-keeps : (s : Lent) (c o : List ℕ) (m : Meter) → (offerReply (offer s c o m .answer) .refusal ≡ 0 → ⊥)
-    → offerLends (offer s c o m) ≡ s .slots ∷ s .postings ∷ []
+pub offer-keeps : (s : Lent) (c o : List ℕ) (m : Meter) → (replyWords (offer s c o m .seen .answer) .refusal ≡ 0 → ⊥)
+    → offerLends (offer s c o m .seen) ≡ s .slots ∷ s .postings ∷ []
 unfolding offer capture unoffered
 offer-keeps s c o m =
-    keeps (λ (e : OfferEnd). offerReply (e .answer) .refusal) offerLends (s .slots ∷ s .postings ∷ [])
+    keeps (λ (e : Offered). replyWords (e .seen .answer) .refusal) (λ (e : Offered). offerLends (e .seen)) (s .slots ∷ s .postings ∷ [])
     (refusal (accepts s true ((fitsOffer (s .header .limits) (record { conditions = c; outputs = o }), 4) ∷ []))) _ _ (λ n. refl)
-    (taken (λ (e : OfferEnd). offerReply (e .answer) .refusal) (canCapture (ledgerIn s)) _ _ (offered _) refl)
+    (taken (λ (e : Offered). replyWords (e .seen .answer) .refusal) (canCapture (ledgerIn s)) _ _ (offered _) refl)
 
 pub candidates-keeps : (s : Lent) (atoms buffer : List ℕ) (m : Meter)
-    → (candidatesReply (candidates s atoms buffer m .answer) .refusal ≡ 0 → ⊥) →
+    → (replyWords (candidates s atoms buffer m .answer) .refusal ≡ 0 → ⊥) →
     candidatesLends (candidates s atoms buffer m) ≡ s .postings ∷ buffer ∷ []
 unfolding candidates
 candidates-keeps s atoms buffer m =
-    keeps (λ (e : CandidatesEnd). candidatesReply (e .answer) .refusal) candidatesLends (s .postings ∷ buffer ∷ [])
+    keeps (λ (e : CandidatesEnd). replyWords (e .answer) .refusal) candidatesLends (s .postings ∷ buffer ∷ [])
     (refusal (accepts s (eqb (length buffer) (s .header .limits .«tier_rows»)) [])) _ _ (λ n. refl) (searched _)
 
-pub close-keeps : (s : Lent) (held cut x y : List ℕ) (m : Meter) → (closeReply (close s held cut x y m .answer) .refusal ≡ 0 → ⊥) →
+pub close-keeps : (s : Lent) (held cut x y : List ℕ) (m : Meter) → (replyWords (close s held cut x y m .answer) .refusal ≡ 0 → ⊥) →
     closeLends (close s held cut x y m) ≡ s .slots ∷ s .postings ∷ held ∷ cut ∷ x ∷ y ∷ []
 unfolding close closeEnd
 close-keeps s held cut x y m =
-    keeps (λ (e : CloseEnd). closeReply (e .answer) .refusal) closeLends (s .slots ∷ s .postings ∷ held ∷ cut ∷ x ∷ y ∷ [])
+    keeps (λ (e : CloseEnd). replyWords (e .answer) .refusal) closeLends (s .slots ∷ s .postings ∷ held ∷ cut ∷ x ∷ y ∷ [])
     (refusal
     (accepts s (eqb (length x) (s .header .limits .«tier_rows») && eqb (length y) (s .header .limits .atoms))
     ((regionOk s held cut, 6) ∷ []))) _ _ (λ n. refl)
-    (turned (λ (e : CloseEnd). closeReply (e .answer) .refusal) (closing (ledgerIn s) (region held cut) m) _ _ _ (λ t. refl) (λ t. refl)
+    (turned (λ (e : CloseEnd). replyWords (e .answer) .refusal) (closing (ledgerIn s) (region held cut) m) _ _ _ (λ t. refl) (λ t. refl)
     (λ t. refl))

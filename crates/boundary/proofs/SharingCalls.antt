@@ -8,13 +8,14 @@ use Rattle.model.specs.declared.TransferResult.{TransferResult}
 use Rattle.model.specs.Operations.{TransferEnd, seed, deliver}
 use Rattle.contents.specs.Lent.{lent}
 use Rattle.transfers.specs.Ends.{transferEnd}
-use Rattle.wire.specs.declared.Reply.{Reply}
+use Rattle.wire.specs.declared.ReplyWords.{ReplyWords}
 use Rattle.wire.specs.Words.{headerIn, headerWords, meterIn, meterWords}
-use Rattle.wire.specs.Replies.{answerWords, transferReply}
+use Rattle.model.specs.Answers.{transferReply}
+use Rattle.wire.specs.Replies.{replyWords, answerWords}
 use Rattle.boundary.specs.Calls.{left}
 use Rattle.boundary.specs.Sharing.{seedLeft, seedCall, deliverLeft, deliverCall}
 use Rattle.boundary.proofs.Leaving.{refused-way, done-way}
-use Rattle.boundary.proofs.Calling.{number, answered}
+use Rattle.boundary.proofs.Calling.{number, answer-told}
 use Rattle.boundary.proofs.SharingKeeps.{seedLends, deliverLends, seed-keeps, deliver-keeps}
 
 -- both headers, answer and meter, then the slices
@@ -27,23 +28,24 @@ four a b c d {x} {y} ws ex ey ev eu =
 module _ (tier store meter tierSlots tierPostings storeSlots storePostings : List ℕ) (h : Header) (readTier : h ≡ headerIn tier)
     (g : Header) (readStore : g ≡ headerIn store)
     (m : Meter) (metered : m ≡ meterIn meter) where
-  read-seed : seed (lent h tierSlots tierPostings) (lent g storeSlots storePostings) m
-      ≡ seed (lent (headerIn tier) tierSlots tierPostings) (lent (headerIn store) storeSlots storePostings) (meterIn meter)
+  read-seed : seed (lent h tierSlots tierPostings) (lent g storeSlots storePostings) m .seen
+      ≡ seed (lent (headerIn tier) tierSlots tierPostings) (lent (headerIn store) storeSlots storePostings) (meterIn meter) .seen
   read-seed =
-      ap₂ (λ (x y : Header). seed (lent x tierSlots tierPostings) (lent y storeSlots storePostings) m) readTier readStore
-      ∙ ap (seed (lent (headerIn tier) tierSlots tierPostings) (lent (headerIn store) storeSlots storePostings)) metered
+      ap₂ (λ (x y : Header). seed (lent x tierSlots tierPostings) (lent y storeSlots storePostings) m .seen) readTier readStore
+      ∙ ap (λ (x : Meter). seed (lent (headerIn tier) tierSlots tierPostings) (lent (headerIn store) storeSlots storePostings) x .seen)
+      metered
 
-  read-deliver : deliver (lent h tierSlots tierPostings) (lent g storeSlots storePostings) m
-      ≡ deliver (lent (headerIn tier) tierSlots tierPostings) (lent (headerIn store) storeSlots storePostings) (meterIn meter)
+  read-deliver : deliver (lent h tierSlots tierPostings) (lent g storeSlots storePostings) m .seen
+      ≡ deliver (lent (headerIn tier) tierSlots tierPostings) (lent (headerIn store) storeSlots storePostings) (meterIn meter) .seen
   read-deliver =
-      ap₂ (λ (x y : Header). deliver (lent x tierSlots tierPostings) (lent y storeSlots storePostings) m) readTier readStore
-      ∙ ap (deliver (lent (headerIn tier) tierSlots tierPostings) (lent (headerIn store) storeSlots storePostings)) metered
+      ap₂ (λ (x y : Header). deliver (lent x tierSlots tierPostings) (lent y storeSlots storePostings) m .seen) readTier readStore
+      ∙ ap (λ (x : Meter). deliver (lent (headerIn tier) tierSlots tierPostings) (lent (headerIn store) storeSlots storePostings) x .seen)
+      metered
 
-  -- what was taken and what was evicted is the definition's own
-  module _ (answer : List ℕ) (w : Reply) (r : TransferResult) (told : w ≡ transferReply (r .answer)) where
+  module _ (answer : List ℕ) (w : ReplyWords) (r : TransferResult) (told : w ≡ replyWords (transferReply (r .answer))) where
     module _ (s p : List ℕ)
-        (ends : transferEnd r s p storeSlots storePostings (seed (lent h tierSlots tierPostings) (lent g storeSlots storePostings) m)
-        ≡ seed (lent h tierSlots tierPostings) (lent g storeSlots storePostings) m) where
+        (ends : transferEnd r s p storeSlots storePostings
+        ≡ seed (lent h tierSlots tierPostings) (lent g storeSlots storePostings) m .seen) where
       pub seed-refused : (w .refusal ≡ 0 → ⊥) →
           left (w .refusal) (tier ∷ store ∷ answer ∷ meter ∷ s ∷ p ∷ [])
           ≡ seedCall tier store answer meter tierSlots tierPostings storeSlots storePostings
@@ -58,11 +60,11 @@ module _ (tier store meter tierSlots tierPostings storeSlots storePostings : Lis
       unfolding seedCall
       seed-done x y v u z ex ey ev eu =
           done-way seedLeft _ _ _ (ends ∙ read-seed) _ (number w _ told) _ z
-          (four x y v u (s ∷ p ∷ []) ex ey (answered w _ told v (r .ticks) ev) eu)
+          (four x y v u (s ∷ p ∷ []) ex ey (answer-told w _ told v (r .ticks) ev) eu)
 
     module _ (s i j : List ℕ)
-        (ends : transferEnd r s tierPostings i j (deliver (lent h tierSlots tierPostings) (lent g storeSlots storePostings) m)
-        ≡ deliver (lent h tierSlots tierPostings) (lent g storeSlots storePostings) m) where
+        (ends : transferEnd r s tierPostings i j
+        ≡ deliver (lent h tierSlots tierPostings) (lent g storeSlots storePostings) m .seen) where
       pub deliver-refused : (w .refusal ≡ 0 → ⊥) →
           left (w .refusal) (tier ∷ store ∷ answer ∷ meter ∷ s ∷ i ∷ j ∷ [])
           ≡ deliverCall tier store answer meter tierSlots tierPostings storeSlots storePostings
@@ -78,4 +80,4 @@ module _ (tier store meter tierSlots tierPostings storeSlots storePostings : Lis
       unfolding deliverCall
       deliver-done x y v u z ex ey ev eu =
           done-way deliverLeft _ _ _ (ends ∙ read-deliver) _ (number w _ told) _ z
-          (four x y v u (s ∷ i ∷ j ∷ []) ex ey (answered w _ told v (r .ticks) ev) eu)
+          (four x y v u (s ∷ i ∷ j ∷ []) ex ey (answer-told w _ told v (r .ticks) ev) eu)

@@ -5,7 +5,7 @@ use Prim.Native.Nat.{ℕ, zero, suc}
 use Rattle.model.specs.Operations.{MakeEnd, BeginEnd, HitEnd, DeduceEnd, NextEnd, DecideEnd, make, begin, hit, deduce, nextOutput, decide}
 use Rattle.contents.specs.Lent.{lent}
 use Rattle.wire.specs.Words.{flagIn, limitsIn, headerIn, headerWords, meterIn, meterWords, cursorIn, cursorWords}
-use Rattle.wire.specs.Replies.{answerWords, makeReply, madeWords, beginReply, hitReply, deduceReply, nextReply, decideReply}
+use Rattle.wire.specs.Replies.{replyWords, answerWords, madeWords}
 
 -- the result, and the words of each slice that the call may write
 pub record Left : Type 0 where
@@ -26,8 +26,8 @@ leaves old l = unlessRefused old (l .result) (l .words)
 -- ---- Make
 abbrev pub makeLeft : List ℕ → MakeEnd → Left
 makeLeft head e =
-    left (makeReply (e .answer) .refusal)
-    (madeWords (e .answer) head ∷ answerWords (makeReply (e .answer)) (e .ticks) ∷ e .slots ∷ e .postings ∷ [])
+    left (replyWords (e .answer) .refusal)
+    (madeWords (e .header) head ∷ answerWords (replyWords (e .answer)) (e .ticks) ∷ e .slots ∷ e .postings ∷ [])
 
 unfoldable pub makeCall : List ℕ → ℕ → List ℕ → List ℕ → List ℕ → List ℕ → Left
 makeCall limits number head answer slots postings =
@@ -36,8 +36,8 @@ makeCall limits number head answer slots postings =
 -- ---- Begin
 abbrev pub beginLeft : BeginEnd → Left
 beginLeft e =
-    left (beginReply (e .answer) .refusal)
-    (headerWords (e .ledger .header) ∷ answerWords (beginReply (e .answer)) (e .ticks) ∷ [])
+    left (replyWords (e .answer) .refusal)
+    (headerWords (e .ledger .header) ∷ answerWords (replyWords (e .answer)) (e .ticks) ∷ [])
 
 unfoldable pub beginCall : List ℕ → List ℕ → List ℕ → List ℕ → Left
 beginCall head answer slots postings =
@@ -46,8 +46,8 @@ beginCall head answer slots postings =
 -- ---- Hit
 abbrev pub hitLeft : HitEnd → Left
 hitLeft e =
-    left (hitReply (e .answer) .refusal)
-    (headerWords (e .ledger .header) ∷ answerWords (hitReply (e .answer)) (e .ticks) ∷ e .ledger .slots ∷ [])
+    left (replyWords (e .answer) .refusal)
+    (headerWords (e .ledger .header) ∷ answerWords (replyWords (e .answer)) (e .ticks) ∷ e .ledger .slots ∷ [])
 
 unfoldable pub hitCall : List ℕ → List ℕ → List ℕ → List ℕ → ℕ → Left
 hitCall head answer slots postings p =
@@ -56,8 +56,8 @@ hitCall head answer slots postings p =
 -- ---- Deduce
 abbrev pub deduceLeft : DeduceEnd → Left
 deduceLeft e =
-    left (deduceReply (e .answer) .refusal)
-    (answerWords (deduceReply (e .answer)) (e .ticks) ∷ meterWords (e .meter) ∷ [])
+    left (replyWords (e .answer) .refusal)
+    (answerWords (replyWords (e .answer)) (e .ticks) ∷ meterWords (e .meter) ∷ [])
 
 unfoldable pub deduceCall : List ℕ → List ℕ → List ℕ → List ℕ → List ℕ → ℕ → List ℕ → List ℕ → Left
 deduceCall head answer meter slots postings p held cut =
@@ -67,8 +67,8 @@ deduceCall head answer meter slots postings p held cut =
 -- ---- Next output
 abbrev pub outputLeft : NextEnd → Left
 outputLeft e =
-    left (nextReply (e .answer) .refusal)
-    (answerWords (nextReply (e .answer)) (e .ticks) ∷ meterWords (e .meter) ∷ cursorWords (e .cursor) ∷ [])
+    left (replyWords (e .answer) .refusal)
+    (answerWords (replyWords (e .answer)) (e .ticks) ∷ meterWords (e .meter) ∷ cursorWords (e .cursor) ∷ [])
 
 unfoldable pub outputCall : List ℕ → List ℕ → List ℕ → List ℕ → List ℕ → List ℕ → ℕ → List ℕ → List ℕ → Left
 outputCall head answer meter cursor slots postings p held cut =
@@ -78,8 +78,8 @@ outputCall head answer meter cursor slots postings p held cut =
 -- ---- Decide
 abbrev pub decideLeft : DecideEnd → Left
 decideLeft e =
-    left (decideReply (e .answer) .refusal)
-    (answerWords (decideReply (e .answer)) (e .ticks) ∷ e .region .held ∷ e .region .cut ∷ [])
+    left (replyWords (e .answer) .refusal)
+    (answerWords (replyWords (e .answer)) (e .ticks) ∷ e .region .held ∷ e .region .cut ∷ [])
 
 unfoldable pub decideCall : List ℕ → ℕ → List ℕ → List ℕ → ℕ → ℕ → Left
 decideCall answer atoms held cut atom value =

@@ -5,15 +5,15 @@ use Prim.Native.Nat.{ℕ}
 use Rattle.model.specs.Operations.{OfferEnd, CandidatesEnd, CloseEnd, offer, candidates, close}
 use Rattle.contents.specs.Lent.{lent}
 use Rattle.wire.specs.Words.{headerIn, headerWords, meterIn, meterWords}
-use Rattle.wire.specs.Replies.{answerWords, offerReply, candidatesReply, closeReply}
+use Rattle.wire.specs.Replies.{replyWords, answerWords}
 use Rattle.boundary.specs.Calls.{Left, left, leaves}
 
 -- ---- Offer
 abbrev pub offerLeft : OfferEnd → Left
 offerLeft e =
-    left (offerReply (e .answer) .refusal)
+    left (replyWords (e .answer) .refusal)
     (headerWords (e .ledger .header)
-    ∷ answerWords (offerReply (e .answer)) (e .ticks)
+    ∷ answerWords (replyWords (e .answer)) (e .ticks)
     ∷ meterWords (e .meter)
     ∷ e .ledger .slots
     ∷ e .ledger .postings
@@ -22,14 +22,14 @@ offerLeft e =
 unfoldable pub offerCall : List ℕ → List ℕ → List ℕ → List ℕ → List ℕ → List ℕ → List ℕ → Left
 offerCall head answer meter slots postings conditions outputs =
     leaves (head ∷ answer ∷ meter ∷ slots ∷ postings ∷ [])
-    (offerLeft (offer (lent (headerIn head) slots postings) conditions outputs (meterIn meter)))
+    (offerLeft (offer (lent (headerIn head) slots postings) conditions outputs (meterIn meter) .seen))
 
 -- ---- Candidates
 abbrev pub candidatesLeft : CandidatesEnd → Left
 candidatesLeft e =
-    left (candidatesReply (e .answer) .refusal)
+    left (replyWords (e .answer) .refusal)
     (headerWords (e .ledger .header)
-    ∷ answerWords (candidatesReply (e .answer)) (e .ticks)
+    ∷ answerWords (replyWords (e .answer)) (e .ticks)
     ∷ meterWords (e .meter)
     ∷ e .ledger .postings
     ∷ e .found
@@ -43,9 +43,9 @@ candidatesCall head answer meter slots postings atoms found =
 -- ---- Close
 abbrev pub closeLeft : CloseEnd → Left
 closeLeft e =
-    left (closeReply (e .answer) .refusal)
+    left (replyWords (e .answer) .refusal)
     (headerWords (e .ledger .header)
-    ∷ answerWords (closeReply (e .answer)) (e .ticks)
+    ∷ answerWords (replyWords (e .answer)) (e .ticks)
     ∷ meterWords (e .meter)
     ∷ e .ledger .slots
     ∷ e .ledger .postings

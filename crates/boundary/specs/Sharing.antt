@@ -6,16 +6,16 @@ use Prim.Native.Nat.{ℕ}
 use Rattle.model.specs.Operations.{TransferEnd, seed, deliver}
 use Rattle.contents.specs.Lent.{lent}
 use Rattle.wire.specs.Words.{headerIn, headerWords, meterIn, meterWords}
-use Rattle.wire.specs.Replies.{answerWords, transferReply}
+use Rattle.wire.specs.Replies.{replyWords, answerWords}
 use Rattle.boundary.specs.Calls.{Left, left, leaves}
 
 -- ---- Seed: the tier takes rows, and the store counts them
 abbrev pub seedLeft : TransferEnd → Left
 seedLeft e =
-    left (transferReply (e .answer) .refusal)
+    left (replyWords (e .answer) .refusal)
     (headerWords (e .tier .header)
     ∷ headerWords (e .store .header)
-    ∷ answerWords (transferReply (e .answer)) (e .ticks)
+    ∷ answerWords (replyWords (e .answer)) (e .ticks)
     ∷ meterWords (e .meter)
     ∷ e .tier .slots
     ∷ e .tier .postings
@@ -24,15 +24,15 @@ seedLeft e =
 unfoldable pub seedCall : List ℕ → List ℕ → List ℕ → List ℕ → List ℕ → List ℕ → List ℕ → List ℕ → Left
 seedCall tier store answer meter tierSlots tierPostings storeSlots storePostings =
     leaves (tier ∷ store ∷ answer ∷ meter ∷ tierSlots ∷ tierPostings ∷ [])
-    (seedLeft (seed (lent (headerIn tier) tierSlots tierPostings) (lent (headerIn store) storeSlots storePostings) (meterIn meter)))
+    (seedLeft (seed (lent (headerIn tier) tierSlots tierPostings) (lent (headerIn store) storeSlots storePostings) (meterIn meter) .seen))
 
 -- ---- Deliver: the store takes rows, and the tier notes them as delivered
 abbrev pub deliverLeft : TransferEnd → Left
 deliverLeft e =
-    left (transferReply (e .answer) .refusal)
+    left (replyWords (e .answer) .refusal)
     (headerWords (e .tier .header)
     ∷ headerWords (e .store .header)
-    ∷ answerWords (transferReply (e .answer)) (e .ticks)
+    ∷ answerWords (replyWords (e .answer)) (e .ticks)
     ∷ meterWords (e .meter)
     ∷ e .tier .slots
     ∷ e .store .slots
@@ -42,4 +42,5 @@ deliverLeft e =
 unfoldable pub deliverCall : List ℕ → List ℕ → List ℕ → List ℕ → List ℕ → List ℕ → List ℕ → List ℕ → Left
 deliverCall tier store answer meter tierSlots tierPostings storeSlots storePostings =
     leaves (tier ∷ store ∷ answer ∷ meter ∷ tierSlots ∷ storeSlots ∷ storePostings ∷ [])
-    (deliverLeft (deliver (lent (headerIn tier) tierSlots tierPostings) (lent (headerIn store) storeSlots storePostings) (meterIn meter)))
+    (deliverLeft
+    (deliver (lent (headerIn tier) tierSlots tierPostings) (lent (headerIn store) storeSlots storePostings) (meterIn meter) .seen))

@@ -138,7 +138,8 @@ pub extern "C" fn ledger_deduce(
         meter_of(meter),
     );
     let a = deduced.answer;
-    let reply = deduce_reply(a);
+    let said = deduced.deduction;
+    let reply = deduce_reply(a, said);
     if reply.refusal != 0 {
         return reply.refusal;
     }

@@ -2,9 +2,7 @@
 // numbered from 0 on in the order of include/ledger.h. Nothing is tested here: whatever the words are, they are lent as they are.
 //
 // `words` are the arrays and numbers of a call, one behind the other: the header (the tier's in `seed` and `deliver`; its first ten are the
-// limits of
-// `make`, its first the atoms of `decide`), the store's header, the answer, the meter, the cursor,
-// the number of `make` or a
+// limits of `make`, its first the atoms of `decide`), the store's header, the answer, the meter, the cursor, the number of `make` or a
 // position, the atom and the value of `decide`.
 //
 // Beside slots and postings are lent, as `first` and `second`: conditions and outputs (`offer`), atoms and rows found (`candidates`), the
@@ -24,24 +22,19 @@ use boundary::ledger_seed;
 use lists::copy;
 use wire::ANSWER_WORDS;
 use wire::CURSOR_WORDS;
+use wire::HEAD_ATOMS_AT;
 use wire::HEADER_WORDS;
 use wire::LIMITS_WORDS;
 use wire::METER_WORDS;
 
 // The limits at the head of a header.
-fn limits_in(head: &[u64; HEADER_WORDS]) -> [u64; LIMITS_WORDS] {
-    [
-        head[0],
-        head[1],
-        head[2],
-        head[3],
-        head[4],
-        head[5],
-        head[6],
-        head[7],
-        head[8],
-        head[9],
-    ]
+fn limits_in(head: &[u64]) -> [u64; LIMITS_WORDS] {
+    let mut limits = [0u64; LIMITS_WORDS];
+    if head.len() < LIMITS_WORDS {
+        return limits;
+    }
+    copy(&head[0..LIMITS_WORDS], &mut limits);
+    limits
 }
 
 // `make`, `begin`, `hit`, and `offer` for any other number.
@@ -162,7 +155,14 @@ fn operate(
             first,
             second,
         ),
-        5 => ledger_decide(answer, head[0], first, second, given[1], given[2]),
+        5 => ledger_decide(
+            answer,
+            head[HEAD_ATOMS_AT],
+            first,
+            second,
+            given[1],
+            given[2],
+        ),
         7 => ledger_candidates(head, answer, meter, slots, postings, first, second),
         8 => ledger_close(
             head,

@@ -5,12 +5,12 @@ use mathlib.Core.List.{List, [], _∷_}
 use mathlib.Core.Option.{none, some}
 use Prim.Native.Nat.{ℕ, suc, _≤_}
 use native.Mathlib.Omega.{arith}
-use lib.Dec.{eqb, leb}
+use lib.Dec.{eqb}
 use lib.ListN.{length}
 use borrow.Author.Tests.{eq-eqb, ne-eqb, eqb-true}
-use Rattle.lists.specs.Lists.{all, zeroed}
+use Rattle.lists.specs.Lists.{zeroed}
 use Rattle.lists.proofs.Pads.{zeroed-cong}
-use Rattle.lists.proofs.Bools.{T-true, T-of, and-both, and-yes}
+use Rattle.lists.proofs.Bools.{T-true, T-of, and-both}
 use Rattle.words.specs.Region.{isRegion, region}
 use Rattle.meter.specs.declared.Meter.{Meter}
 use Rattle.meter.specs.Meter.{made}
@@ -18,25 +18,23 @@ use Rattle.model.specs.declared.LearningLimits.{LearningLimits}
 use Rattle.model.specs.declared.Header.{Header}
 use Rattle.model.specs.declared.CloseAnswer.{CloseAnswer}
 use Rattle.model.specs.declared.CloseAnswer.the-variants as answer
-use Rattle.model.specs.Records.{Entry, isRow, withFull}
-use Rattle.model.specs.Slots.{slotsOf, entriesIn}
+use Rattle.model.specs.Records.{withFull}
 use Rattle.model.specs.Postings.{filed}
-use Rattle.model.specs.Refusals.{Lent, refusal, accepts, lengthsOk, entryOk, ledgerIn, lentOf}
+use Rattle.model.specs.Refusals.{Lent, refusal, accepts, lengthsOk, ledgerIn}
+use Rattle.model.specs.Answers.{closeReply}
 use Rattle.model.specs.Operations.{CloseEnd, closeEnd, close, regionOk}
 use Rattle.model.specs.Closing.{State, Turn, going, conflict, halted, rounds, closing}
 use Rattle.model.proofs.Priority.Steps.{refusal-cons}
-use Rattle.tier.specs.Tier.{tierOf}
-use Rattle.model.proofs.Slots.{entries-length}
+use Rattle.slots.proofs.Holding.{stands-few}
 use Rattle.contents.specs.Lent.{lent, refusedBy}
-use Rattle.contents.specs.Accepted.{Accepted}
 use Rattle.contents.proofs.Accepting.{accepted, accept-refused, accept-passed}
 use Rattle.operations.proofs.Tests.{all-passed, region-no, region-yes}
-use Rattle.retain_keep.proofs.Holding.{held, lent-entries}
+use Rattle.contents.proofs.Lending.{stands-lent}
 use Rattle.slots.specs.Layout.{rowsIn}
 use Rattle.close_publish.specs.declared.Flow.{Flow}
 use Rattle.close_publish.specs.declared.Flow.the-variants.{Continues, Conflict, Stopped}
 use Rattle.close_rounds.specs.declared.RoundEnd.{RoundEnd}
-use Rattle.close_publish.specs.Turns.{ledgerOf, endedAs}
+use Rattle.close_publish.specs.Turns.{endedAs}
 use Rattle.close_rounds.specs.Running.{Running}
 use Rattle.close_rounds.specs.Rounds.{stateIn, roundTurn, Under}
 use Rattle.close.specs.Ends.{scratchOk, answerOf, closedEnd}
@@ -49,38 +47,6 @@ module _ (l : LearningLimits) (x y : List ℕ) where
 
   pub scratch-yes : length x ≡ l .«tier_rows» → eqb (length y) (l .atoms) ≡ scratchOk l x y
   scratch-yes e = sym (ap (λ (b : Bool). b && eqb (length y) (l .atoms)) (eq-eqb (length x) (l .«tier_rows») e))
-
--- ---- an accepted ledger and a region run
-entries-rows : (h : Header) (es : List Entry) → all (entryOk h) es ≡ true → all (λ e. isRow (h .limits .atoms) (e .row)) es ≡ true
-unfolding all entryOk
-entries-rows h [] e = refl
-entries-rows h (x ∷ xs) e =
-    let s = and-both (entryOk h x) (all (entryOk h) xs) e in
-    let r = and-both (isRow (h .limits .atoms) (x .row)) (leb 1 (x .born) && leb (x .born) (h .born)) (s .0) in
-    and-yes (isRow (h .limits .atoms) (x .row)) (all (λ e. isRow (h .limits .atoms) (e .row)) xs) (r .0) (entries-rows h xs (s .1))
-
-runs-accepted : (h : Header) (slots postings held₀ cut : List ℕ) → Accepted h slots postings
-    → isRegion (h .limits .atoms) (region held₀ cut) ≡ true → Running h slots postings held₀ cut
-runs-accepted h slots postings held₀ cut a e = record {
-  stands = a .stands;
-  standing = record {
-    atoms = a .stands .atoms;
-    holds = held h slots postings a;
-    each = T-of (entries-rows h (entriesIn (h .rows) slots) (a .entries));
-    same = refl;
-    region = T-of e;
-  };
-}
-
--- ---- words that run are those of their ledger
-pub runs-lent : (h : Header) (slots postings held cut : List ℕ) → Running h slots postings held cut
-    → lent h slots postings ≡ lentOf (ledgerOf h (h .rows) slots)
-unfolding rowsIn
-runs-lent h slots postings held cut r =
-    let es = entriesIn (h .rows) slots in
-    let t : tierOf slots ≡ h .limits .«tier_rows» = let l = r .stands .long in omega arith in
-    ap₂ (λ (x y : List ℕ). lent h x y) (sym (r .standing .holds .same) ∙ ap (λ (n : ℕ). slotsOf n es) t) (r .stands .filing)
-    ∙ lent-entries h es (entries-length (h .rows) slots)
 
 module _ (h : Header) (slots postings held₀ cut x y : List ℕ) (m : Meter) where
   abbrev s : Lent
@@ -134,14 +100,14 @@ module _ (h : Header) (slots postings held₀ cut x y : List ℕ) (m : Meter) wh
 
     pub close-runs : isRegion (h .limits .atoms) (region held₀ cut) ≡ true → Running (withFull h true) slots postings held₀ cut
     close-runs q =
-        let r = runs-accepted h slots postings held₀ cut (accepted h slots postings others ((regionOk s held₀ cut, 6) ∷ []) e) q in
-        runs-under h (withFull h true) full-under slots postings held₀ cut postings r
-        (r .stands .filing ∙ ap (λ (b : Bool). filed (h .limits .«tier_rows») b (rowsIn (h .rows) slots)) (sym full-stale))
+        let a = accepted h slots postings others ((regionOk s held₀ cut, 6) ∷ []) e in
+        runs-under h (withFull h true) full-under slots postings held₀ cut postings (record { stands = a .stands; region = T-of q })
+        (a .stands .filing ∙ ap (λ (b : Bool). filed (h .limits .«tier_rows») b (rowsIn (h .rows) slots)) (sym full-stale))
 
     pub close-room : withFull h true .rows ≤ length x
     unfolding withFull
     close-room =
-        let l = accepted h slots postings others ((regionOk s held₀ cut, 6) ∷ []) e .stands .few in
+        let l = stands-few (accepted h slots postings others ((regionOk s held₀ cut, 6) ∷ []) e .stands) in
         let n = scratches .0 in
         omega arith
 
@@ -179,11 +145,11 @@ module _ (h : Header) (slots postings held₀ cut x y : List ℕ) (m : Meter) wh
         → (z : CloseAnswer) (k : ℕ) → z ≡ answerOf (r .flow) → k ≡ made m (r .meter)
         → closedEnd (record { answer = z; header = r .header; meter = r .meter; ticks = k }) slots′ postings′ held′ cut′ x′ y′
         ≡ close s held₀ cut x y m
-    unfolding closeEnd
+    unfolding closeEnd ledgerIn
     close-done r slots′ postings′ held′ cut′ x₁ y₁ x′ y′ t w a b c d z k f g =
         ap₂ (λ (z : CloseAnswer) (k : ℕ). closedEnd (record { answer = z; header = r .header; meter = r .meter; ticks = k }) slots′
         postings′ held′ cut′ x′ y′) f g
-        ∙ ap₂ (λ (l : Lent) (z : List ℕ × List ℕ). ended l (z .0) (z .1)) (runs-lent (r .header) slots′ postings′ held′ cut′ w)
+        ∙ ap₂ (λ (l : Lent) (z : List ℕ × List ℕ). ended l (z .0) (z .1)) (stands-lent (r .header) slots′ postings′ (w .stands))
         (ap₂ (λ (u v : List ℕ). (u, v)) (c ∙ zeroed-cong x₁ x a) (d ∙ zeroed-cong y₁ y b))
         ∙ sym (ended-is (r .flow) (stateIn (r .header) slots′ held′ cut′ (r .meter)))
         ∙ ap finished (t ∙ sym closing-is) ∙ sym close-is
@@ -191,7 +157,7 @@ module _ (h : Header) (slots postings held₀ cut x y : List ℕ) (m : Meter) wh
         ended : Lent → List ℕ → List ℕ → CloseEnd
         ended l u v =
             record {
-              answer = answerOf (r .flow);
+              answer = closeReply (answerOf (r .flow));
               ledger = l;
               region = region held′ cut′;
               rowScratch = u;

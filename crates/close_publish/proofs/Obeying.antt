@@ -1,11 +1,13 @@
 -- One row read in a closing, by the ways that it ends. Assumes nothing.
 use mathlib.Core.Path.{_≡_, refl, sym, ap, ap₂, _∙_, subst}
 use mathlib.Core.Logic.{inl, inr}
+use mathlib.Core.Bool.{true, false}
 use mathlib.Core.List.{List, [], _∷_}
 use Prim.Native.Nat.{ℕ, suc, _+_, _-_, _*_, _<_}
 use native.Mathlib.Omega.{arith}
 use types.Run.{OneOf}
 use denote.Enum.Declared.{tagOf}
+use lib.Dec.{T}
 use lib.ListN.{length, getD, take, drop}
 use Rattle.words.specs.Region.{region}
 use Rattle.meter.specs.declared.Meter.{Meter}
@@ -15,17 +17,16 @@ use Rattle.meter.specs.Meter.{ticks}
 use Rattle.model.specs.declared.Header.{Header}
 use Rattle.model.specs.declared.Deduction.{Deduction}
 use Rattle.model.specs.declared.Deduction.the-variants.{Nothing, Force, Require}
-use Rattle.model.specs.declared.DeduceAnswer.the-variants as deduce-answer
-use Rattle.model.specs.declared.DeduceResult.{DeduceResult}
 use Rattle.model.specs.Records.{Row, Entry, Ledger, rowAt, slotWords}
 use Rattle.model.specs.Slots.{rowIn}
 use Rattle.model.specs.Deduction.{deduction, deductionTicks, startCursor}
 use Rattle.model.specs.Closing.{State, Turn, going, halted, withMeter, hitAt, counted, decideOn, publish, obey, act}
 use Rattle.model.specs.declared.Literal.{Literal}
 use Rattle.model.proofs.Deduction.{the-type}
-use Rattle.model.proofs.DeduceAnswer as answer
+use Rattle.row_deduce.specs.declared.Deduced.{Deduced}
 use Rattle.row_deduce.specs.Walks.{deduced}
-use Rattle.tier.specs.Tier.{Held, hitWords}
+use Rattle.slots.specs.Layout.{Held}
+use Rattle.tier.specs.Tier.{hitWords}
 use Rattle.slots.proofs.Rows.{rows-at, slot-code}
 use Rattle.close_publish.specs.Turns.{ledgerOf, state, turned, follow}
 use Rattle.close_publish.specs.declared.Ended.{Ended}
@@ -59,7 +60,7 @@ unfolding obey
 obey-nothing n p r d s e = sym (ap (λ (d : Deduction). obey n p r d s) e)
 
 -- ---- the deduction
-module _ (n p : ℕ) (l : Ledger) (held cut : List ℕ) (m : Meter) (r : Row) (e : rowAt p l ≡ r) (f : DeduceResult) where
+module _ (n p : ℕ) (l : Ledger) (held cut : List ℕ) (m : Meter) (r : Row) (e : rowAt p l ≡ r) (f : Deduced) where
   abbrev told : Deduction
   told = deduction (region held cut) r
 
@@ -77,42 +78,32 @@ module _ (n p : ℕ) (l : Ledger) (held cut : List ℕ) (m : Meter) (r : Row) (e
         | Ticked k ↦ obey n p r (deduction (region held cut) r) (state l held cut k)
       ]) e
 
-  no-stop : (d : Deduction) → OneOf (0 ∷ 1 ∷ []) (tagOf answer.the-type (deduce-answer.Deduced d)) → ⊥
-  no-stop d (inl e) = omega arith
-  no-stop d (inr e) = omega arith
-
-  said-is : (d : Deduction) → f .answer ≡ deduce-answer.Deduced d → f .answer ≡ deduce-answer.Deduced told → d ≡ told
-  said-is d a b = cc
-
-  pub act-stopped : f ≡ deduced told m tick → OneOf (0 ∷ 1 ∷ []) (tagOf answer.the-type (f .answer))
-      → halted (state l held cut (f .meter)) ≡ act n p (state l held cut m)
+  pub act-stopped : f ≡ deduced told m tick → f .stopped ≡ true → halted (state l held cut (f .meter)) ≡ act n p (state l held cut m)
   unfolding by-tick
   act-stopped q o = go tick refl q
     where
       go : (t : Tick) → tick ≡ t → f ≡ deduced told m t → halted (state l held cut (f .meter)) ≡ act n p (state l held cut m)
-      go (Stopped k) u v = ap (λ (x : DeduceResult). halted (state l held cut (x .meter))) v ∙ sym (act-is ∙ ap by-tick u)
-      go (Ticked k) u v = absurd (no-stop told (subst (λ (x : DeduceResult). OneOf (0 ∷ 1 ∷ []) (tagOf answer.the-type (x .answer))) v o))
+      go (Stopped k) u v = ap (λ (x : Deduced). halted (state l held cut (x .meter))) v ∙ sym (act-is ∙ ap by-tick u)
+      go (Ticked k) u v = let z : true ≡ false = sym o ∙ ap (λ (x : Deduced). x .stopped) v in absurd (subst T z tt)
 
-  act-said : f ≡ deduced told m tick → (d : Deduction) → f .answer ≡ deduce-answer.Deduced d
-      → obey n p r d (state l held cut (f .meter)) ≡ act n p (state l held cut m)
+  act-said : f ≡ deduced told m tick → f .stopped ≡ false
+      → obey n p r (f .deduction) (state l held cut (f .meter)) ≡ act n p (state l held cut m)
   unfolding by-tick
-  act-said q d a = go tick refl q
+  act-said q o = go tick refl q
     where
-      go : (t : Tick) → tick ≡ t → f ≡ deduced told m t → obey n p r d (state l held cut (f .meter)) ≡ act n p (state l held cut m)
-      go (Stopped k) u v =
-          absurd (let z : deduce-answer.Stopped ≡ deduce-answer.Deduced d = sym (ap (λ (x : DeduceResult). x .answer) v) ∙ a in
-          let y : _≡_ {A = ℕ} 0 1 = cc in omega arith)
+      go : (t : Tick) → tick ≡ t → f ≡ deduced told m t
+          → obey n p r (f .deduction) (state l held cut (f .meter)) ≡ act n p (state l held cut m)
+      go (Stopped k) u v = let z : true ≡ false = sym (ap (λ (x : Deduced). x .stopped) v) ∙ o in absurd (subst T z tt)
       go (Ticked k) u v =
-          ap₂ (λ (x : Deduction) (y : Meter). obey n p r x (state l held cut y)) (said-is d a (ap (λ (x : DeduceResult). x .answer) v))
-          (ap (λ (x : DeduceResult). x .meter) v)
+          ap (λ (x : Deduced). obey n p r (x .deduction) (state l held cut (x .meter))) v
           ∙ sym (act-is ∙ ap by-tick u)
 
-  pub act-nothing : f ≡ deduced told m tick → (d : Deduction) → f .answer ≡ deduce-answer.Deduced d → d ≡ Nothing
+  pub act-nothing : f ≡ deduced told m tick → f .stopped ≡ false → f .deduction ≡ Nothing
       → going (state l held cut (f .meter)) ≡ act n p (state l held cut m)
-  act-nothing q d a z = obey-nothing n p r d (state l held cut (f .meter)) z ∙ act-said q d a
+  act-nothing q o z = obey-nothing n p r (f .deduction) (state l held cut (f .meter)) z ∙ act-said q o
 
 -- ---- by the words
-module _ (n rows p : ℕ) (slots held cut : List ℕ) (m : Meter) (k : Held rows slots) (i : p < rows) where
+module _ (n rows p : ℕ) (slots held cut : List ℕ) (m : Meter) (k : Held n rows slots) (i : p < rows) where
   abbrev partOf : List ℕ → List ℕ
   partOf ws = take ((slotWords * p + slotWords) - slotWords * p) (drop (slotWords * p) ws)
 
@@ -135,14 +126,15 @@ module _ (n rows p : ℕ) (slots held cut : List ℕ) (m : Meter) (k : Held rows
   hit-counted h x = ap (λ (es : List Entry). state (record { header = h; entries = es }) held cut x) (hit-entries rows p slots k i)
 
   -- the hit first, then what the row says
-  pub act-follows : (f : DeduceResult) → f ≡ deduced (deduction (region held cut) row) m (ticks (deductionTicks (region held cut) row) m)
-      → (d : Deduction) → f .answer ≡ deduce-answer.Deduced d → OneOf (1 ∷ 2 ∷ []) (tagOf the-type d)
+  pub act-follows : (f : Deduced) → f ≡ deduced (deduction (region held cut) row) m (ticks (deductionTicks (region held cut) row) m)
+      → f .stopped ≡ false → OneOf (1 ∷ 2 ∷ []) (tagOf the-type (f .deduction))
       → (slots′ : List ℕ) → slots′ ≡ hitWords p slots → (g : Ended) (held′ cut′ : List ℕ)
-      → ((l : Ledger) → turned g l held′ cut′ ≡ follow n (rowIn (partOf slots′)) d (state l held cut (f .meter)))
+      → ((l : Ledger) → turned g l held′ cut′ ≡ follow n (rowIn (partOf slots′)) (f .deduction) (state l held cut (f .meter)))
       → (h : Header) → turned g (ledgerOf h rows slots′) held′ cut′ ≡ act n p (state (ledgerOf h rows slots) held cut m)
-  act-follows f q d a o slots′ e g held′ cut′ w h =
+  act-follows f q a o slots′ e g held′ cut′ w h =
       w (ledgerOf h rows slots′)
-      ∙ ap₂ (λ (x : Row) (y : List ℕ). follow n x d (state (ledgerOf h rows y) held cut (f .meter)))
+      ∙ ap₂ (λ (x : Row) (y : List ℕ). follow n x (f .deduction) (state (ledgerOf h rows y) held cut (f .meter)))
       (ap (λ (ws : List ℕ). rowIn (partOf ws)) e ∙ hit-part) e
-      ∙ ap (follow n row d) (hit-counted h (f .meter)) ∙ obey-follow n p row d (state (ledgerOf h rows slots) held cut (f .meter)) o
-      ∙ act-said n p (ledgerOf h rows slots) held cut m row (part-row h) f q d a
+      ∙ ap (follow n row (f .deduction)) (hit-counted h (f .meter))
+      ∙ obey-follow n p row (f .deduction) (state (ledgerOf h rows slots) held cut (f .meter)) o
+      ∙ act-said n p (ledgerOf h rows slots) held cut m row (part-row h) f q a

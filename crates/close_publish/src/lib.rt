@@ -13,7 +13,6 @@ ghost use Rattle.slots.specs.Layout.{Stored, rowsIn};
 ghost use Rattle.close_publish.specs.Turns.{state, turned, ledgerOf, follow};
 ghost use Rattle.close_publish.specs.Standing.{Standing};
 use meter::Meter;
-use model::DeduceAnswer;
 use model::Deduction;
 use model::NextAnswer;
 use model::OutputCursor;
@@ -146,14 +145,14 @@ pub fn act(
     let a = SLOT_WORDS * position;
     let e = a + SLOT_WORDS;
     let found = deduction(&slots[a..e], held, cut, work);
-    let answer = found.answer;
+    let said = found.deduction;
     let meter = found.meter;
-    let DeduceAnswer::Deduced(said) = answer else {
+    if found.stopped {
         return Ended {
             flow: Flow::Stopped,
             meter: meter,
         };
-    };
+    }
     if let Deduction::Nothing = said {
         return Ended {
             flow: Flow::Continues,

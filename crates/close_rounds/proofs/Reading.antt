@@ -46,12 +46,12 @@ round-next n ps i s l =
 -- ---- standing words, seen from an earlier place
 pub stands-here : (n rows : ℕ) (rs : List Row) (slots held cut : List ℕ) → Standing n rows rs slots held cut
     → Standing n rows (rowsIn rows slots) slots held cut
-stands-here n rows rs slots held cut s = record { atoms = s .atoms; holds = s .holds; each = s .each; same = refl; region = s .region }
+stands-here n rows rs slots held cut s = record { holds = s .holds; same = refl; region = s .region }
 
 pub stands-from : (n rows : ℕ) (rs qs : List Row) (slots held cut : List ℕ) → rs ≡ qs → Standing n rows rs slots held cut
     → Standing n rows qs slots held cut
 stands-from n rows rs qs slots held cut e s =
-    record { atoms = s .atoms; holds = s .holds; each = s .each; same = s .same ∙ e; region = s .region }
+    record { holds = s .holds; same = s .same ∙ e; region = s .region }
 
 -- ---- the walk
 pub record Reading (n rows : ℕ) (ps slots₀ held₀ cut₀ : List ℕ) (m₀ : Meter) (slots held cut : List ℕ) (m : Meter) (i : ℕ) : Type 0 where

@@ -11,6 +11,7 @@ use denote.Enum.Declared.{tagOf}
 use lib.Dec.{T}
 use lib.ListN.{length, take, length-take}
 use Rattle.lists.specs.Lists.{all}
+use Rattle.lists.proofs.Bools.{T-of}
 use Rattle.words.specs.Region.{region}
 use Rattle.words.proofs.Regions.{sound-of}
 use Rattle.meter.specs.declared.Meter.{Meter}
@@ -27,6 +28,7 @@ use Rattle.model.proofs.Priority.Covering.{rowsE}
 use Rattle.model.proofs.Priority.Fine.{Fine}
 use Rattle.model.proofs.Priority.Rounds.{OnGoing, opens, opens-less, opens-le, Step, Rounded, round-step}
 use Rattle.model.proofs.Priority.Fuel.{rounds-fuel}
+use Rattle.slots.proofs.Holding.{held-rows}
 use Rattle.close_publish.specs.declared.Flow.the-variants.{Continues}
 use Rattle.close_rounds.specs.declared.RoundEnd.{RoundEnd}
 use Rattle.close_publish.specs.Turns.{ledgerOf, state}
@@ -47,11 +49,11 @@ module _ (h : Header) (slots postings held cut : List ℕ) (run : Running h slot
   rows = rowsE (entriesIn (h .rows) slots)
 
   fine : Fine (rowsE (entriesIn (h .rows) slots))
-  fine = fine-of (h .limits .atoms) (entriesIn (h .rows) slots) (run .standing .each)
+  fine = fine-of (h .limits .atoms) (entriesIn (h .rows) slots) (T-of (held-rows (h .rows) slots (run .stands .held)))
 
   self-step : (k : Header) (m : Meter)
       → Step (h .limits .atoms) rows fine (state (ledgerOf k (h .rows) slots) held cut m) (state (ledgerOf k (h .rows) slots) held cut m)
-  self-step k m = record { sound = sound-of (h .limits .atoms) (region held cut) (run .standing .region); grown = λ x t. t; same = refl }
+  self-step k m = record { sound = sound-of (h .limits .atoms) (region held cut) (run .region); grown = λ x t. t; same = refl }
 
   -- fuel above the number of open atoms is never used up
   pub rounds-any : (f g : ℕ) (as′ : List ℕ) (m : Meter) → opens (h .limits .atoms) (region held cut) < f

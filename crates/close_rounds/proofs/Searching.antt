@@ -25,14 +25,12 @@ use Rattle.meter.specs.Meter.{ticks}
 use Rattle.model.specs.declared.Header.{Header}
 use Rattle.model.specs.declared.CandidatesAnswer.{CandidatesAnswer}
 use Rattle.model.specs.declared.CandidatesAnswer.the-variants as answer
-use Rattle.model.specs.Records.{Row, withStale}
-use Rattle.model.specs.Slots.{slotsOf, entriesIn}
+use Rattle.model.specs.Records.{withStale}
 use Rattle.model.specs.Postings.{Search, searched, rebuilt, searchTicks, positions, postedAt, postingsOf, filed, candidates}
 use Rattle.model.specs.Refusals.{ledgerIn}
 use Rattle.model.specs.Operations.{candidatesAnswer, foundWords}
 use Rattle.model.specs.Closing.{State, Turn, halted, withMeter, withHeader, round, decidedSince}
 use Rattle.model.proofs.CandidatesAnswer.{the-type}
-use Rattle.tier.specs.Tier.{tierOf}
 use Rattle.postings.specs.declared.searching.Searched.{Searched}
 use Rattle.slots.specs.Layout.{rowsIn}
 use Rattle.postings.specs.Searching.{readyTicks, SearchEnd, searchEnd, foundEnd, ledgerOf as lentLedger}
@@ -40,7 +38,8 @@ use Rattle.slots.specs.Standing.{Stands}
 use Rattle.postings.proofs.Answers.{scans, candidates-scan, candidates-search}
 use Rattle.postings.proofs.Finding.{positions-sort, found-each}
 use Rattle.postings.proofs.Standing.{here-searchable}
-use Rattle.postings.proofs.Keeping.{stands-of, stands-under, candidates-keep}
+use Rattle.slots.proofs.Holding.{stands-under}
+use Rattle.postings.proofs.Keeping.{candidates-keep}
 use Rattle.close_publish.specs.declared.Flow.the-variants as flow
 use Rattle.close_publish.specs.declared.Ended.{Ended}
 use Rattle.close_publish.specs.Turns.{ledgerOf, state, endedAs, turned}
@@ -49,7 +48,6 @@ use Rattle.close_rounds.specs.Running.{Running}
 use Rattle.close_note.specs.Noting.{notedIn, newIn, Noted, Gathered}
 use Rattle.close_rounds.specs.Rounds.{stateIn, oneRound, Under, New}
 use Rattle.close_note.proofs.Gathering.{noted-long, new-since}
-use Rattle.close_rounds.proofs.Reading.{stands-here, stands-from}
 
 -- ---- what a search finds are rows
 abbrev FoundBelow : ℕ → Option (List ℕ) → Type 0
@@ -94,36 +92,26 @@ module _ (h : Header) (slots postings : List ℕ) (s : Stands h slots postings) 
           subst (λ (x : Search). FoundBelow (h .rows) (x .found)) (sym (candidates-search h slots postings atoms m e))
           (rebuilt-below (readyTicks (h .stale) (length ps) m))
 
--- ---- the words that run on under the header of a search, and after the rows were read
-module _ (h k : Header) (u : Under h k) where
-  pub standing-under : (rs : List Row) (slots held cut : List ℕ) → Standing (h .limits .atoms) (h .rows) rs slots held cut
-      → Standing (k .limits .atoms) (k .rows) rs slots held cut
-  standing-under rs slots held cut s = rw (u .limits, u .rows) s
+-- ---- the words that run are those that the rows of a round stand in
+pub runs-standing : (h : Header) (slots postings held cut : List ℕ) → Running h slots postings held cut
+    → Standing (h .limits .atoms) (h .rows) (rowsIn (h .rows) slots) slots held cut
+runs-standing h slots postings held cut r = record { holds = r .stands .held; same = refl; region = r .region }
 
-  rows-under : (slots : List ℕ) → rowsIn (k .rows) slots ≡ rowsIn (h .rows) slots
-  rows-under slots = ap (λ (n : ℕ). rowsIn n slots) (u .rows)
-
-  pub runs-under : (slots postings held cut words : List ℕ) → Running h slots postings held cut
-      → words ≡ filed (h .limits .«tier_rows») (k .stale) (rowsIn (h .rows) slots)
-      → Running k slots words held cut
-  runs-under slots postings held cut words r p = record {
-    stands = stands-under h k slots postings words (r .stands) (u .limits) (u .rows) p;
-    standing = stands-from (k .limits .atoms) (k .rows) (rowsIn (h .rows) slots) (rowsIn (k .rows) slots) slots held cut
-        (sym (rows-under slots)) (standing-under (rowsIn (h .rows) slots) slots held cut (r .standing));
-  }
+-- they run on under the header of a search, and after the rows were read
+pub runs-under : (h k : Header) → Under h k → (slots postings held cut words : List ℕ) → Running h slots postings held cut
+    → words ≡ filed (h .limits .«tier_rows») (k .stale) (rowsIn (h .rows) slots) → Running k slots words held cut
+runs-under h k u slots postings held cut words r p = record {
+  stands = stands-under h k slots postings words (r .stands) (u .limits) (u .rows) p;
+  region = rw (u .limits) (r .region);
+}
 
 pub runs-on : (h : Header) (slots postings held cut slots′ held′ cut′ : List ℕ) → Running h slots postings held cut
     → Standing (h .limits .atoms) (h .rows) (rowsIn (h .rows) slots) slots′ held′ cut′
-    → length slots′ ≡ length slots → Running h slots′ postings held′ cut′
-runs-on h slots postings held cut slots′ held′ cut′ r s e =
-    let a = r .stands in
-    let t : tierOf slots′ ≡ h .limits .«tier_rows» = let l = a .long in omega arith in
-    record {
-      stands = stands-of h slots′ postings (a .atoms) (a .few) (a .most) (s .each)
-          (sym (s .holds .same) ∙ ap (λ (n : ℕ). slotsOf n (entriesIn (h .rows) slots′)) t)
-          (a .filing ∙ ap (filed (h .limits .«tier_rows») (h .stale)) (sym (s .same)));
-      standing = stands-here (h .limits .atoms) (h .rows) (rowsIn (h .rows) slots) slots′ held′ cut′ s;
-    }
+    → length slots′ ≡ length slots → Running h slots′ (filed (h .limits .«tier_rows») (h .stale) (rowsIn (h .rows) slots′)) held′ cut′
+runs-on h slots postings held cut slots′ held′ cut′ r s e = record {
+  stands = record { held = s .holds; long = e ∙ r .stands .long; filing = refl };
+  region = s .region;
+}
 
 -- ---- the code's answer
 none-found : (o : Option (List ℕ)) → OneOf (0 ∷ 1 ∷ []) (tagOf the-type (candidatesAnswer o)) → o ≡ none
@@ -186,14 +174,14 @@ module _ (h : Header) (slots postings held cut ys : List ℕ) (k : ℕ) (m : Met
 
   -- noted before the rows are read, and gathered after
   pub search-noted : length ys ≡ h .limits .atoms → Noted (length ys) held cut
-  search-noted l = region-noted (h .limits .atoms) held cut (length ys) l (run .standing .region)
+  search-noted l = region-noted (h .limits .atoms) held cut (length ys) l (run .region)
 
   module _ (held′ cut′ ys₁ : List ℕ) (t : T (isRegion (h .limits .atoms) (region held′ cut′))) (l : length ys ≡ h .limits .atoms)
       (e : ys₁ ≡ notedIn (region held cut) ys) where
     noted-same : length ys₁ ≡ h .limits .atoms
     noted-same =
         ap length e ∙ noted-long (h .limits .atoms) (region held cut) (region held′ cut′)
-        (sound-of (h .limits .atoms) (region held cut) (run .standing .region)) (sound-of (h .limits .atoms) (region held′ cut′) t) ys l
+        (sound-of (h .limits .atoms) (region held cut) (run .region)) (sound-of (h .limits .atoms) (region held′ cut′) t) ys l
 
     pub round-noted : Noted (length ys₁) held′ cut′
     round-noted = region-noted (h .limits .atoms) held′ cut′ (length ys₁) noted-same t
@@ -204,7 +192,7 @@ module _ (h : Header) (slots postings held cut ys : List ℕ) (k : ℕ) (m : Met
         subst (Gathered d ys₂)
         (ap (newIn (region held′ cut′)) e
         ∙ new-since (h .limits .atoms) (region held cut) (region held′ cut′)
-        (sound-of (h .limits .atoms) (region held cut) (run .standing .region)) (sound-of (h .limits .atoms) (region held′ cut′) t) ys l) g
+        (sound-of (h .limits .atoms) (region held cut) (run .region)) (sound-of (h .limits .atoms) (region held′ cut′) t) ys l) g
 
   module _ (f : Searched) (xs xs′ : List ℕ)
       (q : foundEnd f xs′ ≡ searchEnd (candidates (lentLedger h slots postings) (take (k - 0) ys) m) (length xs)) where
@@ -283,7 +271,6 @@ module _ (h : Header) (slots postings held cut ys : List ℕ) (k : ℕ) (m : Met
           → Standing (h .limits .atoms) rows (rowsIn rows slots) slots′ held′ cut′ → length slots′ ≡ length slots
           → Running (f .header) slots′ postings′ held′ cut′
       round-runs postings′ slots′ held′ cut′ p s e =
-          runs-on (f .header) slots postings′ held cut slots′ held′ cut′ (search-runs postings′ p)
-          (stands-from (f .header .limits .atoms) (f .header .rows) (rowsIn rows slots) (rowsIn (f .header .rows) slots) slots′ held′ cut′
-          (sym (rows-under h (f .header) search-under slots))
-          (standing-under h (f .header) search-under (rowsIn rows slots) slots′ held′ cut′ s)) e
+          runs-under h (f .header) search-under slots′ _ held′ cut′ postings′
+          (runs-on h slots postings held cut slots′ held′ cut′ run s e)
+          (p ∙ ap (filed (h .limits .«tier_rows») (f .header .stale)) (sym (s .same)))

@@ -43,7 +43,7 @@ fn judged(refused: u64, same: bool) -> Tried {
 // The part that starts at `at`: so many words, or as many as there is room for.
 fn part(length: u64, at: usize, room: usize) -> Bounds
     requires { ⌜ at + room ≤ 1700 ⌝ }
-    ensures { λ r. ⌜ (r .from ≤ r .to) × (r .to ≤ 1700) ⌝ }
+    ensures { λ r. ⌜ (r .from ≤ r .to) × (r .to ≤ r .from + room) × (r .to ≤ 1700) ⌝ }
 {
     if room as u64 <= length {
         return Bounds {
@@ -60,7 +60,7 @@ fn part(length: u64, at: usize, room: usize) -> Bounds
 // Conditions, the atoms to search for, the store's slots, or held.
 fn first_part(operation: u64, w: &[u64]) -> Bounds
     requires { ⌜ length (now w) ≡ 1700 ⌝ }
-    ensures { λ r. ⌜ (r .from ≤ r .to) × (r .to ≤ 1700) ⌝ }
+    ensures { λ r. ⌜ (r .from ≤ r .to) × (r .to ≤ r .from + 360) × (r .to ≤ 1700) ⌝ }
 {
     match operation {
         6 => part(w[66], 100, 20),
@@ -73,7 +73,7 @@ fn first_part(operation: u64, w: &[u64]) -> Bounds
 // Outputs, the rows found, the store's postings, or cut.
 fn second_part(operation: u64, w: &[u64]) -> Bounds
     requires { ⌜ length (now w) ≡ 1700 ⌝ }
-    ensures { λ r. ⌜ (r .from ≤ r .to) × (r .to ≤ 1700) ⌝ }
+    ensures { λ r. ⌜ (r .from ≤ r .to) × (r .to ≤ r .from + 200) × (r .to ≤ 1700) ⌝ }
 {
     match operation {
         6 => part(w[67], 120, 70),
@@ -192,19 +192,15 @@ fn compare(
     judged(p.refused, a & b & p.scratch)
 }
 
-// Copies a part, where there is room for it, and answers how many words it copied.
+// Copies a part, for which there is room, and answers how many words it has.
 fn lend(w: &[u64], p: Bounds, into: &mut [u64]) -> usize
-    requires { ⌜ (p .from ≤ p .to) × (p .to ≤ length (now w)) ⌝ }
+    requires { ⌜ (p .from ≤ p .to) × (p .to ≤ length (now w)) × (p .to ≤ p .from + length (now into)) ⌝ }
     ensures { λ r. ⌜ r ≤ length (now (into .entry)) ⌝ }
 {
     let from = p.from;
     let to = p.to;
-    let n = to - from;
-    if into.len() < n {
-        return 0;
-    }
-    copy(&w[from..to], &mut into[0..n]);
-    n
+    copy(&w[from..to], into);
+    to - from
 }
 
 fn with_pair(

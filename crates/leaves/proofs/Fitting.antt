@@ -2,83 +2,113 @@
 use mathlib.Core.Path.{_≡_, refl, sym, ap, subst, _∙_}
 use mathlib.Core.Bool.{Bool, true, false, not, _&&_}
 use mathlib.Core.List.{List}
-use Prim.Native.Nat.{ℕ, _≤_}
+use Prim.Native.Nat.{ℕ, _≤_, _<_}
 use native.Mathlib.Nat.{le-refl}
-use lib.Dec.{T}
+use lib.Dec.{T, leb}
 use lib.ListN.{length}
-use borrow.Author.Tests.{not-false}
-use Rattle.lists.proofs.Bools.{T-of, T-true}
+use borrow.Author.Tests.{leb-true, le-leb, lt-leb, not-true, not-false}
+use Rattle.lists.proofs.Bools.{T-of, and-both}
 use Rattle.words.specs.Region.{maxAtoms, region, isRegion}
 use Rattle.model.specs.Records.{Row, isRow, isRowOver, within, maxConditions, maxOutputs}
 use Rattle.model.specs.Slots.{rowIn, slotOf}
-use Rattle.model.proofs.Slots.{valid-of}
+use Rattle.model.proofs.Slots.{Valid, valid-of, row-there}
 use Rattle.model.proofs.Rows.{row-more}
 use Rattle.slots.specs.declared.Side.{Side}
-use Rattle.slots.specs.Cursor.{Sound}
+use Rattle.slots.specs.Cursor.{Sound, listOf}
 use Rattle.slots.specs.Layout.{Laid, Stored, outputSide, proposal}
-use Rattle.slots.proofs.Storing.{stored-slot, row-proposal}
+use Rattle.slots.proofs.Storing.{stored-slot, laid-stored, row-proposal, laid-proposal}
 use Rattle.model.specs.declared.OutputCursor.{OutputCursor}
 use Rattle.model.specs.Operations.{cursorOk}
 use Rattle.row_deduce.specs.Chunks.{Matched}
 use Rattle.row_deduce.specs.Publication.{Pointed}
 use Rattle.row_deduce.proofs.Cursors.{pointed-ok}
-use Rattle.row_propose.specs.Offered.{rowOf}
+use Rattle.slots.specs.Layout.{rowOf}
 use Rattle.row_propose.specs.Proposed.{Proposed}
-use Rattle.row_propose.proofs.Proposing.{proposed-laid, proposed-over}
+use Rattle.row_propose.proofs.Proposing.{proposed-over}
 use Rattle.row_write.specs.Forms.{newEntry}
-use Rattle.leaves.specs.Fit.{Offered, Fit}
+use Rattle.leaves.specs.Fit.{LaidOut}
+use Rattle.leaves.specs.Calls.{rowFits}
 
 -- nothing is told where a test said no
 pub untold : {P : Type 0} → false ≡ true → P
 untold e = absurd (subst (λ (b : Bool). T (not b)) e (T-of refl))
 
+-- a test that the code turns round, by its two ways
+pub yes : {b c : Bool} → b ≡ c → not b ≡ false → c ≡ true
+yes {b} e t = sym e ∙ not-false b t
+
+pub no : {b c : Bool} → b ≡ c → not b ≡ true → c ≡ false
+no {b} e t = sym e ∙ not-true b t
+
 pub told : {P : Type 0} (b : Bool) → (b ≡ true → P) → not b ≡ false → P
 told b f t = f (not-false b t)
 
-pub fit-of : (n : ℕ) (cs os : List ℕ) {b : Bool} → n ≤ maxAtoms
-    → b ≡ (within maxConditions maxOutputs (rowOf cs os) && isRowOver n (rowOf cs os))
-    → b ≡ true → Fit n cs os
-unfolding isRow
-fit-of n cs os l e t = record { atoms = l; row = T-of (sym e ∙ t) }
+-- ---- the test of a row
+module _ (n : ℕ) (cs os : List ℕ) where
+  pub fits-not : maxAtoms < n → false ≡ rowFits n (rowOf cs os)
+  unfolding rowFits
+  fits-not l = sym (ap (λ (b : Bool). b && isRow n (rowOf cs os)) (lt-leb n maxAtoms l))
 
--- ---- two lists that are a row
-module _ (n : ℕ) (cs os : List ℕ) (f : Fit n cs os) where
-  pub fit-few : length cs ≤ maxConditions
-  fit-few = valid-of n (rowOf cs os) (f .row) .few
+  pub fits-then : {b : Bool} → n ≤ maxAtoms
+      → b ≡ (within maxConditions maxOutputs (rowOf cs os) && isRowOver n (rowOf cs os)) → b ≡ rowFits n (rowOf cs os)
+  unfolding rowFits isRow
+  fits-then l e = e ∙ sym (ap (λ (b : Bool). b && isRow n (rowOf cs os)) (le-leb n maxAtoms l))
 
-  pub fit-many : length os ≤ maxOutputs
-  fit-many = valid-of n (rowOf cs os) (f .row) .many
+-- ---- a row that passed it
+module _ (n : ℕ) (r : Row) (f : rowFits n r ≡ true) where
+  both : (leb n maxAtoms ≡ true) × (isRow n r ≡ true)
+  unfolding rowFits
+  both = and-both (leb n maxAtoms) (isRow n r) f
 
-  pub fit-most : isRow maxAtoms (rowOf cs os) ≡ true
-  fit-most = row-more n maxAtoms (rowOf cs os) (f .atoms) (T-true (isRow n (rowOf cs os)) (f .row))
+  pub fits-atoms : n ≤ maxAtoms
+  fits-atoms = leb-true n maxAtoms (both .0)
 
-  pub fit-offered : (ws : List ℕ) → ws ≡ proposal (rowOf cs os) → Offered n ws
-  fit-offered ws e =
-      let same : rowIn ws ≡ rowOf cs os = ap rowIn e ∙ row-proposal (rowOf cs os) in
-      record { atoms = f .atoms; row = subst (λ (r : Row). T (isRow n r)) (sym same) (f .row); form = ap proposal same ∙ sym e }
+  valid : Valid r
+  valid = valid-of n r (T-of (both .1))
 
-pub proposed-of : (cs os ws : List ℕ) → isRow maxAtoms (rowOf cs os) ≡ true → ws ≡ proposal (rowOf cs os) → Proposed ws
-proposed-of cs os ws r e = subst Proposed (sym e) (proposed-over maxAtoms (rowOf cs os) (le-refl maxAtoms) r)
+  pub fits-few : length (r .conditions) ≤ maxConditions
+  fits-few = valid .few
 
--- ---- the proposal of a row
-module _ (n : ℕ) (ws : List ℕ) (o : Offered n ws) where
-  pub offered-proposed : Proposed ws
-  offered-proposed = subst Proposed (o .form) (proposed-over n (rowIn ws) (o .atoms) (T-true (isRow n (rowIn ws)) (o .row)))
+  pub fits-many : length (r .outputs) ≤ maxOutputs
+  fits-many = valid .many
 
-  pub offered-laid : Laid ws
-  offered-laid = proposed-laid ws offered-proposed
+  pub fits-most : isRow maxAtoms r ≡ true
+  fits-most = row-more n maxAtoms r fits-atoms (both .1)
 
-  pub offered-stored : (slot : List ℕ) → slot ≡ slotOf (newEntry (rowIn ws) 0 0) → Stored n slot
-  offered-stored slot e = subst (Stored n) (sym e) (stored-slot n (newEntry (rowIn ws) 0 0) (o .row) (o .atoms))
+  -- its proposal
+  pub fits-proposed : (ws : List ℕ) → ws ≡ proposal r → Proposed ws
+  fits-proposed ws e = subst Proposed (sym e) (proposed-over n r fits-atoms (both .1))
 
+  pub fits-laid : (ws : List ℕ) → ws ≡ proposal r → LaidOut r ws
+  fits-laid ws e = subst (LaidOut r) (sym e) (record { laid = laid-proposal r valid; row = row-proposal r })
+
+  -- its slot
+  pub fits-stored : (ws : List ℕ) → ws ≡ slotOf (newEntry r 0 0) → Stored n ws
+  fits-stored ws e = subst (Stored n) (sym e) (stored-slot n (newEntry r 0 0) (T-of (both .1)) fits-atoms)
+
+  pub fits-row : (ws : List ℕ) → ws ≡ slotOf (newEntry r 0 0) → rowIn ws ≡ r
+  fits-row ws e = ap rowIn e ∙ row-there (newEntry r 0 0) valid
+
+  pub fits-slot : (ws : List ℕ) → ws ≡ slotOf (newEntry r 0 0) → LaidOut r ws
+  fits-slot ws e = record { laid = laid-stored n ws (fits-stored ws e); row = fits-row ws e }
+
+-- what was written from a proposal
+pub written : (r : Row) {p slot : List ℕ} → p ≡ proposal r → slot ≡ slotOf (newEntry (rowIn p) 0 0) → slot ≡ slotOf (newEntry r 0 0)
+written r e w = w ∙ ap (λ (x : Row). slotOf (newEntry x 0 0)) (ap rowIn e ∙ row-proposal r)
+
+-- the outputs of words that are laid out
 pub outputs-sound : (ws : List ℕ) {s : Side} → Laid ws → s ≡ outputSide ws → Sound ws s
 outputs-sound ws l e = subst (Sound ws) (sym e) (l .second)
 
--- a stored row and a region over as many atoms
-pub matched-of : (n : ℕ) (ws held cut : List ℕ) {b : Bool} → Stored n ws → b ≡ isRegion n (region held cut) → not b ≡ false
-    → Matched ws held cut
-matched-of n ws held cut {b} s e t = record { holds = record { atoms = n; stored = s }; region = T-of (sym e ∙ not-false b t) }
+pub outputs-list : (ws : List ℕ) {s : Side} → Laid ws → s ≡ outputSide ws → listOf ws s ≡ rowIn ws .outputs
+outputs-list ws l e = ap (listOf ws) e ∙ l .outputs
 
-pub pointed-of : (n : ℕ) (ws : List ℕ) (k : OutputCursor) {b : Bool} → Stored n ws → b ≡ cursorOk (rowIn ws) k → not b ≡ false
-    → Pointed (rowIn ws) k
-pointed-of n ws k {b} s e t = pointed-ok n (rowIn ws) (s .row) (s .atoms) k (sym e ∙ not-false b t)
+pub proposed-of : (r : Row) (ws : List ℕ) → isRow maxAtoms r ≡ true → ws ≡ proposal r → Proposed ws
+proposed-of r ws t e = subst Proposed (sym e) (proposed-over maxAtoms r (le-refl maxAtoms) t)
+
+-- ---- a stored row, with a region over as many atoms and a cursor of it
+pub matched-of : (n : ℕ) (ws held cut : List ℕ) → Stored n ws → isRegion n (region held cut) ≡ true → Matched ws held cut
+matched-of n ws held cut s e = record { holds = record { atoms = n; stored = s }; region = T-of e }
+
+pub pointed-of : (n : ℕ) (ws : List ℕ) (k : OutputCursor) → Stored n ws → cursorOk (rowIn ws) k ≡ true → Pointed (rowIn ws) k
+pointed-of n ws k s e = pointed-ok n (rowIn ws) (s .row) (s .atoms) k e

@@ -1,3 +1,4 @@
+pub mod Answers
 pub mod Cover
 pub mod Cards
 pub mod Instances

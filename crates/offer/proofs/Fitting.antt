@@ -21,6 +21,7 @@ use Rattle.model.specs.Operations.{fitsOffer}
 use Rattle.contents.specs.Accepted.{Accepted}
 use Rattle.slots.specs.Layout.{proposal}
 use Rattle.slots.proofs.Storing.{row-proposal}
+use Rattle.slots.proofs.Holding.{stands-under}
 use Rattle.contents.proofs.Limits.{limits-atoms}
 use Rattle.row_propose.specs.Proposed.{Proposed}
 use Rattle.row_propose.proofs.Proposing.{proposed-over}
@@ -76,19 +77,11 @@ module _ (l : LearningLimits) (ok : limitsOk l ≡ true) where
 pub tried-accepted : (h : Header) (n : ℕ) (slots postings : List ℕ) → Accepted h slots postings → Accepted (setAttempts h n) slots postings
 unfolding entryOk
 tried-accepted h n slots postings a = record {
-  stands = record {
-    atoms = a .stands .atoms;
-    few = a .stands .few;
-    most = a .stands .most;
-    long = a .stands .long;
-    stored = a .stands .stored;
-    filing = a .stands .filing;
-  };
+  stands = stands-under h (setAttempts h n) slots postings postings (a .stands) refl refl (a .stands .filing);
   one = a .one;
   some = a .some;
   wide = a .wide;
   entries = a .entries;
-  laying = a .laying;
 }
 
 pub may-attempts : (h : Header) → mayCapture h ≡ true → h .attempts < h .limits .«founded_attempts»

@@ -23,7 +23,8 @@ use Rattle.slots.specs.Layout.{proposal}
 use Rattle.slots.proofs.Storing.{row-proposal}
 use Rattle.model.specs.Retention.{Outcome, Retention as Kept, retain, canCapture}
 use Rattle.model.specs.Refusals.{Lent, refusal, accepts, ledgerIn, lentOf}
-use Rattle.model.specs.Operations.{OfferEnd, offer, capture, offerAnswer, unoffered, fitsOffer}
+use Rattle.model.specs.Answers.{offerReply}
+use Rattle.model.specs.Operations.{OfferEnd, Offered, offer, capture, offerAnswer, unoffered, fitsOffer}
 use Rattle.contents.specs.Lent.{lent}
 use Rattle.model.proofs.Slots.{entries-length}
 use Rattle.retain.specs.declared.Retained.{Retained}
@@ -81,13 +82,13 @@ module _ (h : Header) (slots postings cs os : List ℕ) (m : Meter) where
   later = (fitsOffer (h .limits) t, 4) ∷ []
 
   refused : (n : ℕ) → refusal (accepts s true later) ≡ some n
-      → offerEnd (unofferedBy (Refused n) h m) slots postings (offer s cs os m) ≡ offer s cs os m
+      → offerEnd (unofferedBy (Refused n) h m) slots postings ≡ offer s cs os m .seen
   unfolding offer unoffered
   refused n e = rw (e, offer, unoffered)
 
   pub offer-refused : (n : ℕ) (r : OfferResult) → r ≡ unofferedBy (Refused n) h m → refusal (accepts s true later) ≡ some n
-      → offerEnd r slots postings (offer s cs os m) ≡ offer s cs os m
-  offer-refused n r q e = ap (λ (x : OfferResult). offerEnd x slots postings (offer s cs os m)) q ∙ refused n e
+      → offerEnd r slots postings ≡ offer s cs os m .seen
+  offer-refused n r q e = ap (λ (x : OfferResult). offerEnd x slots postings) q ∙ refused n e
 
   fits-is : (within (h .limits .«founded_conditions») (h .limits .«founded_outputs») t && isRowOver (h .limits .atoms) t)
       ≡ fitsOffer (h .limits) t
@@ -109,23 +110,23 @@ module _ (h : Header) (slots postings cs os : List ℕ) (m : Meter) where
   fit-passes f = rw f
 
   module _ (e : refusal (accepts s true later) ≡ none) where
-    shut : canCapture (ledgerIn s) ≡ false → offerEnd (unofferedBy Shut h m) slots postings (offer s cs os m) ≡ offer s cs os m
+    shut : canCapture (ledgerIn s) ≡ false → offerEnd (unofferedBy Shut h m) slots postings ≡ offer s cs os m .seen
     unfolding offer unoffered
     shut f = rw (e, f, offer, unoffered)
 
     pub offer-shut : (b : Bool) (r : OfferResult) → r ≡ unofferedBy Shut h m → b ≡ mayCapture h → b ≡ false
-        → offerEnd r slots postings (offer s cs os m) ≡ offer s cs os m
+        → offerEnd r slots postings ≡ offer s cs os m .seen
     offer-shut b r q g f =
-        ap (λ (x : OfferResult). offerEnd x slots postings (offer s cs os m)) q ∙ shut (sym (may-capture h slots postings) ∙ sym g ∙ f)
+        ap (λ (x : OfferResult). offerEnd x slots postings) q ∙ shut (sym (may-capture h slots postings) ∙ sym g ∙ f)
 
     captured : canCapture (ledgerIn s) ≡ true → offer s cs os m ≡ capture (ledgerIn s) t m
     unfolding offer
     captured f = rw (e, f, offer)
 
     pub offer-captured : (b : Bool) (r : OfferResult) (ws ps : List ℕ) → b ≡ mayCapture h → b ≡ true →
-        offerEnd r ws ps (capture (ledgerIn s) t m) ≡ capture (ledgerIn s) t m → offerEnd r ws ps (offer s cs os m) ≡ offer s cs os m
+        offerEnd r ws ps ≡ capture (ledgerIn s) t m .seen → offerEnd r ws ps ≡ offer s cs os m .seen
     offer-captured b r ws ps g f =
-        subst (λ (x : OfferEnd). offerEnd r ws ps x ≡ x) (sym (captured (sym (may-capture h slots postings) ∙ sym g ∙ f)))
+        subst (λ (x : Offered). offerEnd r ws ps ≡ x .seen) (sym (captured (sym (may-capture h slots postings) ∙ sym g ∙ f)))
 
 -- ---- the retention is over
 answer-is : (x : Retained) → answerOf x ≡ offerAnswer (outcomeOf x)
@@ -143,7 +144,7 @@ module _ (l : Ledger) (t : Row) (m : Meter) where
   d = retain (record { header = k; entries = l .entries }) (k .limits .«founded_outputs») 0 t (Paid (Remaining (k .remaining)) m)
 
   pub captured-end : (r : Retention) (ws ps : List ℕ) → retainEnd r ws ps ≡ endOf d
-      → offerEnd (capturedBy r m) ws ps (capture l t m) ≡ capture l t m
+      → offerEnd (capturedBy r m) ws ps ≡ capture l t m .seen
   unfolding capture
   captured-end r ws ps e =
       let answer : answerOf (r .answer) ≡ offerAnswer (d .outcome) = answer-is (r .answer) ∙ ap (λ (x : End). offerAnswer (x .outcome)) e in
@@ -155,21 +156,17 @@ module _ (l : Ledger) (t : Row) (m : Meter) where
       ap₂ {C =
       OfferEnd}
       (λ (a : OfferAnswer) (w : Lent). record {
-        answer = a;
+        answer = offerReply a;
         ledger = w;
         meter = r .meter;
         ticks = made m (r .meter);
-        took = d .took;
-        evicts = d .evicts;
       }) answer words
       ∙ ap
       (λ (w : Meter). record {
-        answer = offerAnswer (d .outcome);
+        answer = offerReply (offerAnswer (d .outcome));
         ledger = lentOf (record { header = withAccount (d .ledger .header) (d .account); entries = d .ledger .entries });
         meter = w;
         ticks = made m w;
-        took = d .took;
-        evicts = d .evicts;
       }) (ap (λ (x : End). x .meter) e)
 
 -- the same, of a header with one attempt more
@@ -178,10 +175,10 @@ pub capture-retained : (h : Header) (slots postings : List ℕ) (t : Row) (m : M
     → retainEnd r ws ps
     ≡ endOf (retain (ledgerIn (lent (setAttempts h (h .attempts + 1)) slots postings)) (h .limits .«founded_outputs») 0 t
     (Paid (Remaining (h .remaining)) m))
-    → offerEnd x ws ps (capture (ledgerIn (lent h slots postings)) t m) ≡ capture (ledgerIn (lent h slots postings)) t m
+    → offerEnd x ws ps ≡ capture (ledgerIn (lent h slots postings)) t m .seen
 unfolding ledgerIn attempted
 capture-retained h slots postings t m r x ws ps q e =
-    ap (λ (y : OfferResult). offerEnd y ws ps (capture (ledgerIn (lent h slots postings)) t m)) q
+    ap (λ (y : OfferResult). offerEnd y ws ps) q
     ∙ captured-end (ledgerIn (lent h slots postings)) t m r ws ps
     (e
     ∙ ap (λ (k : Header). endOf
@@ -197,6 +194,6 @@ captured-is k m a h n e f g =
 
 -- a proposal of the offered row is captured as the row
 pub capture-proposed : (l : Ledger) (t : Row) (m : Meter) (r : OfferResult) (ws ps p : List ℕ) → p ≡ proposal t →
-    offerEnd r ws ps (capture l (rowIn p) m) ≡ capture l (rowIn p) m → offerEnd r ws ps (capture l t m) ≡ capture l t m
+    offerEnd r ws ps ≡ capture l (rowIn p) m .seen → offerEnd r ws ps ≡ capture l t m .seen
 capture-proposed l t m r ws ps p e =
-    subst (λ (x : Row). offerEnd r ws ps (capture l x m) ≡ capture l x m) (ap rowIn e ∙ row-proposal t)
+    subst (λ (x : Row). offerEnd r ws ps ≡ capture l x m .seen) (ap rowIn e ∙ row-proposal t)

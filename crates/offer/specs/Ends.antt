@@ -1,5 +1,4 @@
--- 01, Offer: its end, from what the code gives back and leaves in the lent slices.
--- What was taken and whether it evicted is the definition's to say: the code has no field for it. Assumes nothing.
+-- 01, Offer: its end, from what the code gives back and leaves in the lent slices. Assumes nothing.
 use mathlib.Core.Bool.{Bool, _&&_, _||_}
 use mathlib.Core.List.{List}
 use Prim.Native.Nat.{ℕ}
@@ -11,15 +10,16 @@ use Rattle.model.specs.declared.OfferAnswer.{OfferAnswer}
 use Rattle.model.specs.declared.OfferAnswer.the-variants as offer-answer
 use Rattle.model.specs.declared.OfferResult.{OfferResult}
 use Rattle.model.specs.Records.{withAccount}
+use Rattle.model.specs.Answers.{offerReply}
 use Rattle.model.specs.Operations.{OfferEnd}
 use Rattle.contents.specs.Lent.{lent}
 use Rattle.retain.specs.declared.Retained.{Retained}
 use Rattle.retain.specs.declared.Retained.the-variants.{Stopped, Declined, Subsumed, Added}
 use Rattle.retain.specs.declared.Retention.{Retention}
 
-abbrev pub offerEnd : OfferResult → List ℕ → List ℕ → OfferEnd → OfferEnd
-offerEnd r slots postings e = record
-    { answer = r .answer; ledger = lent (r .header) slots postings; meter = r .meter; ticks = r .ticks; took = e .took; evicts = e .evicts }
+abbrev pub offerEnd : OfferResult → List ℕ → List ℕ → OfferEnd
+offerEnd r slots postings = record
+    { answer = offerReply (r .answer); ledger = lent (r .header) slots postings; meter = r .meter; ticks = r .ticks }
 
 abbrev pub unofferedBy : OfferAnswer → Header → Meter → OfferResult
 unofferedBy a h m = record { answer = a; header = h; meter = m; ticks = 0 }

@@ -7,9 +7,9 @@ ghost use Rattle.model.specs.Slots.{rowIn};
 ghost use Rattle.row_propose.specs.Proposed.{Proposed};
 ghost use Rattle.model.specs.Operations.{offer, capture, fitsOffer};
 ghost use Rattle.model.specs.Refusals.{ledgerIn};
+ghost use Rattle.slots.specs.Layout.{rowOf};
 ghost use Rattle.contents.specs.Lent.{lent};
 ghost use Rattle.contents.specs.Accepted.{Accepted};
-ghost use Rattle.row_propose.specs.Offered.{rowOf};
 ghost use Rattle.offer.specs.Ends.{offerEnd, unofferedBy, answerOf, capturedBy, mayCapture};
 use contents::accept;
 use meter::Account;
@@ -98,8 +98,7 @@ fn capture_row(
         ∗ ⌜ isRow (header .limits .atoms) (rowIn (now p)) ≡ true ⌝
         ∗ ⌜ header .attempts < header .limits .«founded_attempts» ⌝ ∗ ⌜ header .limits .«founded_outputs» ≤ maxOutputs ⌝ }
     ensures { λ r. ⌜ offerEnd r (now (slots .exit)) (now (postings .exit))
-        (capture (ledgerIn (lent header (now (slots .entry)) (now (postings .entry)))) (rowIn (now (p .entry))) work)
-        ≡ capture (ledgerIn (lent header (now (slots .entry)) (now (postings .entry)))) (rowIn (now (p .entry))) work ⌝ }
+        ≡ capture (ledgerIn (lent header (now (slots .entry)) (now (postings .entry)))) (rowIn (now (p .entry))) work .seen ⌝ }
 {
     let limits = header.limits;
     let remaining = header.remaining;
@@ -133,10 +132,8 @@ fn capture(
     requires { ⌜ Accepted header (now slots) (now postings) ⌝ ∗ ⌜ header .attempts < header .limits .«founded_attempts» ⌝
         ∗ ⌜ limitsOk (header .limits) ≡ true ⌝ ∗ ⌜ fitsOffer (header .limits) (rowOf (now conditions) (now outputs)) ≡ true ⌝ }
     ensures { λ r. ⌜ offerEnd r (now (slots .exit)) (now (postings .exit))
-        (capture (ledgerIn (lent header (now (slots .entry)) (now (postings .entry))))
-        (rowOf (now (conditions .entry)) (now (outputs .entry))) work)
         ≡ capture (ledgerIn (lent header (now (slots .entry)) (now (postings .entry))))
-        (rowOf (now (conditions .entry)) (now (outputs .entry))) work ⌝ }
+        (rowOf (now (conditions .entry)) (now (outputs .entry))) work .seen ⌝ }
 {
     let mut p = [0u64; SLOT_WORDS];
     propose(conditions, outputs, &mut p);
@@ -154,8 +151,7 @@ pub fn offer(
     work: Meter,
 ) -> OfferResult
     ensures { λ r. ⌜ offerEnd r (now (slots .exit)) (now (postings .exit))
-        (offer (lent header (now (slots .entry)) (now (postings .entry))) (now (conditions .entry)) (now (outputs .entry)) work)
-        ≡ offer (lent header (now (slots .entry)) (now (postings .entry))) (now (conditions .entry)) (now (outputs .entry)) work ⌝ }
+        ≡ offer (lent header (now (slots .entry)) (now (postings .entry))) (now (conditions .entry)) (now (outputs .entry)) work .seen ⌝ }
 {
     let n = accept(header, slots, postings, true);
     if n != 0 {

@@ -9,6 +9,7 @@ use Rattle.words.specs.Region.{Region, isRegion, Decision, decision, decisionWi
 use Rattle.words.specs.Region as words
 use Rattle.model.specs.declared.DecideAnswer.the-variants.{Refused, Decided}
 use Rattle.model.specs.Refusals.{refusal}
+use Rattle.model.specs.Answers.{decideReply}
 use Rattle.model.specs.Operations.{DecideEnd, decide}
 use Rattle.operations.specs.Ends.{decideEnd}
 
@@ -19,13 +20,13 @@ module _ (n : ℕ) (held cut : List ℕ) (a : ℕ) (value : Bool) where
   decide-refused e = rw (e, decide, refusal)
 
   ended : Decision → DecideEnd
-  ended d = record { answer = Decided (d .answer); region = d .after; ticks = 0 }
+  ended d = record { answer = decideReply (Decided (d .answer)); region = d .after; ticks = 0 }
 
   by-decision : (x : Option Region) →
       ended (decision (region held cut) x)
       ≡ (elim x as (λ k. DecideEnd) [
-        | none ↦ record { answer = Decided false; region = region held cut; ticks = 0 }
-        | some r ↦ record { answer = Decided true; region = r; ticks = 0 }
+        | none ↦ record { answer = decideReply (Decided false); region = region held cut; ticks = 0 }
+        | some r ↦ record { answer = decideReply (Decided true); region = r; ticks = 0 }
       ])
   unfolding ended
   by-decision none = refl

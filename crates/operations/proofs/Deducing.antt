@@ -14,6 +14,7 @@ use Rattle.meter.specs.declared.Tick.the-variants.{Ticked, Stopped}
 use Rattle.meter.specs.Meter.{ticks, made}
 use Rattle.model.specs.declared.Header.{Header}
 use Rattle.model.specs.declared.Deduction.{Deduction}
+use Rattle.model.specs.declared.Deduction.the-variants.{Nothing}
 use Rattle.model.specs.declared.OutputCursor.{OutputCursor}
 use Rattle.model.specs.declared.DeduceAnswer.the-variants as deduce-answer
 use Rattle.model.specs.declared.NextAnswer.the-variants as next-answer
@@ -21,7 +22,7 @@ use Rattle.model.specs.Records.{Row, rowsOf, rowAt, slotWords, maxRows}
 use Rattle.model.specs.Slots.{rowIn}
 use Rattle.model.specs.Deduction.{deduction, deductionTicks, nextOutput as publishNext}
 use Rattle.model.specs.Refusals.{Lent, refusal, accepts, ledgerIn}
-use Rattle.model.specs.Operations.{DeduceEnd, deduce, nextOutput, positionOk, regionOk, cursorOk}
+use Rattle.model.specs.Operations.{DeduceEnd, deduceEnd as endOf, deduce, nextOutput, positionOk, regionOk, cursorOk}
 use Rattle.slots.specs.Layout.{Stored, slotAt, rowsIn, Holds}
 use Rattle.row_deduce.specs.Chunks.{Matched}
 use Rattle.row_deduce.specs.Walks.{deduced}
@@ -30,7 +31,7 @@ use Rattle.row_deduce.proofs.Cursors.{pointed-ok}
 use Rattle.contents.specs.Lent.{lent}
 use Rattle.contents.specs.Accepted.{Accepted}
 use Rattle.slots.proofs.Rows.{rows-at, slot-code}
-use Rattle.operations.specs.Ends.{deduceEnd, outputEnd}
+use Rattle.operations.specs.Ends.{refusedBy, deducedBy, deduceEnd, outputEnd}
 
 module _ (h : Header) (slots postings : List ℕ) (p : ℕ) where
   abbrev s : Lent
@@ -43,13 +44,13 @@ module _ (h : Header) (slots postings : List ℕ) (p : ℕ) where
   -- the slot that the code lends
   module _ (a : Accepted h slots postings) (l : p < h .rows) where
     pub slot-fits : (p < maxRows) × (slotWords * p + slotWords ≤ length slots)
-    slot-fits = let f = a .stands .few in let m = a .stands .most in let n = a .stands .long in (omega arith, omega arith)
+    slot-fits = let f = a .stands .held .over .few in let n = a .stands .held .over .long in (omega arith, omega arith)
 
     abbrev part : List ℕ
     part = take ((slotWords * p + slotWords) - slotWords * p) (drop (slotWords * p) slots)
 
     stored-part : Stored (h .limits .atoms) part
-    stored-part = subst (Stored (h .limits .atoms)) (sym (slot-code slots p)) (a .stands .stored p l)
+    stored-part = subst (Stored (h .limits .atoms)) (sym (slot-code slots p)) (a .stands .held .over .stored p l)
 
     pub holds : Holds part
     holds = record { atoms = h .limits .atoms; stored = stored-part }
@@ -58,7 +59,7 @@ module _ (h : Header) (slots postings : List ℕ) (p : ℕ) where
     matched held cut e = record { holds = record { atoms = h .limits .atoms; stored = stored-part }; region = subst T (sym e) tt }
 
     pub pointed : (k : OutputCursor) → cursorOk (rowIn part) k ≡ true → Pointed (rowIn part) k
-    pointed k e = pointed-ok (h .limits .atoms) (rowIn part) (stored-part .row) (a .stands .atoms) k e
+    pointed k e = pointed-ok (h .limits .atoms) (rowIn part) (stored-part .row) (stored-part .atoms) k e
 
   module _ (held cut : List ℕ) (m : Meter) where
     -- ---- Deduce
@@ -66,24 +67,26 @@ module _ (h : Header) (slots postings : List ℕ) (p : ℕ) where
     two = (positionOk s p, 5) ∷ (regionOk s held cut, 6) ∷ []
 
     pub deduce-refused : (n : ℕ) → refusal (accepts s true two) ≡ some n →
-        deduceEnd (record { answer = deduce-answer.Refused n; meter = m; ticks = 0 }) ≡ deduce s p held cut m
+        deduceEnd (refusedBy n m) ≡ deduce s p held cut m
     unfolding deduce
     deduce-refused n e = rw (e, deduce)
 
     by-tick : (d : Deduction) (t : Tick) →
-        deduceEnd (deduced d m t)
+        deduceEnd (deducedBy (deduced d m t))
         ≡ (elim t as (λ k. DeduceEnd) [
-          | Stopped k ↦ record { answer = deduce-answer.Stopped; meter = k; ticks = made m k }
-          | Ticked k ↦ record { answer = deduce-answer.Deduced d; meter = k; ticks = made m k }
+          | Stopped k ↦ endOf deduce-answer.Stopped Nothing m k
+          | Ticked k ↦ endOf deduce-answer.Done d m k
         ])
+    unfolding endOf
     by-tick d (Stopped k) = refl
     by-tick d (Ticked k) = refl
 
     pub deduce-done : refusal (accepts s true two) ≡ none → p < h .rows → (t : Row) → t ≡ rowIn (slotAt slots p) →
-        deduceEnd (deduced (deduction (region held cut) t) m (ticks (deductionTicks (region held cut) t) m)) ≡ deduce s p held cut m
+        deduceEnd (deducedBy (deduced (deduction (region held cut) t) m (ticks (deductionTicks (region held cut) t) m)))
+        ≡ deduce s p held cut m
     unfolding deduce
     deduce-done e l t q =
-        ap (λ (t : Row). deduceEnd (deduced (deduction (region held cut) t) m (ticks (deductionTicks (region held cut) t) m)))
+        ap (λ (t : Row). deduceEnd (deducedBy (deduced (deduction (region held cut) t) m (ticks (deductionTicks (region held cut) t) m))))
         (q ∙ sym (row-is l))
         ∙ by-tick (deduction (region held cut) (rowAt p (ledgerIn s))) (ticks (deductionTicks (region held cut) (rowAt p (ledgerIn s))) m)
         ∙ sym (rw (e, deduce))

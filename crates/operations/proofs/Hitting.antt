@@ -13,8 +13,10 @@ use Rattle.model.specs.Slots.{slotsOf, entriesIn}
 use Rattle.model.specs.Postings.{filed}
 use Rattle.model.specs.Closing.{hitAt}
 use Rattle.model.specs.Refusals.{Lent, refusal, accepts, ledgerIn, lentOf}
+use Rattle.model.specs.Answers.{hitReply}
 use Rattle.model.specs.Operations.{hit, positionOk}
 use Rattle.slots.specs.Layout.{rowsIn}
+use Rattle.slots.proofs.Holding.{stands-tier}
 use Rattle.contents.specs.Lent.{lent}
 use Rattle.contents.specs.Accepted.{Accepted}
 use Rattle.model.proofs.Slots.{entries-length}
@@ -22,7 +24,7 @@ use Rattle.contents.proofs.Accepting.{accepted}
 use Rattle.tier.specs.Tier.{hitWords}
 use Rattle.tier.proofs.Buffer.{hit-held}
 use Rattle.operations.specs.Ends.{hitEnd}
-use Rattle.retain_keep.proofs.Holding.{tier-is, held, lent-entries}
+use Rattle.contents.proofs.Lending.{lent-entries}
 
 module _ (h : Header) (slots postings : List ℕ) (p : ℕ) where
   pub hit-refused : (n : ℕ) → refusal (accepts (lent h slots postings) true ((positionOk (lent h slots postings) p, 5) ∷ [])) ≡ some n →
@@ -37,8 +39,8 @@ module _ (h : Header) (slots postings : List ℕ) (p : ℕ) where
   hit-lent a l =
       let es = entriesIn (h .rows) slots in
       ap₂ (λ (x y : List ℕ). lent h x y)
-      (hit-held (h .rows) p slots (held h slots postings a) l
-      ∙ ap (λ (t : ℕ). slotsOf t (adjust hitEntry p es)) (tier-is h slots postings a))
+      (hit-held (h .rows) p slots (a .stands .held) l
+      ∙ ap (λ (t : ℕ). slotsOf t (adjust hitEntry p es)) (stands-tier (a .stands)))
       (a .stands .filing ∙ ap (filed (h .limits .«tier_rows») (h .stale)) (sym (map-adjust hitEntry (λ e. e .row) p es (λ e. refl))))
       ∙ lent-entries h (adjust hitEntry p es) (length-adjust hitEntry p es ∙ entries-length (h .rows) slots)
 
@@ -46,4 +48,5 @@ module _ (h : Header) (slots postings : List ℕ) (p : ℕ) where
       hitEnd (record { answer = Done; header = h; ticks = 0 }) (hitWords p slots) postings ≡ hit (lent h slots postings) p
   unfolding hit
   hit-done e l =
-      rw (e, hit) (ap (λ (x : Lent). record { answer = Done; ledger = x; ticks = 0 }) (hit-lent (accepted h slots postings true _ e) l))
+      rw (e, hit)
+      (ap (λ (x : Lent). record { answer = hitReply Done; ledger = x; ticks = 0 }) (hit-lent (accepted h slots postings true _ e) l))

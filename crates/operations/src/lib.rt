@@ -3,7 +3,7 @@ ghost use mathlib.Core.Path.{_≡_};
 ghost use Rattle.model.specs.Records.{fresh};
 ghost use Rattle.model.specs.Operations.{make, hit, deduce, nextOutput, begin, decide};
 ghost use Rattle.contents.specs.Lent.{lent};
-ghost use Rattle.operations.specs.Ends.{makeEnd, hitEnd, deduceEnd, outputEnd, beginEnd, decideEnd};
+ghost use Rattle.operations.specs.Ends.{makeEnd, hitEnd, refusedBy, deducedBy, deduceEnd, outputEnd, beginEnd, decideEnd};
 use contents::accept;
 use contents::limits_ok;
 use lists::fill_zero;
@@ -16,6 +16,7 @@ use model::DecideAnswer;
 use model::DecideResult;
 use model::DeduceAnswer;
 use model::DeduceResult;
+use model::Deduction;
 use model::Header;
 use model::HitAnswer;
 use model::HitResult;
@@ -28,6 +29,7 @@ use model::NextResult;
 use model::OutputCursor;
 use model::POSTING_WORDS;
 use model::SLOT_WORDS;
+use row_deduce::Deduced;
 use row_deduce::cursor_ok;
 use row_deduce::deduction;
 use row_deduce::next_publication_output;
@@ -143,6 +145,37 @@ pub fn hit(header: Header, slots: &mut [u64], postings: &[u64], position: u64) -
     }
 }
 
+// A deduction that was refused: nothing is deduced, and no tick is made.
+fn deduce_refused(number: u64, work: Meter) -> DeduceResult
+    ensures { λ r. ⌜ r ≡ refusedBy number work ⌝ }
+{
+    DeduceResult {
+        answer: DeduceAnswer::Refused(number),
+        deduction: Deduction::Nothing,
+        meter: work,
+        ticks: 0,
+    }
+}
+
+// A deduction as the row's own gives it, done or stopped.
+fn deduce_done(found: Deduced) -> DeduceResult
+    ensures { λ r. ⌜ r ≡ deducedBy found ⌝ }
+{
+    let said = found.deduction;
+    let meter = found.meter;
+    let answer = if found.stopped {
+        DeduceAnswer::Stopped
+    } else {
+        DeduceAnswer::Done
+    };
+    DeduceResult {
+        answer,
+        deduction: said,
+        meter,
+        ticks: found.ticks,
+    }
+}
+
 // What the row at a position says of a region: refused by 1, 2, 3, by 5 if there is no such row, by 6 if there is no region over the
 // ledger's atoms; Stopped, or the deduction.
 pub fn deduce(
@@ -159,29 +192,17 @@ pub fn deduce(
 {
     let n = accept(header, slots, postings, true);
     if n != 0 {
-        return DeduceResult {
-            answer: DeduceAnswer::Refused(n),
-            meter: work,
-            ticks: 0,
-        };
+        return deduce_refused(n, work);
     }
     if header.rows <= position {
-        return DeduceResult {
-            answer: DeduceAnswer::Refused(5),
-            meter: work,
-            ticks: 0,
-        };
+        return deduce_refused(5, work);
     }
     if !is_region(header.limits.atoms, held, cut) {
-        return DeduceResult {
-            answer: DeduceAnswer::Refused(6),
-            meter: work,
-            ticks: 0,
-        };
+        return deduce_refused(6, work);
     }
     let a = SLOT_WORDS * (position as usize);
     let e = a + SLOT_WORDS;
-    deduction(&slots[a..e], held, cut, work)
+    deduce_done(deduction(&slots[a..e], held, cut, work))
 }
 
 // The next output of the row at a position, with the cursor past it: refused as `deduce`, and by 8 if the cursor is none of that row's;

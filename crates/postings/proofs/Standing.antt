@@ -23,7 +23,8 @@ use Rattle.postings.specs.Searching.{zeroFirst, Searchable}
 use Rattle.slots.specs.Standing.{Stands}
 use Rattle.postings.proofs.Posting.{AllFit, postings-short, postings-low, postings-placed, zeros-of}
 use Rattle.postings.proofs.Zeros.{zeros-first}
-use Rattle.slots.proofs.Rows.{rowsFrom, rows-length, stands-rows}
+use Rattle.slots.proofs.Rows.{rowsFrom, rows-length}
+use Rattle.slots.proofs.Holding.{stands-few}
 use Rattle.postings.proofs.Rows.{rows-first, all-rows}
 use Rattle.postings.proofs.Filing.{filed-all, filed-length}
 
@@ -38,8 +39,8 @@ module _ {h : Header} {slots postings : List ℕ} where
   pub rows-room : (n : ℕ) → Stands h slots postings → postingWords * h .limits .«tier_rows» ≤ n → RowsPostable (h .rows) slots n
   rows-room n s l =
       record {
-        held = record { atoms = h .limits .atoms; over = stands-rows s };
-        room = omega (arith, s .few);
+        held = record { atoms = h .limits .atoms; over = s .held .over };
+        room = omega (arith, stands-few s);
       }
 
   fit : Stands h slots postings → AllFit (h .limits .atoms) (rows h slots)
@@ -47,15 +48,15 @@ module _ {h : Header} {slots postings : List ℕ} where
   fit s = all-rows (rows-room (postingWords * h .limits .«tier_rows») s (omega arith))
 
   pub here-short : Stands h slots postings → length (postingsOf (rowsIn (h .rows) slots)) ≤ postingWords * h .limits .«tier_rows»
-  here-short s = omega (arith, postings-short (h .limits .atoms) (rows h slots) (fit s), rows-length (h .rows) slots, s .few)
+  here-short s = omega (arith, postings-short (h .limits .atoms) (rows h slots) (fit s), rows-length (h .rows) slots, stands-few s)
 
   pub here-low : Stands h slots postings → Each (λ x. x < h .limits .atoms * maxRows) (postingsOf (rowsIn (h .rows) slots))
-  here-low s = postings-low (h .limits .atoms) (rows h slots) (fit s) (omega (arith, rows-length (h .rows) slots, s .few, s .most))
+  here-low s = postings-low (h .limits .atoms) (rows h slots) (fit s) (omega (arith, rows-length (h .rows) slots, s .held .over .few))
 
   here-placed : Stands h slots postings → Each (λ x. x % maxRows < h .rows) (posts h slots)
   here-placed s =
       rw (rows-length (h .rows) slots) at
-      (postings-placed (h .limits .atoms) (rows h slots) (fit s) (omega (arith, rows-length (h .rows) slots, s .few, s .most)))
+      (postings-placed (h .limits .atoms) (rows h slots) (fit s) (omega (arith, rows-length (h .rows) slots, s .held .over .few)))
 
   pub postings-long : Stands h slots postings → length postings ≡ postingWords * h .limits .«tier_rows»
   postings-long s = ap length (s .filing) ∙ filed-length (h .limits .«tier_rows») (h .stale) (rows h slots) (here-short s)
@@ -68,7 +69,7 @@ module _ {h : Header} {slots postings : List ℕ} where
       ≡ times 0 (postingsOf (rowsIn (h .rows) slots))
   here-zeros s l =
       let w = slotAt slots 0 in
-      let laid = laid-stored (h .limits .atoms) w (s .stored 0 l) in
+      let laid = laid-stored (h .limits .atoms) w (s .held .over .stored 0 l) in
       let later = rowsFrom (h .rows) slots 1 in
       let e : rows h slots ≡ rowIn w ∷ later = rows-first (h .rows) slots l in
       ap₂ (λ (x y : List ℕ). zeroFirst (map atom x) + zeroFirst (map atom y)) (laid .conditions) (laid .outputs)
@@ -104,7 +105,7 @@ module _ {h : Header} {slots postings : List ℕ} where
   here-searchable s n l =
       record {
         sorted = sort-sorted (posts h slots);
-        low = sort-each (λ x. x < maxAtoms * maxRows) (posts h slots) (λ x k. omega (arith, s .atoms, here-low s x k));
+        low = sort-each (λ x. x < maxAtoms * maxRows) (posts h slots) (λ x k. omega (arith, s .held .over .atoms, here-low s x k));
         placed = sort-each (λ x. x % maxRows < n) (posts h slots) (λ x k. omega (arith, here-placed s x k));
       }
 

@@ -17,6 +17,7 @@ use Rattle.model.specs.Slots.{entriesIn}
 use Rattle.model.specs.Postings.{Search, filed}
 use Rattle.model.specs.Postings as model
 use Rattle.model.specs.Refusals.{Lent, refusal, accepts, lengthsOk, contentsOk, ledgerIn, lentOf}
+use Rattle.model.specs.Answers.{candidatesReply}
 use Rattle.model.specs.Operations.{CandidatesEnd, candidates}
 use Rattle.contents.specs.Lent.{lent}
 use Rattle.contents.proofs.Accepting.{accepted}
@@ -25,6 +26,7 @@ use Rattle.slots.specs.Layout.{rowsIn}
 use Rattle.postings.specs.Searching.{SearchEnd, searchEnd, foundEnd}
 use Rattle.postings.proofs.Keeping.{candidates-keep}
 use Rattle.postings_search.specs.Ends.{candidatesEnd}
+use Rattle.slots.proofs.Holding.{stands-few}
 use Rattle.postings_search.proofs.Standing.{lent-under}
 
 some-none : (n : ℕ) → some n ≡ none → ⊥
@@ -52,7 +54,7 @@ module _ (h : Header) (slots words answer : List ℕ) where
 
   pub room : refusal (accepts s (others h answer) []) ≡ none → h .rows ≤ length answer
   room e =
-      let f = accepted h slots words (others h answer) [] e .stands .few in
+      let f = stands-few (accepted h slots words (others h answer) [] e .stands) in
       let l : length answer ≡ h .limits .«tier_rows» =
       eqb-true (length answer) (h .limits .«tier_rows») (others-true s (others h answer) e) in
       omega arith
@@ -65,7 +67,7 @@ module _ (h : Header) (slots words answer : List ℕ) where
 
     -- the end of a search, with the ledger after it
     ended : SearchEnd → Lent → CandidatesEnd
-    ended x l = record { answer = x .answer; ledger = l; found = x .found; meter = x .meter; ticks = made m (x .meter) }
+    ended x l = record { answer = candidatesReply (x .answer); ledger = l; found = x .found; meter = x .meter; ticks = made m (x .meter) }
 
     pub candidates-done : refusal (accepts s (others h answer) []) ≡ none → (r : Searched) (ps found : List ℕ) (t : ℕ) →
         foundEnd r found ≡ searchEnd (model.candidates (ledgerIn s) atoms m) (length answer) →

@@ -23,7 +23,7 @@ use Rattle.model.specs.Refusals.{Lent, ledgerIn, lentOf}
 use Rattle.contents.specs.Lent.{lent}
 use Rattle.contents.specs.Accepted.{Accepted}
 use Rattle.model.proofs.Slots.{entries-length}
-use Rattle.retain_keep.proofs.Holding.{accepted-lent}
+use Rattle.contents.proofs.Lending.{stands-lent}
 use Rattle.retain_compare.specs.Passes.{examinedBy}
 use Rattle.retain.specs.declared.Room.{Room}
 use Rattle.retain.specs.declared.Room.the-variants.{After, First, Victim, Protected}
@@ -101,12 +101,14 @@ module _ (h : Header) (slots postings : List ℕ) (acc : Accepted h slots postin
   pub as-declined : (b : Account) (n : Meter) → declined b n ≡ endOf (untaken Declines (ledgerIn s) b n)
   unfolding untaken
   as-declined b n =
-      ap {B = End} (λ (x : Lent). record { outcome = Declines; ledger = x; account = b; meter = n }) (accepted-lent h slots postings acc)
+      ap {B = End} (λ (x : Lent). record { outcome = Declines; ledger = x; account = b; meter = n })
+      (stands-lent h slots postings (acc .stands))
 
   pub as-stopped : (b : Account) (n : Meter) → stopped b n ≡ endOf (untaken Stops (ledgerIn s) b n)
   unfolding untaken
   as-stopped b n =
-      ap {B = End} (λ (x : Lent). record { outcome = Stops; ledger = x; account = b; meter = n }) (accepted-lent h slots postings acc)
+      ap {B = End} (λ (x : Lent). record { outcome = Stops; ledger = x; account = b; meter = n })
+      (stands-lent h slots postings (acc .stands))
 
   module _ (room : Room) (e : room ≡ roomOf (h .limits) es (examinedBy f 0 es)) where
     verdict-is : judgeOf s f p ≡ verdictOf room (examinedBy f 0 es) p

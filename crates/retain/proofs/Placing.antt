@@ -1,40 +1,33 @@
 -- 01, module 5: 'A new row is written into its own slot alone; with replaced rows, the first is overwritten and the later ones close up.'
 -- The words of the tier after it. Assumes nothing.
-use mathlib.Core.Path.{_≡_, refl, sym, ap, ap₂, _∙_, subst}
+use mathlib.Core.Path.{_≡_, refl, sym, ap, ap₂, _∙_}
 use mathlib.Core.Bool.{Bool, true, false, _&&_}
 use mathlib.Core.List.{List, [], _∷_, _++_, map}
 use Prim.Native.Nat.{ℕ, zero, suc, _+_, _-_, _*_, _≤_, _<_}
 use native.Mathlib.Omega.{arith}
-use lib.Dec.{T}
-use lib.ListN.{length, getD, set, take, drop, replicate, length-append, length-take, length-drop, length-set}
+use lib.ListN.{length, set, take, drop, replicate, length-append, length-take, length-drop, length-set}
 use lib.Seq.{drop-drop}
 use Rattle.lists.specs.Lists.{all, concat, pad}
 use Rattle.lists.proofs.Tests.{all-append}
 use Rattle.lists.proofs.Concats.{Blocks, length-blocks, block-more}
 use Rattle.lists.proofs.Pads.{drop-zeros}
-use Rattle.lists.proofs.Bools.{T-true, T-of, and-both, and-yes}
+use Rattle.lists.proofs.Bools.{T-of, and-both, and-yes}
 use Rattle.words.specs.Region.{maxAtoms}
 use Rattle.model.specs.Records.{Entry, isRow, slotWords}
 use Rattle.model.specs.Slots.{slotOf, slotsOf, entriesIn}
-use Rattle.model.proofs.Slots.{Valid, valid-of, slot-length, decode-encode, entries-length}
-use Rattle.model.proofs.Accepting.{slots-length}
+use Rattle.model.proofs.Slots.{Valid, valid-of, entries-length}
 use Rattle.model.proofs.Entries.{all-valid}
-use Rattle.tier.specs.Tier.{tierOf, Held, keptBy, closedUp}
-use Rattle.tier.proofs.Buffer.{holding, valid-at, put-slot}
+use Rattle.slots.specs.Layout.{tierOf, Held}
+use Rattle.slots.proofs.Holding.{valid-blocks, held-rows, holding}
+use Rattle.tier.specs.Tier.{keptBy, closedUp}
+use Rattle.tier.proofs.Buffer.{put-slot}
+use Rattle.retain_keep.proofs.Placing.{set-all}
 use Rattle.retain.specs.declared.Room.{Room}
 use Rattle.retain.specs.declared.Room.the-variants.{After, First, Victim, Protected}
 use Rattle.retain.specs.Places.{placedBy, Fits, slotPut}
 
 -- ---- what holds of every entry, after a change
 module _ (g : Entry → Bool) where
-  all-set : (es : List Entry) (i : ℕ) (e : Entry) → all g es ≡ true → g e ≡ true → all g (set es i e) ≡ true
-  unfolding all
-  all-set [] i e a b = a
-  all-set (x ∷ es) zero e a b = and-yes (g e) (all g es) b (and-both (g x) (all g es) a .1)
-  all-set (x ∷ es) (suc i) e a b =
-      let s = and-both (g x) (all g es) a in
-      and-yes (g x) (all g (set es i e)) (s .0) (all-set es i e (s .1) b)
-
   all-take : (n : ℕ) (es : List Entry) → all g es ≡ true → all g (take n es) ≡ true
   unfolding all
   all-take zero es a = refl
@@ -70,8 +63,8 @@ module _ (g : Entry → Bool) where
 
   pub all-placed : (r : Room) (f : ℕ → Bool) (es : List Entry) (e : Entry) → all g es ≡ true → g e ≡ true → all g (placedBy r f es e) ≡ true
   all-placed After f es e a b = all-snoc es e a b
-  all-placed (First t) f es e a b = all-closed f t (set es t e) (all-set es t e a b)
-  all-placed (Victim v) f es e a b = all-set es v e a b
+  all-placed (First t) f es e a b = all-closed f t (set es t e) (set-all g t e es b a)
+  all-placed (Victim v) f es e a b = set-all g v e es b a
   all-placed Protected f es e a b = a
 
 -- ---- how many there are
@@ -103,33 +96,12 @@ placed-fit (Victim v) f es e tier h k = let b = length-set es v e in omega arith
 placed-fit Protected f es e tier h k = h
 
 -- ---- the slots of such entries
-abbrev pub Rows : List Entry → Type 0
-Rows es = all (λ e. isRow maxAtoms (e .row)) es ≡ true
-
-module _ (tier : ℕ) (es : List Entry) (a : Rows es) (h : length es ≤ tier) where
-  pub tier-slots : tierOf (slotsOf tier es) ≡ tier
-  tier-slots = let n = slots-length tier es (all-valid maxAtoms es (T-of a)) h in omega arith
-
-  pub entries-back : entriesIn (length es) (slotsOf tier es) ≡ es
-  entries-back = decode-encode tier es (all-valid maxAtoms es (T-of a))
-
-  pub held-slots : (rows : ℕ) → rows ≡ length es → Held rows (slotsOf tier es)
-  held-slots rows e = subst (λ (n : ℕ). Held n (slotsOf tier es)) (sym e) (record {
-    each = subst (λ (x : List Entry). T (all (λ e. isRow maxAtoms (e .row)) x)) (sym entries-back)
-        (T-of {x = all (λ e. isRow maxAtoms (e .row)) es} a);
-    few = subst (λ (n : ℕ). length es ≤ n) (sym tier-slots) h;
-    same = ap₂ slotsOf tier-slots entries-back;
-  })
-
-module _ (rows : ℕ) (ws : List ℕ) (k : Held rows ws) (e : Entry) (v : isRow maxAtoms (e .row) ≡ true) where
+module _ (rows : ℕ) (ws : List ℕ) (k : Held maxAtoms rows ws) (e : Entry) (v : isRow maxAtoms (e .row) ≡ true) where
   abbrev es : List Entry
   es = entriesIn rows ws
 
   abbrev tier : ℕ
   tier = tierOf ws
-
-  pub rows-held : Rows es
-  rows-held = T-true (all (λ x. isRow maxAtoms (x .row)) es) (k .each)
 
   valid : Valid (e .row)
   valid = valid-of maxAtoms (e .row) (T-of {x = isRow maxAtoms (e .row)} v)
@@ -141,13 +113,13 @@ module _ (rows : ℕ) (ws : List ℕ) (k : Held rows ws) (e : Entry) (v : isRow 
       ap (slotPut p e) (sym (k .same)) ∙ put-slot tier p es e (holding rows ws k .valid) valid (omega arith)
 
   blocks : Blocks slotOf slotWords es
-  blocks i d l = slot-length (getD es i d) (valid-at i es d (holding rows ws k .valid) l)
+  blocks = valid-blocks es (holding rows ws k .valid)
 
   more : Blocks slotOf slotWords (es ++ (e ∷ []))
-  more i d l =
-      slot-length (getD (es ++ (e ∷ [])) i d)
-      (valid-at i (es ++ (e ∷ [])) d
-      (all-valid maxAtoms (es ++ (e ∷ [])) (T-of (all-placed (λ x. isRow maxAtoms (x .row)) After (λ j. false) es e rows-held v))) l)
+  more =
+      valid-blocks (es ++ (e ∷ []))
+      (all-valid maxAtoms (es ++ (e ∷ []))
+      (T-of (all-placed (λ x. isRow maxAtoms (x .row)) After (λ j. false) es e (held-rows rows ws k) v)))
 
   -- a row is written after all
   pub put-after : rows < tier → slotPut rows e ws ≡ slotsOf tier (es ++ (e ∷ []))

@@ -1,8 +1,9 @@
 -- A row placed in an accepted ledger: what the settled ledger is made of. Assumes nothing.
-use mathlib.Core.Path.{_≡_, sym, ap, ap₂, _∙_, subst}
+use mathlib.Core.Path.{_≡_, sym, ap, _∙_, subst}
 use mathlib.Core.Bool.{Bool, true}
 use mathlib.Core.List.{List, []}
 use Prim.Native.Nat.{ℕ, _≤_}
+use native.Mathlib.Nat.{le-refl}
 use native.Mathlib.Omega.{arith}
 use lib.ListN.{length}
 use Rattle.lists.specs.Lists.{pad, zeroed}
@@ -14,17 +15,17 @@ use Rattle.model.specs.Slots.{slotsOf, rowIn, entriesIn}
 use Rattle.model.specs.Postings.{filed}
 use Rattle.model.specs.Retention.{newborn}
 use Rattle.model.proofs.Rows.{row-more}
-use Rattle.slots.specs.Layout.{rowsIn}
+use Rattle.slots.specs.Layout.{rowsIn, tierOf, Held}
+use Rattle.slots.proofs.Holding.{AllRows, tier-laid, entries-laid, held-laid, held-rows, held-few, stands-tier}
 use Rattle.contents.specs.Accepted.{Accepted}
-use Rattle.retain_keep.proofs.Holding.{tier-is, held}
+use Rattle.retain_keep.proofs.Holding.{held}
 use Rattle.row_propose.specs.Proposed.{Proposed}
 use Rattle.retain_compare.specs.Passes.{examinedBy}
-use Rattle.tier.specs.Tier.{tierOf, Held}
 use Rattle.model.proofs.Slots.{entries-length}
 use Rattle.row_write.specs.Forms.{newEntry}
 use Rattle.retain.specs.declared.Room.{Room}
 use Rattle.retain.specs.Places.{roomOf, placedBy, Fits, Placing}
-use Rattle.retain.proofs.Placing.{Rows, all-placed, placed-fit, rows-held, tier-slots, entries-back, held-slots}
+use Rattle.retain.proofs.Placing.{all-placed, placed-fit}
 use Rattle.retain.proofs.Rooms.{room-told, room-fits}
 
 -- a ledger with no postings built has nothing but zeros there
@@ -46,28 +47,31 @@ module _ (h : Header) (slots postings : List ℕ) (a : Accepted h slots postings
   abbrev new : List Entry
   new = placedBy room f es (newEntry (rowIn p) hits born)
 
-  new-rows : Rows new
+  new-rows : AllRows maxAtoms new
   new-rows =
       all-placed (λ x. isRow maxAtoms (x .row)) room f es (newEntry (rowIn p) hits born)
-      (rows-held (h .rows) slots (k .held) (newEntry (rowIn p) hits born) (k .row)) (k .row)
+      (held-rows (h .rows) slots (k .held)) (k .row)
 
   new-few : length new ≤ tierOf slots
   new-few =
       let c = entries-length (h .rows) slots in
-      let w = k .held .few in
+      let w = held-few (h .rows) slots (k .held) in
       placed-fit room f es (newEntry (rowIn p) hits born) (tierOf slots) (omega arith)
       (subst (λ (n : ℕ). Fits room n (tierOf slots)) (sym c) (k .fits))
 
   module _ (after : List ℕ) (n : ℕ) (w : after ≡ slotsOf (tierOf slots) new) (c : n ≡ length new) where
-    pub new-held : Held n after
-    new-held = subst (Held n) (sym w) (held-slots (tierOf slots) new new-rows new-few n c)
+    pub new-held : Held maxAtoms n after
+    new-held =
+        subst (Held maxAtoms n) (sym w)
+        (held-laid maxAtoms (tierOf slots) new new-rows new-few n c (le-refl maxAtoms) (k .held .most))
 
     pub new-tier : tierOf after ≡ h .limits .«tier_rows»
-    new-tier = ap tierOf w ∙ tier-slots (tierOf slots) new new-rows new-few ∙ tier-is h slots postings a
+    new-tier = ap tierOf w ∙ tier-laid maxAtoms (tierOf slots) new new-rows new-few ∙ stands-tier (a .stands)
 
     pub new-entries : born ≡ saturatingAdd (h .born) 1 → entriesIn n after ≡ placedBy room f es (newborn h (rowIn p) hits)
     new-entries b =
-        ap₂ entriesIn c w ∙ entries-back (tierOf slots) new new-rows new-few ∙ ap (placedBy room f es) (new-row h (rowIn p) hits born b)
+        ap (entriesIn n) w ∙ entries-laid maxAtoms (tierOf slots) new new-rows new-few n c
+        ∙ ap (placedBy room f es) (new-row h (rowIn p) hits born b)
 
 -- the place that was found for a proposal over the ledger's atoms
 pub placing-of : (h : Header) (slots postings p : List ℕ) (f : ℕ → Bool) (room : Room) → Accepted h slots postings → Proposed p
@@ -78,8 +82,8 @@ placing-of h slots postings p f room a o r e =
     record {
       held = held h slots postings a;
       fits = subst (λ (n : ℕ). Fits room n (tierOf slots)) (entries-length (h .rows) slots)
-          (subst (λ (n : ℕ). Fits room (length es) n) (sym (tier-is h slots postings a))
+          (subst (λ (n : ℕ). Fits room (length es) n) (sym (stands-tier (a .stands)))
           (room-fits (h .limits) f es room (a .some) (room-told (h .limits) es (examinedBy f 0 es) e)));
       proposed = o;
-      row = row-more (h .limits .atoms) maxAtoms (rowIn p) (a .stands .atoms) r;
+      row = row-more (h .limits .atoms) maxAtoms (rowIn p) (a .stands .held .over .atoms) r;
     }

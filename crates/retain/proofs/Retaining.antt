@@ -23,7 +23,7 @@ use Rattle.retain_compare.specs.Turns.{comparison, bothPasses, compareReads}
 use Rattle.retain_compare.proofs.Outcomes.{compares-replaces, compares-subsumed, compares-declined, compares-stopped}
 use Rattle.retain.specs.Ends.{End, endOf, carried, admitEnd}
 use Rattle.retain.proofs.Admitting.{as-declined, as-stopped}
-use Rattle.retain_keep.proofs.Holding.{accepted-lent}
+use Rattle.contents.proofs.Lending.{stands-lent}
 use Rattle.retain.proofs.Rising.{both-placementAfter, both-row}
 
 -- ---- no mark at the start
@@ -95,7 +95,7 @@ module _ (h : Header) (slots postings : List ℕ) (acc : Accepted h slots postin
         let k = compares-subsumed x (pay (compareReads most p es) a m) e y in
         let f : v ≡ subsumed n = ap (placementAfter (h .limits) es) (k .0) in
         ap {B = End} (λ (z : Lent). record { outcome = Subsumes n; ledger = z; account = w .account; meter = w .meter })
-        (accepted-lent h slots postings acc)
+        (stands-lent h slots postings (acc .stands))
         ∙ ap (λ (r : Read). endOf (carried (ledgerIn s) p hits (subsumed n) r)) (sym (pay-none (w .account) (w .meter)))
         ∙ ap (λ (u : Placement). endOf (carried (ledgerIn s) p hits u (pay (placeReads es u) (w .account) (w .meter)))) (sym f)
         ∙ by-read (k .1)

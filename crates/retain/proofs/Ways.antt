@@ -3,36 +3,34 @@ use mathlib.Core.Path.{_≡_, sym, ap, ap₂, _∙_, subst}
 use mathlib.Core.Bool.{Bool}
 use mathlib.Core.List.{List, [], _∷_}
 use Prim.Native.Nat.{ℕ, _+_, _*_, _≤_, _<_}
+use native.Mathlib.Nat.{le-refl}
 use native.Mathlib.Omega.{arith}
 use lib.ListN.{length, set, length-append, length-set}
 use Rattle.words.specs.Region.{maxAtoms}
 use Rattle.model.specs.Records.{Entry, isRow, slotWords}
 use Rattle.model.specs.Slots.{slotsOf, rowIn, entriesIn}
-use Rattle.tier.specs.Tier.{tierOf, Held, closedUp}
+use Rattle.slots.specs.Layout.{tierOf, Held}
+use Rattle.slots.proofs.Holding.{AllRows, tier-laid, entries-laid, held-laid, held-rows, held-few}
+use Rattle.tier.specs.Tier.{closedUp}
 use Rattle.model.proofs.Slots.{entries-length}
-use Rattle.tier.proofs.Buffer.{holding}
 use Rattle.row_write.specs.Forms.{newEntry}
 use Rattle.retain.specs.declared.Room.{Room}
 use Rattle.retain.specs.declared.Room.the-variants.{After, First, Victim, Protected}
 use Rattle.retain.specs.Places.{placedBy, Fits, Placing, slotPut}
-use Rattle.retain.proofs.Placing.{Rows, all-placed, rows-held, tier-slots, entries-back, held-slots, put-held, put-after}
-
--- a position within the rows, or the next one of a tier that is not full, has its slot
-slot-inside : (rows q : ℕ) (slots : List ℕ) → Held rows slots → q < tierOf slots → slotWords * q + slotWords ≤ length slots
-slot-inside rows q slots k l = let a = holding rows slots k .long in omega arith
+use Rattle.retain.proofs.Placing.{all-placed, put-held, put-after}
 
 module _ (room : Room) (rows : ℕ) (slots p : List ℕ) (k : Placing room rows slots p) where
   fits-as : {r : Room} → room ≡ r → Fits r rows (tierOf slots)
   fits-as e = subst (λ (r : Room). Fits r rows (tierOf slots)) e (k .fits)
 
   pub after-inside : room ≡ After → slotWords * rows + slotWords ≤ length slots
-  after-inside e = slot-inside rows rows slots (k .held) (fits-as e)
+  after-inside e = let l : rows < tierOf slots = fits-as e in omega arith
 
   pub first-inside : (t : ℕ) → room ≡ First t → slotWords * t + slotWords ≤ length slots
-  first-inside t e = let l : t < rows = fits-as e in let f = k .held .few in slot-inside rows t slots (k .held) (omega arith)
+  first-inside t e = let l : t < rows = fits-as e in let f = k .held .over .long in omega arith
 
   pub victim-inside : (v : ℕ) → room ≡ Victim v → slotWords * v + slotWords ≤ length slots
-  victim-inside v e = let l : v < rows = fits-as e in let f = k .held .few in slot-inside rows v slots (k .held) (omega arith)
+  victim-inside v e = let l : v < rows = fits-as e in let f = k .held .over .long in omega arith
 
   pub first-before : (t : ℕ) → room ≡ First t → t < rows
   first-before t e = fits-as e
@@ -75,23 +73,25 @@ module _ (room : Room) (rows : ℕ) (slots p : List ℕ) (k : Placing room rows 
       written : mid ≡ slotsOf tier (set es t e)
       written = h ∙ put-held rows slots (k .held) e (k .row) t (fits-as q)
 
-      fine : Rows (set es t e)
-      fine = all-placed (λ x. isRow maxAtoms (x .row)) (Victim t) f es e (rows-held rows slots (k .held) e (k .row)) (k .row)
+      fine : AllRows maxAtoms (set es t e)
+      fine = all-placed (λ x. isRow maxAtoms (x .row)) (Victim t) f es e (held-rows rows slots (k .held)) (k .row)
 
       few : length (set es t e) ≤ tier
-      few = let a = length-set es t e in let b = k .held .few in let c = count in omega arith
+      few = let a = length-set es t e in let b = held-few rows slots (k .held) in let c = count in omega arith
 
       as-many : rows ≡ length (set es t e)
       as-many = sym (length-set es t e ∙ count)
 
-      pub first-held : Held rows mid
-      first-held = subst (Held rows) (sym written) (held-slots tier (set es t e) fine few rows as-many)
+      pub first-held : Held maxAtoms rows mid
+      first-held =
+          subst (Held maxAtoms rows) (sym written)
+          (held-laid maxAtoms tier (set es t e) fine few rows as-many (le-refl maxAtoms) (k .held .most))
 
       entries-now : entriesIn rows mid ≡ set es t e
-      entries-now = ap₂ entriesIn as-many written ∙ entries-back tier (set es t e) fine few
+      entries-now = ap (entriesIn rows) written ∙ entries-laid maxAtoms tier (set es t e) fine few rows as-many
 
       tier-now : tierOf mid ≡ tier
-      tier-now = ap tierOf written ∙ tier-slots tier (set es t e) fine few
+      tier-now = ap tierOf written ∙ tier-laid maxAtoms tier (set es t e) fine few
 
       pub place-first : (after : List ℕ) (n : ℕ)
           → (after ≡ slotsOf (tierOf mid) (closedUp f t (entriesIn rows mid))) × (n ≡ length (closedUp f t (entriesIn rows mid)))

@@ -12,7 +12,8 @@ use Rattle.model.specs.declared.LearningLimits.{LearningLimits}
 use Rattle.model.specs.Records.{Row, Entry, isRow, saturatingAdd, slotWords}
 use Rattle.model.specs.Slots.{slotOf, rowIn}
 use Rattle.model.specs.Retention.{Examined, Placement, placing, protected, evicting, anyReplaced, placeOf, victim}
-use Rattle.tier.specs.Tier.{tierOf, Held, closedUp}
+use Rattle.slots.specs.Layout.{tierOf, Held}
+use Rattle.tier.specs.Tier.{closedUp}
 use Rattle.row_propose.specs.Proposed.{Proposed}
 use Rattle.retain.specs.declared.Room.{Room}
 use Rattle.retain.specs.declared.Room.the-variants.{After, First, Victim, Protected}
@@ -71,7 +72,7 @@ Fits Protected rows tier = Unit {0}
 
 -- what is asked before a row is placed
 pub record Placing (room : Room) (rows : ℕ) (slots p : List ℕ) : Type 0 where
-  pub held : Held rows slots
+  pub held : Held maxAtoms rows slots
   pub fits : Fits room rows (tierOf slots)
   pub proposed : Proposed p
   pub row : isRow maxAtoms (rowIn p) ≡ true

@@ -4,7 +4,7 @@ ghost use mathlib.Core.Bool.{true};
 ghost use Prim.Native.Nat.{ℕ, _*_, _+_, _≤_, _<_};
 ghost use lib.ListN.{length, take, drop};
 ghost use Rattle.lists.specs.Lists.{zeroed};
-ghost use Rattle.words.specs.Region.{has};
+ghost use Rattle.words.specs.Region.{has, maxAtoms};
 ghost use Rattle.model.specs.Slots.{slotsOf, rowIn, entriesIn};
 ghost use Rattle.meter.specs.Meter.{pay};
 ghost use Rattle.meter.specs.declared.Read.the-variants.{Paid};
@@ -14,7 +14,7 @@ ghost use Rattle.model.specs.Retention.{newborn, settle as settleOf, retain as 
 ghost use Rattle.model.specs.Refusals.{ledgerIn, lentOf};
 ghost use Rattle.contents.specs.Lent.{lent};
 ghost use Rattle.contents.specs.Accepted.{Accepted};
-ghost use Rattle.tier.specs.Tier.{Held, tierOf};
+ghost use Rattle.slots.specs.Layout.{Held, tierOf};
 ghost use Rattle.row_propose.specs.Proposed.{Proposed};
 ghost use Rattle.row_write.specs.Forms.{formOf, newEntry};
 ghost use Rattle.retain_compare.specs.Passes.{examinedBy};
@@ -49,7 +49,7 @@ pub enum Room {
 // The place for a proposal: that of the first row marked; else after all rows while the tier is not full; else the victim's, or none while
 // there are no more rows than the floor.
 fn find_room(limits: LearningLimits, slots: &[u64], rows: usize, replaced: &[u64]) -> Room
-    requires { ⌜ Held rows (now slots) ⌝ ∗ ⌜ 1 ≤ limits .«tier_rows» ⌝ }
+    requires { ⌜ Held maxAtoms rows (now slots) ⌝ ∗ ⌜ 1 ≤ limits .«tier_rows» ⌝ }
     ensures { λ r. ⌜ r
         ≡ roomOf limits (entriesIn rows (now (slots .entry)))
         (examinedBy (has (now (replaced .entry))) 0 (entriesIn rows (now (slots .entry)))) ⌝ }
@@ -88,8 +88,8 @@ fn settle(
     slots: &mut [u64],
     postings: &mut [u64],
 ) -> Header
-    requires { ⌜ Held rows (now slots) ⌝ ∗ ⌜ tierOf (now slots) ≡ header .limits .«tier_rows» ⌝ ∗ ⌜ 1 ≤ header .limits .«tier_rows» ⌝
-        ∗ ⌜ length (now postings) ≡ postingWords * header .limits .«tier_rows» ⌝
+    requires { ⌜ Held maxAtoms rows (now slots) ⌝ ∗ ⌜ tierOf (now slots) ≡ header .limits .«tier_rows» ⌝
+        ∗ ⌜ 1 ≤ header .limits .«tier_rows» ⌝ ∗ ⌜ length (now postings) ≡ postingWords * header .limits .«tier_rows» ⌝
         ∗ ⌜ (header .stale ≡ true → now postings ≡ zeroed (now postings)) ⌝ }
     ensures { λ r. ⌜ lent r (now (slots .exit)) (now (postings .exit))
         ≡ lentOf (settleOf header (entriesIn rows (now (slots .entry))) evicted) ⌝ }

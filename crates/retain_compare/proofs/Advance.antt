@@ -27,7 +27,7 @@ use Rattle.model.specs.Retention.{Examined, Pass, found, passed, noted, firstPa
 use Rattle.slots.specs.Layout.{proposal}
 use Rattle.slots.proofs.Storing.{row-proposal}
 use Rattle.row_propose.specs.Proposed.{Proposed}
-use Rattle.tier.proofs.Buffer.{no-entry}
+use Rattle.slots.proofs.Holding.{no-entry}
 use Rattle.retain_compare.specs.declared.Comparison.{Comparison}
 use Rattle.retain_compare.specs.declared.Compared.{Compared as Ended}
 use Rattle.retain_compare.specs.declared.Compared.the-variants as compared

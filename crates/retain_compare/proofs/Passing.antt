@@ -58,35 +58,26 @@ examined-length f i (e ∷ es) = ap suc (examined-length f (suc i) es)
 
 -- ---- the first pass at one position
 module _ (most : ℕ) (p : Row) (e : Entry) (es : List Entry) where
+  -- by whether the row subsumes the proposal
+  abbrev after : Bool → Pass
+  after b =
+      elim b [
+        | true ↦ found 0
+        | false ↦ elim (joins most (e .row) p) [
+          | true ↦ noted true e (firstPass most (grown (e .row) p) es)
+          | false ↦ noted false e (firstPass most p es)
+        ]
+      ]
+
   pub first-found : subsumes (e .row) p ≡ true → firstPass most p (e ∷ es) ≡ found 0
   unfolding firstPass
   first-found h = ap after h
-    where
-      after : Bool → Pass
-      after b =
-          elim b [
-            | true ↦ found 0
-            | false ↦ elim (joins most (e .row) p) [
-              | true ↦ noted true e (firstPass most (grown (e .row) p) es)
-              | false ↦ noted false e (firstPass most p es)
-            ]
-          ]
 
   pub first-on : subsumes (e .row) p ≡ false
       → firstPass most p (e ∷ es) ≡ noted (joins most (e .row) p) e (firstPass most (proposalAfter most (e .row) p) es)
   unfolding firstPass proposalAfter
   first-on h = ap after h ∙ go (joins most (e .row) p)
     where
-      after : Bool → Pass
-      after b =
-          elim b [
-            | true ↦ found 0
-            | false ↦ elim (joins most (e .row) p) [
-              | true ↦ noted true e (firstPass most (grown (e .row) p) es)
-              | false ↦ noted false e (firstPass most p es)
-            ]
-          ]
-
       go : (b : Bool)
           → (elim b as (λ k. Pass) [
             | true ↦ noted true e (firstPass most (grown (e .row) p) es)

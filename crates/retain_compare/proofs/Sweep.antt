@@ -26,7 +26,7 @@ use Rattle.model.specs.Rows.{subsumes}
 use Rattle.model.specs.Retention.{secondPass, secondReads}
 use Rattle.meter.specs.Payment.{WhereYes}
 use Rattle.meter.proofs.Payments.{onYes, not-yes, ask-both, where-all, where-not}
-use Rattle.tier.proofs.Buffer.{no-entry}
+use Rattle.slots.proofs.Holding.{no-entry}
 use Rattle.retain_compare.specs.Passes.{examinedBy}
 use Rattle.retain_compare.specs.Turns.{sweepReads, sweptMarks}
 use Rattle.retain_compare.proofs.Answers.{told-yes}

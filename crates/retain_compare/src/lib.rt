@@ -3,17 +3,16 @@ ghost use mathlib.Core.Path.{_≡_};
 ghost use mathlib.Core.Bool.{true, false};
 ghost use Prim.Native.Nat.{ℕ, _*_, _≤_, _/_, _<_};
 ghost use lib.ListN.{length};
-ghost use Rattle.words.specs.Region.{has};
+ghost use Rattle.words.specs.Region.{has, maxAtoms};
 ghost use Rattle.meter.specs.Meter.{pay, judged};
 ghost use Rattle.model.specs.Rows.{subsumes as subsumesOf, subsumesReads};
 ghost use Rattle.model.specs.Slots.{rowIn, entriesIn};
 ghost use Rattle.model.specs.Records.{maxOutputs};
 ghost use Rattle.model.specs.Union.{joins, joinReads};
 ghost use Rattle.model.specs.Retention.{passed, firstPass, firstReads, secondPass, secondReads};
-ghost use Rattle.slots.specs.Layout.{Laid, proposal};
+ghost use Rattle.slots.specs.Layout.{Laid, Held, proposal};
 ghost use Rattle.row_propose.specs.Proposed.{Proposed};
 ghost use Rattle.meter.specs.Payment.{WhereYes};
-ghost use Rattle.tier.specs.Tier.{Held};
 ghost use Rattle.retain_compare.specs.Passes.{examinedBy, rowReads, proposalAfter};
 ghost use Rattle.retain_compare.specs.Turns.{markedIf, WhereNo, sweepReads, sweptMarks, endedOf, comparison, WhereReplaces};
 ghost use Rattle.retain_compare.specs.Turns.{bothPasses, compareReads};
@@ -106,7 +105,7 @@ pub fn second_pass(
     account: Account,
     work: Meter,
 ) -> Judged
-    requires { ⌜ Held rows (now slots) ⌝ ∗ ⌜ Laid (now p) ⌝ ∗ ⌜ rows ≤ 64 * length (now replaced) ⌝ }
+    requires { ⌜ Held maxAtoms rows (now slots) ⌝ ∗ ⌜ Laid (now p) ⌝ ∗ ⌜ rows ≤ 64 * length (now replaced) ⌝ }
     ensures { λ v. ⌜ (v
         ≡ judged true (pay
         (secondReads (rowIn (now (p .entry))) (examinedBy (has (now (replaced .entry))) 0 (entriesIn rows (now (slots .entry))))) account
@@ -210,7 +209,7 @@ fn first_pass(
     account: Account,
     work: Meter,
 ) -> Comparison
-    requires { ⌜ Held rows (now slots) ⌝ ∗ ⌜ Proposed (now p) ⌝ ∗ ⌜ most ≤ maxOutputs ⌝ ∗ ⌜ rows ≤ 64 * length (now replaced) ⌝
+    requires { ⌜ Held maxAtoms rows (now slots) ⌝ ∗ ⌜ Proposed (now p) ⌝ ∗ ⌜ most ≤ maxOutputs ⌝ ∗ ⌜ rows ≤ 64 * length (now replaced) ⌝
         ∗ ⌜ ((j : ℕ) → has (now replaced) j ≡ false) ⌝ }
     ensures { λ v. ⌜ (v ≡ comparison (firstPass most (rowIn (now (p .entry))) (entriesIn rows (now (slots .entry))))
         (pay (firstReads most (rowIn (now (p .entry))) (entriesIn rows (now (slots .entry)))) account work))
@@ -304,7 +303,7 @@ pub fn compare(
     account: Account,
     work: Meter,
 ) -> Comparison
-    requires { ⌜ Held rows (now slots) ⌝ ∗ ⌜ Proposed (now p) ⌝ ∗ ⌜ most ≤ maxOutputs ⌝ ∗ ⌜ rows ≤ 64 * length (now replaced) ⌝
+    requires { ⌜ Held maxAtoms rows (now slots) ⌝ ∗ ⌜ Proposed (now p) ⌝ ∗ ⌜ most ≤ maxOutputs ⌝ ∗ ⌜ rows ≤ 64 * length (now replaced) ⌝
         ∗ ⌜ ((j : ℕ) → has (now replaced) j ≡ false) ⌝ }
     ensures { λ v. ⌜ (v ≡ comparison (firstPass most (rowIn (now (p .entry))) (entriesIn rows (now (slots .entry))))
         (pay (compareReads most (rowIn (now (p .entry))) (entriesIn rows (now (slots .entry)))) account work))

@@ -1,27 +1,19 @@
 -- A change of one entry that leaves its row and its birth. Assumes nothing.
-use mathlib.Core.Path.{_≡_, refl, sym, ap, ap₂, _∙_, subst}
-use mathlib.Core.Bool.{Bool, true, _&&_}
-use mathlib.Core.List.{List, [], _∷_, map}
-use Prim.Native.Nat.{ℕ, zero, suc, _≤_}
+use mathlib.Core.Path.{_≡_, sym, ap₂, _∙_, subst}
+use mathlib.Core.Bool.{_&&_}
+use mathlib.Core.List.{List}
+use Prim.Native.Nat.{ℕ, _≤_}
 use lib.Dec.{leb}
-use lib.ListN.{length}
-use Rattle.lists.specs.Lists.{all, adjust}
+use Rattle.lists.specs.Lists.{adjust}
 use Rattle.lists.proofs.Selects.{length-adjust, map-adjust}
-use Rattle.model.specs.declared.Header.{Header}
 use Rattle.model.specs.Records.{Row, Entry, Ledger, isRow, rowsOf, withRows}
 use Rattle.model.specs.Slots.{slotsOf}
 use Rattle.model.specs.Postings.{filed}
 use Rattle.model.specs.Transfers.{changeAt}
-use Rattle.model.specs.Refusals.{Lent, entryOk, lentOf}
+use Rattle.model.specs.Refusals.{entryOk, lentOf}
 use Rattle.contents.specs.Lent.{lent}
+use Rattle.tier.proofs.Buffer.{all-adjust}
 use Rattle.retain_keep.specs.Good.{Good}
-
-all-adjust : (g : Entry → Bool) (f : Entry → Entry) (p : ℕ) (es : List Entry) → ((e : Entry) → g (f e) ≡ g e)
-    → all g (adjust f p es) ≡ all g es
-unfolding all adjust
-all-adjust g f p [] h = refl
-all-adjust g f zero (e ∷ es) h = ap (λ (b : Bool). b && all g es) (h e)
-all-adjust g f (suc p) (e ∷ es) h = ap (λ (b : Bool). g e && b) (all-adjust g f p es h)
 
 module _ (f : Entry → Entry) (row : (e : Entry) → f e .row ≡ e .row) (born : (e : Entry) → f e .born ≡ e .born) (p : ℕ) (l : Ledger) where
   ok-same : (e : Entry) → entryOk (l .header) (f e) ≡ entryOk (l .header) e

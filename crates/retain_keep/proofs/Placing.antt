@@ -1,12 +1,11 @@
 -- What a verdict places: the rows that were there and one more, as many as the tier has room for. Assumes nothing.
-use mathlib.Core.Path.{_≡_, refl, sym, ap, ap₂, _∙_, subst}
-use mathlib.Core.Logic.{_⊎_, inl, inr}
-use mathlib.Core.Bool.{Bool, true, false, _&&_, _||_, false≢true}
+use mathlib.Core.Path.{_≡_, refl, sym, ap, _∙_, subst}
+use mathlib.Core.Bool.{Bool, true, false, _||_, false≢true}
 use mathlib.Core.List.{List, [], _∷_, map}
-use Prim.Native.Nat.{ℕ, zero, suc, _≤_, _<_}
+use Prim.Native.Nat.{ℕ, zero, suc, _≤_}
 use native.Mathlib.Omega.{arith}
 use lib.Dec.{ltb, leb}
-use lib.ListN.{length, set}
+use lib.ListN.{length, set, length-map}
 use borrow.Author.Tests.{ltb-true}
 use Rattle.lists.specs.Lists.{all}
 use Rattle.lists.proofs.Bools.{and-both, and-yes}
@@ -109,16 +108,12 @@ place-same e (k ∷ ks) h = go (k .replaced) h (place-same e ks) (kept-length ks
     go true q f j = omega arith
     go false q f j = let i = f q in omega arith
 
-entries-length : (ks : List Examined) → length (entriesOf ks) ≡ length ks
-entries-length [] = refl
-entries-length (k ∷ ks) = ap suc (entries-length ks)
-
 pub place-fits : (tier : ℕ) (e : Entry) (es : List Entry) (ks : List Examined) → entriesOf ks ≡ es
     → (anyReplaced ks || ltb (length es) tier) ≡ true → length es ≤ tier → length (place e ks) ≤ tier
 place-fits tier e es ks h b l = go (anyReplaced ks) refl b
   where
     many : length es ≡ length ks
-    many = ap length (sym h) ∙ entries-length ks
+    many = ap length (sym h) ∙ length-map ks (λ k. k .entry)
 
     go : (a : Bool) → anyReplaced ks ≡ a → (a || ltb (length es) tier) ≡ true → length (place e ks) ≤ tier
     go true q r = let s = place-same e ks q in let n = many in omega arith

@@ -17,11 +17,13 @@ use Rattle.model.specs.Refusals.{Lent, refusal, accepts, ledgerIn, lentOf}
 use Rattle.contents.specs.Lent.{lent}
 use Rattle.contents.specs.Accepted.{Accepted}
 use Rattle.contents.proofs.Accepting.{accepted}
-use Rattle.tier.specs.Tier.{tierOf, Held, hitsAdded, markedDelivered, sharedOut}
+use Rattle.contents.proofs.Lending.{stands-lent}
+use Rattle.slots.specs.Layout.{tierOf, Held}
+use Rattle.slots.proofs.Holding.{stands-tier}
+use Rattle.tier.specs.Tier.{hitsAdded, markedDelivered, sharedOut}
 use Rattle.tier.proofs.Buffer.{hits-added, marked-delivered, shared-out}
 use Rattle.retain_keep.specs.Good.{Good, recounted}
 use Rattle.retain_keep.specs.Stood.{Stood}
-use Rattle.retain_keep.proofs.Holding.{tier-is, held, accepted-lent}
 use Rattle.retain_keep.proofs.Retaining.{retain-good}
 use Rattle.retain_keep.proofs.Lending.{recounted-lent, good-accepted, good-read, accepted-good}
 use Rattle.retain_keep.proofs.Recounting.{recountedEnd, retain-recounted}
@@ -42,8 +44,8 @@ module _ (h : Header) (slots postings : List ℕ) (l : Ledger) (s : Stood h slot
   unfolding ledgerIn
   stood-entries = ap (λ (x : Ledger). x .entries) stood-read
 
-  pub stood-held : Held (h .rows) slots
-  stood-held = held h slots postings stood-accepted
+  stood-held : Held (h .limits .atoms) (h .rows) slots
+  stood-held = stood-accepted .stands .held
 
   pub stood-limits : h .limits ≡ l .header .limits
   unfolding lentOf withRows
@@ -85,7 +87,7 @@ module _ (h : Header) (slots postings : List ℕ) (l : Ledger) (s : Stood h slot
           ∙ ap (λ (x : List ℕ). lent (lentOf l .header) x (lentOf l .postings))
           (e
           ∙ ap₂ (λ (n : ℕ) (es : List Entry). slotsOf n (adjust f p es))
-          (tier-is h slots postings stood-accepted ∙ ap (λ x. x .«tier_rows») stood-limits) stood-entries)
+          (stands-tier (stood-accepted .stands) ∙ ap (λ x. x .«tier_rows») stood-limits) stood-entries)
           ∙ change-lent f row born p l;
     }
 
@@ -111,5 +113,5 @@ pub accepted-stood : (h : Header) (slots postings : List ℕ) (o : Bool) (ts : L
 accepted-stood h slots postings o ts e b =
     record {
       good = accepted-good (lent h slots postings) o ts e b;
-      same = accepted-lent h slots postings (accepted h slots postings o ts e);
+      same = stands-lent h slots postings (accepted h slots postings o ts e .stands);
     }

@@ -18,8 +18,6 @@ use Rattle.meter.specs.declared.Tick.the-variants.{Ticked, Stopped}
 use Rattle.meter.specs.Meter.{tickOf, onTick, ticks, ticks-add}
 use Rattle.model.specs.declared.Deduction.{Deduction}
 use Rattle.model.specs.declared.Deduction.the-variants.{Nothing, Force, Require}
-use Rattle.model.specs.declared.DeduceResult.{DeduceResult}
-use Rattle.model.specs.declared.DeduceAnswer.the-variants as deduce-answer
 use Rattle.model.specs.Records.{Row}
 use Rattle.model.specs.Rows.{packed}
 use Rattle.model.specs.Deduction.{failing, contradicted, idle, deduceFrom, deduction, chunks, conditionLooks, outputLooks, looksOn}
@@ -31,6 +29,7 @@ use Rattle.row_deduce.specs.declared.ConditionsRead.{ConditionsRead}
 use Rattle.row_deduce.specs.declared.OutputState.{OutputState}
 use Rattle.row_deduce.specs.declared.OutputState.the-variants as output
 use Rattle.row_deduce.specs.declared.OutputsRead.{OutputsRead}
+use Rattle.row_deduce.specs.declared.Deduced.{Deduced}
 use Rattle.row_deduce.specs.Walks.{literal, conditionStateOf, conditionsRead, readConditions, outputsRead, readOutputs, ended}
 use Rattle.row_deduce.specs.Walks.{concluded, deduced}
 
@@ -249,7 +248,7 @@ concat-chunks false cs = singles-concat cs
 
 -- ---- a whole deduction, by the way it goes
 module _ (r : Region) (s : Row) (m : Meter) where
-  abbrev answer : DeduceResult
+  abbrev answer : Deduced
   answer = deduced (deduction r s) m (ticks (deductionTicks r s) m)
 
   abbrev conditionsOf : List (List ℕ)
@@ -262,7 +261,7 @@ module _ (r : Region) (s : Row) (m : Meter) where
   fails = failing r (s .conditions)
 
   pub deduced-stopped : {n : Meter} → Stopped n ≡ tickOf m
-      → ended deduce-answer.Stopped m n ≡ deduced (deduction r s) m (ticks (deductionTicks r s) m)
+      → ended Nothing true m n ≡ deduced (deduction r s) m (ticks (deductionTicks r s) m)
   unfolding deductionTicks ticks
   deduced-stopped e = rw (sym e, ticks)
 
@@ -285,7 +284,7 @@ module _ (r : Region) (s : Row) (m : Meter) where
 
     -- the conditions' ticks were not all made
     pub deduced-halted : {k : Meter} → conditionsRead condition.Stopped k ≡ readConditions r [] (chunks (packed s) (s .conditions)) n
-        → ended deduce-answer.Stopped m k ≡ deduced (deduction r s) m (ticks (deductionTicks r s) m)
+        → ended Nothing true m k ≡ deduced (deduction r s) m (ticks (deductionTicks r s) m)
     deduced-halted {k} e =
         ap (deduced (deduction r s) m)
         (sym (both ∙ ap (λ (t : Tick). onTick t (ticks (elim (looksOn r fails) as (λ z. ℕ) [ true ↦ outputLooks r outputsOf | false ↦ 0 ])))
@@ -308,14 +307,14 @@ module _ (r : Region) (s : Row) (m : Meter) where
       said = says-conditionState r s fails ∙ ap (λ (x : ConditionState). says x (contradicted r (s .outputs))) (seen .1)
 
     pub deduced-idle : {k : Meter} → conditionsRead condition.Idle k ≡ readConditions r [] (chunks (packed s) (s .conditions)) n
-        → ended (deduce-answer.Deduced Nothing) m k ≡ deduced (deduction r s) m (ticks (deductionTicks r s) m)
+        → ended Nothing false m k ≡ deduced (deduction r s) m (ticks (deductionTicks r s) m)
     unfolding ticks
     deduced-idle {k} e =
         let f : condition.Idle ≡ condition.Stopped → ⊥ = (λ q. let z : _≡_ {A = ℕ} 0 1 = cc in omega arith) in
         sym (ap₂ (λ (d : Deduction) (t : Tick). deduced d m t) (said condition.Idle k f e) (rest condition.Idle k f e))
 
     pub deduced-force : {k : Meter} → conditionsRead condition.Holds k ≡ readConditions r [] (chunks (packed s) (s .conditions)) n
-        → ended (deduce-answer.Deduced Force) m k ≡ deduced (deduction r s) m (ticks (deductionTicks r s) m)
+        → ended Force false m k ≡ deduced (deduction r s) m (ticks (deductionTicks r s) m)
     unfolding ticks
     deduced-force {k} e =
         let f : condition.Holds ≡ condition.Stopped → ⊥ = (λ q. let z : _≡_ {A = ℕ} 0 1 = cc in omega arith) in

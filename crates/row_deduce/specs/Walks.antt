@@ -1,5 +1,5 @@
 -- 01, module 4: "Ticks: 1, then one a literal or group looked at." The walks of a deduction, each tick before its look. Assumes nothing.
-use mathlib.Core.Bool.{true, false}
+use mathlib.Core.Bool.{Bool, true, false}
 use mathlib.Core.List.{List, [], _∷_, _++_}
 use Prim.Native.Nat.{ℕ, _+_, _*_}
 use lib.Bits.{bitAnd}
@@ -14,9 +14,6 @@ use Rattle.meter.specs.Meter.{tickOf, made}
 use Rattle.model.specs.declared.Literal.{Literal}
 use Rattle.model.specs.declared.Deduction.{Deduction}
 use Rattle.model.specs.declared.Deduction.the-variants.{Nothing, Require}
-use Rattle.model.specs.declared.DeduceResult.{DeduceResult}
-use Rattle.model.specs.declared.DeduceAnswer.{DeduceAnswer}
-use Rattle.model.specs.declared.DeduceAnswer.the-variants as deduce-answer
 use Rattle.model.specs.Deduction.{failing, contradicted, idle}
 use Rattle.row_deduce.specs.declared.ConditionState.{ConditionState}
 use Rattle.row_deduce.specs.declared.ConditionState.the-variants as condition
@@ -24,6 +21,7 @@ use Rattle.row_deduce.specs.declared.ConditionsRead.{ConditionsRead}
 use Rattle.row_deduce.specs.declared.OutputState.{OutputState}
 use Rattle.row_deduce.specs.declared.OutputState.the-variants as output
 use Rattle.row_deduce.specs.declared.OutputsRead.{OutputsRead}
+use Rattle.row_deduce.specs.declared.Deduced.{Deduced}
 
 -- the literal of a code
 abbrev pub literal : ℕ → Literal
@@ -65,20 +63,20 @@ readOutputs r (k ∷ ks) m =
       | Ticked n ↦ elim (contradicted r k) [ true ↦ outputsRead output.Contradicted n | false ↦ readOutputs r ks n ]
     ]
 
--- an answer that ends a call, with the ticks made since it began
-abbrev pub ended : DeduceAnswer → Meter → Meter → DeduceResult
-ended x before after = record { answer = x; meter = after; ticks = made before after }
+-- a deduction, or that it was stopped, with the ticks made since the meter stood at `before`
+abbrev pub ended : Deduction → Bool → Meter → Meter → Deduced
+ended d b before after = record { deduction = d; stopped = b; meter = after; ticks = made before after }
 
 -- what the outputs say where one condition alone is undecided
-abbrev pub outputAnswer : ℕ → OutputState → DeduceAnswer
-outputAnswer c output.Stopped = deduce-answer.Stopped
-outputAnswer c output.Clear = deduce-answer.Deduced Nothing
-outputAnswer c output.Contradicted = deduce-answer.Deduced (Require (literal (opposite c)))
+abbrev pub outputEnd : ℕ → OutputState → Meter → Meter → Deduced
+outputEnd c output.Stopped before after = ended Nothing true before after
+outputEnd c output.Clear before after = ended Nothing false before after
+outputEnd c output.Contradicted before after = ended (Require (literal (opposite c))) false before after
 
-abbrev pub concluded : ℕ → Meter → OutputsRead → DeduceResult
-concluded c m k = ended (outputAnswer c (k .state)) m (k .meter)
+abbrev pub concluded : ℕ → Meter → OutputsRead → Deduced
+concluded c m k = outputEnd c (k .state) m (k .meter)
 
 -- a deduction that is given once its ticks are made
-abbrev pub deduced : Deduction → Meter → Tick → DeduceResult
-deduced d m (Ticked n) = ended (deduce-answer.Deduced d) m n
-deduced d m (Stopped n) = ended deduce-answer.Stopped m n
+abbrev pub deduced : Deduction → Meter → Tick → Deduced
+deduced d m (Ticked n) = ended d false m n
+deduced d m (Stopped n) = ended Nothing true m n

@@ -21,8 +21,6 @@ ghost use Rattle.row_deduce.specs.Walks.{literal, codeIn, readConditions
 ghost use Rattle.row_deduce.specs.Walks.{concluded as concludedWith, deduced};
 use meter::Meter;
 use meter::Tick;
-use model::DeduceAnswer;
-use model::DeduceResult;
 use model::Deduction;
 use model::GROUP_WORDS;
 use model::Literal;
@@ -56,6 +54,14 @@ pub enum OutputState {
 pub struct OutputsRead {
     pub state: OutputState,
     pub meter: Meter,
+}
+
+// A deduction, with the meter after it and the ticks made. Stopped: the ticks were not all made, and nothing was deduced.
+pub struct Deduced {
+    pub deduction: Deduction,
+    pub stopped: bool,
+    pub meter: Meter,
+    pub ticks: u64,
 }
 
 // The words of a group: its place among the words of a region, and its bits of each sign.
@@ -305,12 +311,13 @@ fn negation(code: u64) -> Literal
     }
 }
 
-// An answer, with the meter and the ticks made since it stood at `before`.
-fn ended(answer: DeduceAnswer, before: Meter, after: Meter) -> DeduceResult
-    ensures { λ r. ⌜ r ≡ endedWith answer before after ⌝ }
+// A deduction, or that it was stopped, with the meter and the ticks made since it stood at `before`.
+fn ended(deduction: Deduction, stopped: bool, before: Meter, after: Meter) -> Deduced
+    ensures { λ r. ⌜ r ≡ endedWith deduction stopped before after ⌝ }
 {
-    DeduceResult {
-        answer: answer,
+    Deduced {
+        deduction,
+        stopped,
         meter: after,
         ticks: after.made(before),
     }
@@ -324,7 +331,7 @@ fn concluded(
     code: u64,
     before: Meter,
     work: Meter,
-) -> DeduceResult
+) -> Deduced
     requires { ⌜ Matched (now slot) (now held) (now cut) ⌝ ∗ ⌜ code < 2 * maxAtoms ⌝ }
     ensures { λ r. ⌜ r
         ≡ concludedWith code before (readOutputs (region (now (held .entry)) (now (cut .entry)))
@@ -333,14 +340,11 @@ fn concluded(
     let found = outputs(slot, held, cut, work);
     let state = found.state;
     match state {
-        OutputState::Stopped => ended(DeduceAnswer::Stopped, before, found.meter),
-        OutputState::Clear => ended(
-            DeduceAnswer::Deduced(Deduction::Nothing),
-            before,
-            found.meter,
-        ),
+        OutputState::Stopped => ended(Deduction::Nothing, true, before, found.meter),
+        OutputState::Clear => ended(Deduction::Nothing, false, before, found.meter),
         OutputState::Contradicted => ended(
-            DeduceAnswer::Deduced(Deduction::Require(negation(code))),
+            Deduction::Require(negation(code)),
+            false,
             before,
             found.meter,
         ),
@@ -349,28 +353,20 @@ fn concluded(
 
 // What a row says of a region. Force: its conditions all hold. Require: one is undecided, the others hold, and an output is
 // contradicted. Nothing: else. Stopped: the ticks were not all made.
-pub fn deduction(slot: &[u64], held: &[u64], cut: &[u64], work: Meter) -> DeduceResult
+pub fn deduction(slot: &[u64], held: &[u64], cut: &[u64], work: Meter) -> Deduced
     requires { ⌜ Matched (now slot) (now held) (now cut) ⌝ }
     ensures { λ r. ⌜ r ≡ deduced (deduction (region (now (held .entry)) (now (cut .entry))) (rowIn (now (slot .entry)))) work
         (ticks (deductionTicks (region (now (held .entry)) (now (cut .entry))) (rowIn (now (slot .entry)))) work) ⌝ }
 {
     match work.tick() {
-        Tick::Stopped(m) => ended(DeduceAnswer::Stopped, work, m),
+        Tick::Stopped(m) => ended(Deduction::Nothing, true, work, m),
         Tick::Ticked(m) => {
             let found = conditions(slot, held, cut, m);
             let state = found.state;
             match state {
-                ConditionState::Stopped => ended(DeduceAnswer::Stopped, work, found.meter),
-                ConditionState::Idle => ended(
-                    DeduceAnswer::Deduced(Deduction::Nothing),
-                    work,
-                    found.meter,
-                ),
-                ConditionState::Holds => ended(
-                    DeduceAnswer::Deduced(Deduction::Force),
-                    work,
-                    found.meter,
-                ),
+                ConditionState::Stopped => ended(Deduction::Nothing, true, work, found.meter),
+                ConditionState::Idle => ended(Deduction::Nothing, false, work, found.meter),
+                ConditionState::Holds => ended(Deduction::Force, false, work, found.meter),
                 ConditionState::Undecided(code) => concluded(
                     slot,
                     held,

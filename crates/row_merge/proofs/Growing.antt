@@ -25,8 +25,7 @@ use Rattle.model.specs.Union.{union, grown}
 use Rattle.model.specs.Slots.{rowIn}
 use Rattle.slots.specs.declared.Side.{Side}
 use Rattle.slots.specs.Cursor.{Sound, listOf}
-use Rattle.slots.specs.Layout.{Laid, outputSide, proposal}
-use Rattle.row_propose.specs.Offered.{rowOf}
+use Rattle.slots.specs.Layout.{Laid, outputSide, proposal, rowOf}
 use Rattle.row_propose.specs.Parts.{blankOf}
 use Rattle.row_propose.specs.Proposed.{Proposed}
 use Rattle.row_propose.proofs.Parts.{put-part, put-next, put-proposal, mid-long}

@@ -11,7 +11,7 @@ use Rattle.words.specs.Literal.{atom}
 use Rattle.words.specs.Codes.{climbs}
 use Rattle.words.proofs.Codes.{climbs-conditions, climbs-outputs}
 use Rattle.model.specs.Records.{within, isRowOver}
-use Rattle.row_propose.specs.Offered.{rowOf}
+use Rattle.slots.specs.Layout.{rowOf}
 
 abbrev tests : Bool → Bool → Bool → Bool → Bool
 tests p q r s = p && (q && (r && s))

@@ -15,9 +15,8 @@ use Rattle.meter.specs.declared.Account.{Account}
 use Rattle.meter.specs.declared.Judged.{Judged}
 use Rattle.meter.specs.Meter.{pay, judged}
 use Rattle.model.specs.Records.{Row, literals, slotWords, maxConditions, maxOutputs, bodyAt, bodyWords}
-use Rattle.slots.specs.Layout.{proposal}
+use Rattle.slots.specs.Layout.{proposal, rowOf}
 use Rattle.meter.proofs.Payments.{onYes, ask-both}
-use Rattle.row_propose.specs.Offered.{rowOf}
 use Rattle.row_propose.specs.Parts.{blankOf}
 
 -- ---- a lent part comes back

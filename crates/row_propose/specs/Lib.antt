@@ -1,3 +1,2 @@
-pub mod Offered
 pub mod Parts
 pub mod Proposed

@@ -35,9 +35,9 @@ pub fn includes(
     let mut meter = work;
     let mut have = slots::start();
     let mut want = slots::start();
-    'wanted: loop {
+    let found = 'wanted: loop {
         let Step::Literal(w, k) = slots::next(b, wanted, want) else {
-            return answer(true, account, meter);
+            break 'wanted true;
         };
         want = k;
         loop {
@@ -49,17 +49,18 @@ pub fn includes(
                 Payment::Ended(j) => return j,
             }
             let Step::Literal(c, h) = slots::next(a, candidates, have) else {
-                return answer(false, account, meter);
+                break 'wanted false;
             };
             have = h;
             if c == w {
                 continue 'wanted;
             }
             if w < c {
-                return answer(false, account, meter);
+                break 'wanted false;
             }
         }
-    }
+    };
+    answer(found, account, meter)
 }
 
 // Yes if the row in slot r subsumes the row in slot s: r's conditions are among s's, and s's outputs among r's. Both length tests come

@@ -20,6 +20,7 @@ use script_single::candidates;
 use script_single::next;
 use text::Parsed;
 use text::put_text;
+use wire::HEAD_TIER_ROWS_AT;
 use wire::HEADER_WORDS;
 
 // `reset`: all ledgers are gone.
@@ -104,7 +105,7 @@ fn on_ledger(
         return Said::Error;
     };
     let mut head = head_in(table, index);
-    let p = place_for(slots, postings, index, head[1]);
+    let p = place_for(slots, postings, index, head[HEAD_TIER_ROWS_AT]);
     if !p.there {
         return Said::Error;
     }

@@ -7,6 +7,10 @@ use text::put_fields;
 use text::put_text;
 use text::word;
 use wire::ANSWER_WORDS;
+use wire::HEAD_MARK_BORN_AT;
+use wire::HEAD_MARK_NUMBER_AT;
+use wire::HEAD_MARKED_AT;
+use wire::HEAD_ROWS_AT;
 use wire::HEADER_WORDS;
 
 // The beginning of a line: the call, as it stands in the line that is answered, and a ledger's number.
@@ -47,12 +51,12 @@ pub fn put_head(out: &mut [u8], at: usize, head: &[u64]) -> usize {
     }
     let names =
         b"rows= born= epoch= attempts= remaining= sharing= evicted= deliveries= seeded= stale= full=";
-    let at = put_fields(out, at, names, &head[11..22]);
-    if head[22] == 0 {
+    let at = put_fields(out, at, names, &head[HEAD_ROWS_AT..HEAD_MARKED_AT]);
+    if head[HEAD_MARKED_AT] == 0 {
         return put_text(out, at, b" mark=none");
     }
-    let at = put_field(out, at, b" mark=", head[23]);
-    put_field(out, at, b":", head[24])
+    let at = put_field(out, at, b" mark=", head[HEAD_MARK_NUMBER_AT]);
+    put_field(out, at, b":", head[HEAD_MARK_BORN_AT])
 }
 
 // The charge.

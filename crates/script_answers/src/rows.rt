@@ -25,6 +25,8 @@ use text::put_fields;
 use text::put_hexadecimal;
 use text::put_list;
 use text::put_text;
+use wire::HEAD_ROWS_AT;
+use wire::HEAD_STALE_AT;
 use wire::HEADER_WORDS;
 use words::run_count;
 
@@ -190,6 +192,6 @@ pub fn dump(
         return Said::Error;
     }
     let to = put_call(out, q.to, s, q.index);
-    let d = put_lines(out, to, head[11], slots);
-    Said::Line(put_postings(out, d.to, head[20] != 0, postings, d.postings))
+    let d = put_lines(out, to, head[HEAD_ROWS_AT], slots);
+    Said::Line(put_postings(out, d.to, head[HEAD_STALE_AT] != 0, postings, d.postings))
 }

@@ -12,6 +12,7 @@ use script_notation::places::Place;
 use script_notation::places::keep;
 use script_notation::places::place_for;
 use wire::ANSWER_WORDS;
+use wire::HEAD_TIER_ROWS_AT;
 use wire::HEADER_WORDS;
 use wire::LIMITS_WORDS;
 
@@ -21,7 +22,7 @@ const NUMBER_AT: usize = LIMITS_WORDS + 1;
 // The rows to find room for: one where the limits are to be refused.
 fn rows_for(limits: &[u64; LIMITS_WORDS]) -> u64 {
     if limits_ok(wire::limits_of(limits)) {
-        return limits[1];
+        return limits[HEAD_TIER_ROWS_AT];
     }
     1
 }

@@ -19,6 +19,7 @@ use script_notation::places::keep;
 use script_notation::places::place_for;
 use text::put_field;
 use wire::ANSWER_WORDS;
+use wire::HEAD_TIER_ROWS_AT;
 use wire::HEADER_WORDS;
 use wire::METER_WORDS;
 
@@ -114,7 +115,7 @@ fn exchange(
 {
     let mut own_slots = memory::slots_out();
     let mut own_postings = memory::postings_out();
-    let p = place_for(slots, postings, given[0], tier[1]);
+    let p = place_for(slots, postings, given[0], tier[HEAD_TIER_ROWS_AT]);
     let a = p.slots;
     let e = p.slots_end;
     let b = p.postings;
@@ -135,7 +136,7 @@ fn exchange(
         slots,
         postings,
     );
-    let p = place_for(slots, postings, given[0], tier[1]);
+    let p = place_for(slots, postings, given[0], tier[HEAD_TIER_ROWS_AT]);
     put_back(p, own_slots, own_postings, slots, postings);
     refusal
 }
@@ -190,8 +191,8 @@ fn between(
     let mut answer = [0u64; ANSWER_WORDS];
     let mut tier = head_in(table, given[0]);
     let mut store = head_in(table, given[1]);
-    let q = place_for(slots, postings, given[1], store[1]);
-    if tier[1] == 0 || !q.there {
+    let q = place_for(slots, postings, given[1], store[HEAD_TIER_ROWS_AT]);
+    if tier[HEAD_TIER_ROWS_AT] == 0 || !q.there {
         return Said::Error;
     }
     let refusal = exchange(

@@ -27,6 +27,8 @@ use script_notation::regions::put_region;
 use text::kept;
 use text::put_text;
 use wire::ANSWER_WORDS;
+use wire::HEAD_ATOMS_AT;
+use wire::HEAD_TIER_ROWS_AT;
 use wire::HEADER_WORDS;
 use wire::METER_WORDS;
 
@@ -53,8 +55,8 @@ fn close(
 ) -> u64 {
     let mut rows = memory::rows();
     let mut atoms = memory::decided();
-    let n = kept(&rows, head[1] as usize);
-    let m = kept(&atoms, head[0] as usize);
+    let n = kept(&rows, head[HEAD_TIER_ROWS_AT] as usize);
+    let m = kept(&atoms, head[HEAD_ATOMS_AT] as usize);
     let rows = &mut rows[0..n];
     let atoms = &mut atoms[0..m];
     ledger_close(head, answer, meter, slots, postings, held, cut, rows, atoms)
@@ -160,7 +162,7 @@ fn put_answer(
     let to = put_word(out, to, call, answer);
     let to = put_joined(out, to, call, answer, slots, points);
     let to = put_charge(out, to, answer[2]);
-    let to = put_closed(out, to, call, head[0], first, second, points);
+    let to = put_closed(out, to, call, head[HEAD_ATOMS_AT], first, second, points);
     put_head(out, to, head)
 }
 
@@ -201,7 +203,15 @@ pub fn act(
     let call = q.call;
     let n = number_count(call);
     let g = text::numbers(s, q.at, &mut given[0..n]);
-    let l = read_lists(call, s, g.at, points, head[0], &mut first, &mut second);
+    let l = read_lists(
+        call,
+        s,
+        g.at,
+        points,
+        head[HEAD_ATOMS_AT],
+        &mut first,
+        &mut second,
+    );
     if !g.ok || !l.ok {
         return Said::Error;
     }

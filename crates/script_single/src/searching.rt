@@ -22,6 +22,8 @@ use text::put_list;
 use text::put_text;
 use wire::ANSWER_WORDS;
 use wire::CURSOR_WORDS;
+use wire::HEAD_ATOMS_AT;
+use wire::HEAD_TIER_ROWS_AT;
 use wire::HEADER_WORDS;
 use wire::METER_WORDS;
 
@@ -54,7 +56,7 @@ pub fn candidates(
         return Said::Error;
     }
     let n = kept(&atoms, l.count);
-    let m = kept(&rows, head[1] as usize);
+    let m = kept(&rows, head[HEAD_TIER_ROWS_AT] as usize);
     let atoms = &atoms[0..n];
     let rows = &mut rows[0..m];
     let refusal = ledger_candidates(head, &mut answer, &mut meter, slots, postings, atoms, rows);
@@ -97,7 +99,7 @@ pub fn next(
     let mut cut = memory::list();
     let g = text::numbers(s, q.at, &mut given);
     let c = text::list(s, g.at, &mut cursor);
-    let l = read_region(s, c.at, head[0], &mut held, &mut cut);
+    let l = read_region(s, c.at, head[HEAD_ATOMS_AT], &mut held, &mut cut);
     if !g.ok || !c.ok || c.count != 4 || !l.ok {
         return Said::Error;
     }

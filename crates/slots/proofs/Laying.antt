@@ -14,11 +14,8 @@ use Rattle.words.specs.Region.{maxWords}
 use Rattle.model.specs.Rows.{groups, packed}
 use Rattle.model.specs.Slots.{ifPacked, rowIn, ungroup}
 use Rattle.slots.specs.Cursor.{literalsAt, listOf, Sound}
-use Rattle.slots.specs.Layout.{Counted, Laid}
+use Rattle.slots.specs.Layout.{Counted, Laid, rowOf}
 use Rattle.slots.proofs.Sides.{scalar, grouped, condition-scalar, condition-packed, output-scalar, output-packed}
-
-abbrev rowOf : List ℕ → List ℕ → Row
-rowOf c o = record { conditions = c; outputs = o }
 
 -- ---- the row by the form
 module _ (ws : List ℕ) where

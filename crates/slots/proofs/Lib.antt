@@ -8,3 +8,4 @@ pub mod Canon
 pub mod Storing
 pub mod Checked
 pub mod Rows
+pub mod Holding

@@ -1,30 +1,21 @@
 -- The rows in slots that stand one behind the other, by position and from a position on. Assumes nothing.
-use mathlib.Core.Path.{_≡_, refl, sym, ap, _∙_}
+use mathlib.Core.Path.{_≡_, refl, ap, _∙_}
+use mathlib.Core.Bool.{false}
 use mathlib.Core.List.{List, [], _∷_}
 use Prim.Native.Nat.{ℕ, zero, suc, _+_, _-_, _*_, _≤_, _<_}
 use native.Mathlib.Omega.{arith}
-use lib.ListN.{length, getD, take, drop, length-map}
+use lib.ListN.{length, getD, take, drop, length-map, List·getD-map}
 use lib.Seq.{drop-drop}
-use Rattle.model.specs.Records.{Row, slotWords}
+use Rattle.model.specs.Records.{Row, Entry, slotWords}
 use Rattle.model.specs.Slots.{rowIn, entryIn, entriesIn}
-use Rattle.model.specs.declared.Header.{Header}
 use Rattle.model.proofs.Slots.{entries-length}
-use Rattle.slots.specs.Layout.{slotAt, rowsIn, RowsOver}
-use Rattle.slots.specs.Standing.{Stands}
+use Rattle.slots.specs.Layout.{slotAt, rowsIn}
 
 -- as code cuts a slot out
 pub slot-code : (ws : List ℕ) (p : ℕ) → take (slotWords * p + slotWords - slotWords * p) (drop (slotWords * p) ws) ≡ slotAt ws p
 slot-code ws p =
     let e : slotWords * p + slotWords - slotWords * p ≡ slotWords = omega arith in
     ap (λ (n : ℕ). take n (drop (slotWords * p) ws)) e
-
--- the slots of a ledger whose words stand hold its rows
-pub stands-rows : {h : Header} {slots postings : List ℕ} → Stands h slots postings → RowsOver (h .limits .atoms) (h .rows) slots
-stands-rows s = record {
-  few = omega (arith, s .few, s .most);
-  long = omega (arith, s .few, s .long);
-  stored = s .stored;
-}
 
 pub rows-length : (n : ℕ) (ws : List ℕ) → length (rowsIn n ws) ≡ n
 unfolding rowsIn
@@ -55,10 +46,21 @@ pub rows-none : (n : ℕ) (ws : List ℕ) (p : ℕ) → n ≤ p → rowsFrom n w
 unfolding rowsFrom rowsIn entriesIn
 rows-none n ws p h = let e : n - p ≡ 0 = omega arith in ap (λ (k : ℕ). rowsIn k (drop (slotWords * p) ws)) e
 
-pub rows-at : (n : ℕ) (ws : List ℕ) (p : ℕ) (d : Row) → p < n → getD (rowsIn n ws) p d ≡ rowIn (slotAt ws p)
-rows-at zero ws p d l = absurd (omega arith)
-rows-at (suc n) ws zero d l = ap (λ (rs : List Row). getD rs 0 d) (rows-cons n ws)
-rows-at (suc n) ws (suc p) d l =
+pub entries-at : (n : ℕ) (ws : List ℕ) (p : ℕ) (d : Entry) → p < n → getD (entriesIn n ws) p d ≡ entryIn (slotAt ws p)
+unfolding entriesIn
+entries-at zero ws p d l = absurd (omega arith)
+entries-at (suc n) ws zero d l = refl
+entries-at (suc n) ws (suc p) d l =
     let s : slotWords + slotWords * p ≡ slotWords * suc p = omega arith in
-    ap (λ (rs : List Row). getD rs (suc p) d) (rows-cons n ws) ∙ rows-at n (drop slotWords ws) p d (omega arith)
-    ∙ ap (λ (l : List ℕ). rowIn (take slotWords l)) (drop-drop (slotWords * p) slotWords ws ∙ ap (λ (k : ℕ). drop k ws) s)
+    entries-at n (drop slotWords ws) p d (omega arith)
+    ∙ ap (λ (l : List ℕ). entryIn (take slotWords l)) (drop-drop (slotWords * p) slotWords ws ∙ ap (λ (k : ℕ). drop k ws) s)
+
+pub row-at : (n : ℕ) (ws : List ℕ) (p : ℕ) (d : Entry) → p < n → getD (entriesIn n ws) p d .row ≡ rowIn (slotAt ws p)
+unfolding entryIn
+row-at n ws p d l = ap (λ (x : Entry). x .row) (entries-at n ws p d l)
+
+pub rows-at : (n : ℕ) (ws : List ℕ) (p : ℕ) (d : Row) → p < n → getD (rowsIn n ws) p d ≡ rowIn (slotAt ws p)
+unfolding rowsIn
+rows-at n ws p d l =
+    let e : Entry = record { row = d; hits = 0; unshared = 0; born = 0; delivered = false } in
+    List·getD-map (λ (x : Entry). x .row) (entriesIn n ws) p e ∙ row-at n ws p e l

@@ -1,8 +1,9 @@
 -- The two sides of a slot by the slot's form. Assumes nothing.
-use mathlib.Core.Path.{_≡_, ap}
+use mathlib.Core.Path.{_≡_}
 use mathlib.Core.Bool.{Bool, true, false}
 use mathlib.Core.List.{List}
 use Prim.Native.Nat.{ℕ, _+_, _-_, _*_}
+use lib.Dec.{eqb}
 use lib.ListN.{getD}
 use borrow.Author.Tests.{eq-eqb, ne-eqb}
 use Rattle.model.specs.Records.{conditionsAt, outputsAt, totalGroupsAt, conditionGroupsAt, bodyAt, groupLength}
@@ -16,37 +17,34 @@ abbrev pub grouped : ℕ → ℕ → Side
 grouped b n = record { packed = true; base = b; count = n }
 
 module _ (ws : List ℕ) where
-  pub condition-scalar : getD ws totalGroupsAt 0 ≡ 0 → conditionSide ws ≡ scalar bodyAt (getD ws conditionsAt 0)
-  unfolding conditionSide
-  condition-scalar e =
-      ap (λ (b : Bool). elim b as (λ k. Side) [
+  -- by the number of groups, 0 in a scalar slot
+  condition-by : (b : Bool) → eqb (getD ws totalGroupsAt 0) 0 ≡ b
+      → conditionSide ws
+      ≡ (elim b as (λ k. Side) [
         | true ↦ scalar bodyAt (getD ws conditionsAt 0)
         | false ↦ grouped bodyAt (getD ws conditionGroupsAt 0)
-      ]) (eq-eqb (getD ws totalGroupsAt 0) 0 e)
-
-  pub condition-packed : (getD ws totalGroupsAt 0 ≡ 0 → ⊥) → conditionSide ws ≡ grouped bodyAt (getD ws conditionGroupsAt 0)
+      ])
   unfolding conditionSide
-  condition-packed f =
-      ap (λ (b : Bool). elim b as (λ k. Side) [
-        | true ↦ scalar bodyAt (getD ws conditionsAt 0)
-        | false ↦ grouped bodyAt (getD ws conditionGroupsAt 0)
-      ]) (ne-eqb (getD ws totalGroupsAt 0) 0 f)
+  condition-by b e = rw (e, conditionSide)
 
-  pub output-scalar : getD ws totalGroupsAt 0 ≡ 0 → outputSide ws ≡ scalar (bodyAt + getD ws conditionsAt 0) (getD ws outputsAt 0)
-  unfolding outputSide
-  output-scalar e =
-      ap (λ (b : Bool). elim b as (λ k. Side) [
+  output-by : (b : Bool) → eqb (getD ws totalGroupsAt 0) 0 ≡ b
+      → outputSide ws
+      ≡ (elim b as (λ k. Side) [
         | true ↦ scalar (bodyAt + getD ws conditionsAt 0) (getD ws outputsAt 0)
         | false ↦ grouped (bodyAt + groupLength * getD ws conditionGroupsAt 0) (getD ws totalGroupsAt 0 - getD ws conditionGroupsAt 0)
       ])
-      (eq-eqb (getD ws totalGroupsAt 0) 0 e)
+  unfolding outputSide
+  output-by b e = rw (e, outputSide)
+
+  pub condition-scalar : getD ws totalGroupsAt 0 ≡ 0 → conditionSide ws ≡ scalar bodyAt (getD ws conditionsAt 0)
+  condition-scalar e = condition-by true (eq-eqb (getD ws totalGroupsAt 0) 0 e)
+
+  pub condition-packed : (getD ws totalGroupsAt 0 ≡ 0 → ⊥) → conditionSide ws ≡ grouped bodyAt (getD ws conditionGroupsAt 0)
+  condition-packed f = condition-by false (ne-eqb (getD ws totalGroupsAt 0) 0 f)
+
+  pub output-scalar : getD ws totalGroupsAt 0 ≡ 0 → outputSide ws ≡ scalar (bodyAt + getD ws conditionsAt 0) (getD ws outputsAt 0)
+  output-scalar e = output-by true (eq-eqb (getD ws totalGroupsAt 0) 0 e)
 
   pub output-packed : (getD ws totalGroupsAt 0 ≡ 0 → ⊥)
       → outputSide ws ≡ grouped (bodyAt + groupLength * getD ws conditionGroupsAt 0) (getD ws totalGroupsAt 0 - getD ws conditionGroupsAt 0)
-  unfolding outputSide
-  output-packed f =
-      ap (λ (b : Bool). elim b as (λ k. Side) [
-        | true ↦ scalar (bodyAt + getD ws conditionsAt 0) (getD ws outputsAt 0)
-        | false ↦ grouped (bodyAt + groupLength * getD ws conditionGroupsAt 0) (getD ws totalGroupsAt 0 - getD ws conditionGroupsAt 0)
-      ])
-      (ne-eqb (getD ws totalGroupsAt 0) 0 f)
+  output-packed f = output-by false (ne-eqb (getD ws totalGroupsAt 0) 0 f)

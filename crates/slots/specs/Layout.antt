@@ -3,14 +3,14 @@
 use mathlib.Core.Path.{_≡_}
 use mathlib.Core.Bool.{true, false}
 use mathlib.Core.List.{List, _∷_, _++_, map}
-use Prim.Native.Nat.{ℕ, _+_, _-_, _*_, _≤_, _<_}
+use Prim.Native.Nat.{ℕ, _+_, _-_, _*_, _/_, _≤_, _<_}
 use lib.Dec.{T, eqb}
 use lib.ListN.{length, getD, take, drop}
 use Rattle.lists.specs.Lists.{pad}
 use Rattle.words.specs.Region.{maxAtoms}
 use Rattle.model.specs.Records.{Row, isRow, slotWords, maxRows, maxConditions, maxOutputs, conditionsAt, outputsAt, totalGroupsAt}
 use Rattle.model.specs.Records.{conditionGroupsAt, bodyAt, groupLength, bodyWords}
-use Rattle.model.specs.Slots.{slotOf, rowIn, entryIn, entriesIn}
+use Rattle.model.specs.Slots.{slotOf, slotsOf, rowIn, entryIn, entriesIn}
 use Rattle.slots.specs.declared.Side.{Side}
 use Rattle.slots.specs.Cursor.{listOf, Sound}
 
@@ -56,13 +56,20 @@ pub record Stored (n : ℕ) (ws : List ℕ) : Type 0 where
   pub row : T (isRow n (rowIn ws))
   pub same : slotOf (entryIn ws) ≡ ws
 
+-- the row of two lists of codes
+abbrev pub rowOf : List ℕ → List ℕ → Row
+rowOf cs os = record { conditions = cs; outputs = os }
+
 -- a row on its way to a slot: in scalar form whatever `prepare` would choose, its numbers zero
 unfoldable pub proposal : Row → List ℕ
 proposal r =
     pad slotWords
     (length (r .conditions) ∷ length (r .outputs) ∷ 0 ∷ 0 ∷ 0 ∷ 0 ∷ 0 ∷ 0 ∷ (r .conditions ++ r .outputs))
 
--- ---- slots one behind the other: the slot at a position, and the rows of the first n
+-- ---- slots one behind the other: how many there are, the slot at a position, and the rows of the first n
+abbrev pub tierOf : List ℕ → ℕ
+tierOf ws = length ws / slotWords
+
 abbrev pub slotAt : List ℕ → ℕ → List ℕ
 slotAt ws p = take slotWords (drop (slotWords * p) ws)
 
@@ -77,9 +84,16 @@ pub record Holds (ws : List ℕ) : Type 0 where
 
 -- the first slots: rows over n atoms
 pub record RowsOver (n rows : ℕ) (ws : List ℕ) : Type 0 where
+  pub atoms : n ≤ maxAtoms
   pub few : rows ≤ maxRows
   pub long : slotWords * rows ≤ length ws
   pub stored : (p : ℕ) → p < rows → Stored n (slotAt ws p)
+
+-- all slots of a tier: rows over n atoms in the first, and nothing else
+pub record Held (n rows : ℕ) (ws : List ℕ) : Type 0 where
+  pub over : RowsOver n rows ws
+  pub most : tierOf ws ≤ maxRows
+  pub same : slotsOf (tierOf ws) (entriesIn rows ws) ≡ ws
 
 -- the first slots: rows over some number of atoms
 pub record Rows (rows : ℕ) (ws : List ℕ) : Type 0 where

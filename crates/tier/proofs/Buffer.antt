@@ -1,25 +1,22 @@
 -- Parts of the slots of a tier: one slot read, written, or changed in a word. Assumes nothing.
 use mathlib.Core.Path.{_≡_, refl, sym, ap, ap₂, _∙_, subst}
-use mathlib.Core.Bool.{Bool, true, false, _&&_}
-use mathlib.Core.List.{List, [], _∷_, _++_, map, append-assoc}
-use Prim.Native.Nat.{ℕ, zero, suc, _+_, _-_, _*_, _/_, _≤_, _<_}
-use native.Mathlib.Nat.{add-zero}
-use native.Mathlib.Numerals.{add-one}
+use mathlib.Core.Bool.{Bool, true, _&&_}
+use mathlib.Core.List.{List, [], _∷_, _++_, map}
+use Prim.Native.Nat.{ℕ, zero, suc, _+_, _-_, _*_, _≤_, _<_}
 use native.Mathlib.Omega.{arith}
-use lib.Dec.{eqb}
-use lib.ListN.{length, getD, set, take, drop, replicate, length-append, length-take, length-drop, take-append-drop, drop-of-length-le}
-use lib.Seq.{length-take-le, take-at, drop-at, drop-drop, take-append-le, drop-append-le, set-append-left, getD-drop, getD-take, split-at}
-use lib.Seq.{append-snoc, set-split}
-use Rattle.lists.specs.Lists.{concat, pad, adjust}
+use lib.ListN.{length, getD, set, length-set, take, drop, replicate, length-take, length-drop, take-append-drop}
+use lib.Seq.{length-take-le, drop-drop, set-append-left, getD-drop, getD-take}
+use Rattle.lists.specs.Lists.{all, concat, pad, adjust}
 use Rattle.lists.proofs.Selects.{adjust-set, length-adjust}
-use Rattle.words.specs.Region.{maxAtoms}
+use Rattle.lists.proofs.Concats.{block-put}
 use Rattle.model.specs.Records.{Row, Entry, slotWords, saturatingAdd, hitEntry, withHits, withDelivered, hitsAt, unsharedAt, bornAt}
 use Rattle.model.specs.Records.{deliveredAt}
-use Rattle.model.specs.Slots.{slotOf, slotsOf, entryIn, entriesIn, flag}
-use Rattle.model.proofs.Slots.{Valid, AllValid, slot-length, decode-encode, entries-length}
-use Rattle.model.proofs.Entries.{all-valid}
+use Rattle.model.specs.Slots.{slotOf, slotsOf, entriesIn, flag}
+use Rattle.model.proofs.Slots.{Valid, AllValid, entries-length}
 use Rattle.model.proofs.Accepting.{laid-length, slots-length}
-use Rattle.tier.specs.Tier.{tierOf, Held, wordAt, hitWords, hitsAdded, markedDelivered, sharedOut}
+use Rattle.slots.specs.Layout.{tierOf, Held}
+use Rattle.slots.proofs.Holding.{no-entry, valid-at, valid-blocks, slot-at, holding}
+use Rattle.tier.specs.Tier.{wordAt, hitWords, hitsAdded, markedDelivered, sharedOut}
 
 -- ---- the slots one after another
 abbrev pub laid : List Entry → List ℕ
@@ -33,12 +30,6 @@ pub laid-cons : (e : Entry) (es : List Entry) → laid (e ∷ es) ≡ slotOf e +
 unfolding concat
 laid-cons e es = refl
 
-pub laid-append : (xs ys : List Entry) → laid (xs ++ ys) ≡ laid xs ++ laid ys
-laid-append [] ys = sym (ap (λ (l : List ℕ). l ++ laid ys) laid-nil)
-laid-append (x ∷ xs) ys =
-    laid-cons x (xs ++ ys) ∙ ap (λ (l : List ℕ). slotOf x ++ l) (laid-append xs ys) ∙ sym (append-assoc (slotOf x) (laid xs) (laid ys))
-    ∙ ap (λ (l : List ℕ). l ++ laid ys) (sym (laid-cons x xs))
-
 pub valid-take : (n : ℕ) (es : List Entry) → AllValid es → AllValid (take n es)
 valid-take zero es v = tt
 valid-take (suc n) [] v = tt
@@ -49,59 +40,6 @@ valid-drop zero es v = v
 valid-drop (suc n) [] v = tt
 valid-drop (suc n) (e ∷ es) v = valid-drop n es (v .1)
 
-pub valid-at : (p : ℕ) (es : List Entry) (d : Entry) → AllValid es → p < length es → Valid (getD es p d .row)
-valid-at p [] d v h = absurd (omega arith)
-valid-at zero (e ∷ es) d v h = v .0
-valid-at (suc p) (e ∷ es) d v h = valid-at p es d (v .1) (omega arith)
-
--- ---- a slot of the buffer, by what stands before and after it
-pub slots-split : (tier p : ℕ) (es : List Entry) (d : Entry) → p < length es
-    → slotsOf tier es ≡ laid (take p es)
-    ++ (slotOf (getD es p d) ++ (laid (drop (suc p) es) ++ replicate (slotWords * tier - length (laid es)) 0))
-unfolding slotsOf pad
-slots-split tier p es d h =
-    ap (λ (l : List ℕ). l ++ z) (ap laid (split-at es p d h) ∙ laid-append (take p es) (getD es p d ∷ drop (suc p) es)
-    ∙ ap (λ (l : List ℕ). laid (take p es) ++ l) (laid-cons (getD es p d) (drop (suc p) es)))
-    ∙ append-assoc (laid (take p es)) (slotOf (getD es p d) ++ laid (drop (suc p) es)) z
-    ∙ ap (λ (l : List ℕ). laid (take p es) ++ l) (append-assoc (slotOf (getD es p d)) (laid (drop (suc p) es)) z)
-  where
-    z : List ℕ
-    z = replicate (slotWords * tier - length (laid es)) 0
-
-front-length : (p : ℕ) (es : List Entry) → AllValid es → p ≤ length es → length (laid (take p es)) ≡ slotWords * p
-front-length p es v h =
-    let a = laid-length (take p es) (valid-take p es v) in
-    let b = length-take p es in
-    omega arith
-
-pub slot-at : (tier p : ℕ) (es : List Entry) (d : Entry) → AllValid es → p < length es
-    → take slotWords (drop (slotWords * p) (slotsOf tier es)) ≡ slotOf (getD es p d)
-slot-at tier p es d v h =
-    ap (λ (l : List ℕ). take slotWords (drop (slotWords * p) l)) (slots-split tier p es d h)
-    ∙ ap (take slotWords) (drop-at (laid (take p es)) _ (slotWords * p) (front-length p es v (omega arith)))
-    ∙ take-at (slotOf (getD es p d)) _ slotWords (slot-length (getD es p d) (valid-at p es d v h))
-
-take-set : {A : Type 0} (l : List A) (i : ℕ) (a : A) → take i (set l i a) ≡ take i l
-take-set [] zero a = refl
-take-set [] (suc i) a = refl
-take-set (x ∷ xs) zero a = refl
-take-set (x ∷ xs) (suc i) a = ap (λ (l : List _). x ∷ l) (take-set xs i a)
-
-drop-set : {A : Type 0} (l : List A) (i : ℕ) (a : A) → drop (suc i) (set l i a) ≡ drop (suc i) l
-drop-set [] i a = refl
-drop-set (x ∷ xs) zero a = refl
-drop-set (x ∷ xs) (suc i) a = drop-set xs i a
-
-get-set : {A : Type 0} (l : List A) (i : ℕ) (a d : A) → i < length l → getD (set l i a) i d ≡ a
-get-set [] i a d h = absurd (omega arith)
-get-set (x ∷ xs) zero a d h = refl
-get-set (x ∷ xs) (suc i) a d h = get-set xs i a d (omega arith)
-
-len-set : {A : Type 0} (l : List A) (i : ℕ) (a : A) → length (set l i a) ≡ length l
-len-set [] i a = refl
-len-set (x ∷ xs) zero a = refl
-len-set (x ∷ xs) (suc i) a = ap suc (len-set xs i a)
-
 pub valid-set : (p : ℕ) (es : List Entry) (e : Entry) → AllValid es → Valid (e .row) → AllValid (set es p e)
 valid-set p [] e v w = tt
 valid-set zero (x ∷ es) e v w = (w, v .1)
@@ -110,24 +48,14 @@ valid-set (suc p) (x ∷ es) e v w = (v .0, valid-set p es e (v .1) w)
 -- a slot written anew
 pub put-slot : (tier p : ℕ) (es : List Entry) (e : Entry) → AllValid es → Valid (e .row) → p < length es
     → take (slotWords * p) (slotsOf tier es) ++ (slotOf e ++ drop (slotWords * p + slotWords) (slotsOf tier es)) ≡ slotsOf tier (set es p e)
+unfolding slotsOf pad
 put-slot tier p es e v w h =
-    let front = laid (take p es) in
-    let back = laid (drop (suc p) es) ++ replicate (slotWords * tier - length (laid es)) 0 in
-    let old = slotOf (getD es p e) in
-    let f : length front ≡ slotWords * p = front-length p es v (omega arith) in
-    let g : length (front ++ old)
-    ≡ slotWords * p + slotWords = length-append front old ∙ (let s = slot-length (getD es p e) (valid-at p es e v h) in omega arith) in
-    ap₂ (λ (a b : List ℕ). a ++ (slotOf e ++ b))
-    (ap (take (slotWords * p)) (slots-split tier p es e h) ∙ take-at front _ (slotWords * p) f)
-    (ap (drop (slotWords * p + slotWords)) (slots-split tier p es e h ∙ sym (append-assoc front old back))
-    ∙ drop-at (front ++ old) back (slotWords * p + slotWords) g)
-    ∙ sym (slots-split tier p (set es p e) e (subst (λ (n : ℕ). p < n) (sym (len-set es p e)) h)
-    ∙ ap₂ (λ (a b : List ℕ). a ++ b) (ap laid (take-set es p e))
-    (ap₂ (λ (a b : List ℕ). a ++ b) (ap slotOf (get-set es p e e h))
-    (ap₂ (λ (a : List ℕ) (n : ℕ). a ++ replicate (slotWords * tier - n) 0) (ap laid (drop-set es p e)) same)))
-  where
-    same : length (laid (set es p e)) ≡ length (laid es)
-    same = laid-length (set es p e) (valid-set p es e v w) ∙ ap (λ (n : ℕ). slotWords * n) (len-set es p e) ∙ sym (laid-length es v)
+    let zs : List ℕ = replicate (slotWords * tier - length (laid es)) 0 in
+    let same : length (laid es) ≡ length (laid (set es p e)) =
+    laid-length es v ∙ ap (λ (n : ℕ). slotWords * n) (sym (length-set es p e)) ∙ sym (laid-length (set es p e) (valid-set p es e v w)) in
+    ap (λ (l : List ℕ). take (slotWords * p) (laid es ++ zs) ++ (slotOf e ++ l)) (sym (drop-drop slotWords (slotWords * p) (laid es ++ zs)))
+    ∙ block-put slotOf slotWords es p e zs (valid-blocks es v) h
+    ∙ ap (λ (n : ℕ). laid (set es p e) ++ replicate (slotWords * tier - n) 0) same
 
 -- a word of a slot changed
 pub set-part : (ws : List ℕ) (a k v : ℕ) → k < slotWords → a + slotWords ≤ length ws
@@ -166,23 +94,6 @@ set-word tier p k v es d e val w h f l q =
     (ap (λ (x : List ℕ). set x k v) (slot-at tier p es d val h) ∙ q)
     ∙ put-slot tier p es e val w h
 
--- ---- a held buffer
-pub record Holding (rows : ℕ) (ws : List ℕ) : Type 0 where
-  pub valid : AllValid (entriesIn rows ws)
-  pub count : length (entriesIn rows ws) ≡ rows
-  pub room : length (entriesIn rows ws) ≤ tierOf ws
-  pub long : length ws ≡ slotWords * tierOf ws
-
-pub holding : (rows : ℕ) (ws : List ℕ) → Held rows ws → Holding rows ws
-holding rows ws h =
-    let v = all-valid maxAtoms (entriesIn rows ws) (h .each) in
-    let n = entries-length rows ws in
-    let r : length (entriesIn rows ws) ≤ tierOf ws = let f = h .few in omega arith in
-    record { valid = v; count = n; room = r; long = sym (ap length (h .same)) ∙ slots-length (tierOf ws) (entriesIn rows ws) v r }
-
-pub rows-fit : (rows : ℕ) (ws : List ℕ) → Held rows ws → slotWords * rows ≤ length ws
-rows-fit rows ws k = let f = holding rows ws k in let a = f .long in let b = k .few in omega arith
-
 -- ---- the words after a change of one entry
 adjust-adjust : (f g : Entry → Entry) (p : ℕ) (es : List Entry) → adjust g p (adjust f p es) ≡ adjust (λ e. g (f e)) p es
 unfolding adjust
@@ -203,6 +114,14 @@ valid-adjust f p [] s v = tt
 valid-adjust f zero (e ∷ es) s v = (subst (λ (r : Row). Valid r) (sym (s e)) (v .0), v .1)
 valid-adjust f (suc p) (e ∷ es) s v = (v .0, valid-adjust f p es s (v .1))
 
+-- a test that f does not change
+pub all-adjust : (g : Entry → Bool) (f : Entry → Entry) (p : ℕ) (es : List Entry) → ((e : Entry) → g (f e) ≡ g e)
+    → all g (adjust f p es) ≡ all g es
+unfolding all adjust
+all-adjust g f p [] h = refl
+all-adjust g f zero (e ∷ es) h = ap (λ (b : Bool). b && all g es) (h e)
+all-adjust g f (suc p) (e ∷ es) h = ap (λ (b : Bool). g e && b) (all-adjust g f p es h)
+
 -- f changes word k of a slot to x, and no row
 pub change : (tier p k x : ℕ) (es : List Entry) (d : Entry) (f : Entry → Entry) → AllValid es → p < length es → length es ≤ tier
     → k < slotWords
@@ -217,9 +136,6 @@ withUnshared n e = record { row = e .row; hits = e .hits; unshared = n; born = e
 
 asDelivered : Entry → Entry
 asDelivered e = record { row = e .row; hits = e .hits; unshared = e .unshared; born = e .born; delivered = true }
-
-abbrev pub no-entry : Entry
-no-entry = record { row = record { conditions = []; outputs = [] }; hits = 0; unshared = 0; born = 0; delivered = false }
 
 module _ (tier p : ℕ) (es : List Entry) (v : AllValid es) (h : p < length es) (r : length es ≤ tier) where
   pub word-hits : getD (slotsOf tier es) (slotWords * p + hitsAt) 0 ≡ getD es p no-entry .hits
@@ -254,7 +170,7 @@ adjust-own f g p [] d h = absurd (omega arith)
 adjust-own f g zero (e ∷ es) d h = refl
 adjust-own f g (suc p) (e ∷ es) d h = ap (λ (l : List Entry). e ∷ l) (adjust-own f g p es d (omega arith))
 
-module _ (rows p : ℕ) (ws : List ℕ) (k : Held rows ws) (l : p < rows) where
+module _ {atoms : ℕ} (rows p : ℕ) (ws : List ℕ) (k : Held atoms rows ws) (l : p < rows) where
   abbrev held : List Entry
   held = entriesIn rows ws
 
@@ -275,11 +191,6 @@ module _ (rows p : ℕ) (ws : List ℕ) (k : Held rows ws) (l : p < rows) where
   born-at =
       let f = holding rows ws k in
       ap (λ (w : List ℕ). getD w (slotWords * p + bornAt) 0) (sym (k .same)) ∙ word-born (tierOf ws) p held (f .valid) at (f .room)
-
-  pub slot-held : take slotWords (drop (slotWords * p) ws) ≡ slotOf (getD (entriesIn rows ws) p no-entry)
-  slot-held =
-      let f = holding rows ws k in
-      ap (λ (w : List ℕ). take slotWords (drop (slotWords * p) w)) (sym (k .same)) ∙ slot-at (tierOf ws) p held no-entry (f .valid) at
 
   pub hit-held : hitWords p ws ≡ slotsOf (tierOf ws) (adjust hitEntry p (entriesIn rows ws))
   unfolding hitWords hitEntry withHits withUnshared

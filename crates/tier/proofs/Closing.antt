@@ -10,12 +10,15 @@ use lib.ListN.{take-append-drop}
 use lib.Seq.{take-at, drop-at, drop-append-le, drop-drop, length-take-le}
 use borrow.Rule.Slice.PartMut.{putMid, midOf, post-is, mid-len}
 use Rattle.lists.specs.Lists.{pad, zeroed}
+use Rattle.lists.proofs.Concats.{concat-map-append, concat-map-one}
 use Rattle.model.specs.Records.{Entry, slotWords}
 use Rattle.model.specs.Slots.{slotOf, slotsOf, entriesIn}
 use Rattle.model.proofs.Slots.{Valid, AllValid, slot-length, entries-length}
 use Rattle.model.proofs.Accepting.{laid-length}
-use Rattle.tier.specs.Tier.{tierOf, Held, keptBy, moved, keptWords, keptPlace, closedUp, movedDown}
-use Rattle.tier.proofs.Buffer.{laid, laid-nil, laid-cons, laid-append, valid-take, valid-drop, holding}
+use Rattle.slots.specs.Layout.{tierOf, Held}
+use Rattle.slots.proofs.Holding.{held-few, holding}
+use Rattle.tier.specs.Tier.{keptBy, moved, keptWords, keptPlace, closedUp, movedDown}
+use Rattle.tier.proofs.Buffer.{laid, laid-nil, laid-cons, valid-take, valid-drop}
 
 moved-length : (from to : ℕ) (ws : List ℕ) → to ≤ from → slotWords * from + slotWords ≤ length ws → length (moved from to ws) ≡ length ws
 unfolding moved
@@ -39,8 +42,7 @@ valid-append (x ∷ xs) ys v w = (v .0, valid-append xs ys (v .1) w)
 
 laid-snoc : (done : List Entry) (e : Entry) → laid (done ++ (e ∷ [])) ≡ laid done ++ slotOf e
 laid-snoc done e =
-    laid-append done (e ∷ [])
-    ∙ ap (λ (l : List ℕ). laid done ++ l) (laid-cons e [] ∙ ap (λ (l : List ℕ). slotOf e ++ l) laid-nil ∙ append-nil (slotOf e))
+    concat-map-append slotOf done (e ∷ []) ∙ ap (λ (l : List ℕ). laid done ++ l) (concat-map-one slotOf e)
 
 module _ (f : ℕ → Bool) (tier rows : ℕ) where
   -- what is laid down after: `done` stands, then a gap, then the rest, then zeros
@@ -196,12 +198,12 @@ pub down-none : (f : ℕ → Bool) (i to : ℕ) (ws : List ℕ) → movedDown f 
 unfolding movedDown
 down-none f i to ws = refl
 
-pub close-held : (f : ℕ → Bool) (rows first : ℕ) (ws : List ℕ) → Held rows ws → first < rows
+pub close-held : {atoms : ℕ} (f : ℕ → Bool) (rows first : ℕ) (ws : List ℕ) → Held atoms rows ws → first < rows
     → (cleared rows (movedDown f (rows - (first + 1)) (first + 1) (first + 1) ws)
     ≡ slotsOf (tierOf ws) (closedUp f first (entriesIn rows ws)))
     × (movedDown f (rows - (first + 1)) (first + 1) (first + 1) ws .1 ≡ length (closedUp f first (entriesIn rows ws)))
 unfolding closedUp slotsOf pad
-close-held f rows first ws k l =
+close-held {atoms} f rows first ws k l =
     let h = holding rows ws k in
     let es = entriesIn rows ws in
     let n : length es ≡ rows = entries-length rows ws in
@@ -220,14 +222,14 @@ close-held f rows first ws k l =
     (λ (x : ℕ). Goal f (tierOf ws) rows (movedDown f (length rest) (first + 1) x (laid done ++ ([] ++ (laid rest ++ replicate z 0))))
     (done ++ keptBy f (first + 1) rest)) a
     (down f (tierOf ws) rows rest done [] z (first + 1) (valid-take (first + 1) es (h .valid)) (valid-drop (first + 1) es (h .valid))
-    (omega arith) (omega arith) (k .few) (omega arith) refl)))
+    (omega arith) (omega arith) (held-few rows ws k) (omega arith) refl)))
   where
     whole : (done rest : List Entry) (z : ℕ) → done ++ rest ≡ entriesIn rows ws
         → slotWords * tierOf ws - length (laid (entriesIn rows ws)) ≡ z
         → ws ≡ laid done ++ ([] ++ (laid rest ++ replicate z 0))
     whole done rest z e q =
         sym (k .same)
-        ∙ ap₂ (λ (x : List ℕ) (m : ℕ). x ++ replicate m 0) (ap laid (sym e) ∙ laid-append done rest) q
+        ∙ ap₂ (λ (x : List ℕ) (m : ℕ). x ++ replicate m 0) (ap laid (sym e) ∙ concat-map-append slotOf done rest) q
         ∙ append-assoc (laid done) (laid rest) (replicate z 0)
 
 -- what the loop keeps: bounds, and that what is left to do from here ends as from the start
@@ -253,13 +255,13 @@ down-turn f rows first old ws to i now r d l e =
           ∙ down-step f (rows - (i + 1)) i to ws ∙ ap (λ (x : ℕ). movedDown f x i to ws) q ∙ d .4,
     )
 
-pub down-end : (f : ℕ → Bool) (rows first : ℕ) (old ws : List ℕ) (to i : ℕ) (z : List ℕ) → Held rows old → first < rows
+pub down-end : {atoms : ℕ} (f : ℕ → Bool) (rows first : ℕ) (old ws : List ℕ) (to i : ℕ) (z : List ℕ) → Held atoms rows old → first < rows
     → Down f rows first old ws to i → rows ≤ i
     → z ≡ zeroed (midOf (slotWords * to) (slotWords * rows - slotWords * to) ws)
     → (putMid (slotWords * to) (slotWords * rows - slotWords * to) ws z ≡ slotsOf (tierOf old) (closedUp f first (entriesIn rows old)))
     × (to ≡ length (closedUp f first (entriesIn rows old)))
 unfolding zeroed
-down-end f rows first old ws to i z k l d h e =
+down-end {atoms} f rows first old ws to i z k l d h e =
     let t = d .0 in
     let u = d .1 in
     let m = d .2 in

@@ -11,8 +11,9 @@ use Rattle.model.specs.Slots.{slotsOf, entriesIn}
 use Rattle.model.specs.Retention.{halved}
 use Rattle.model.proofs.Slots.{AllValid, entries-length}
 use Rattle.model.proofs.Accepting.{slots-length}
-use Rattle.tier.specs.Tier.{tierOf, Held}
-use Rattle.tier.proofs.Buffer.{no-entry, word-hits, hits-set, holding}
+use Rattle.slots.specs.Layout.{tierOf, Held}
+use Rattle.slots.proofs.Holding.{no-entry, holding}
+use Rattle.tier.proofs.Buffer.{word-hits, hits-set}
 
 -- the first n halved
 unfoldable pub halvedTo : ℕ → List Entry → List Entry
@@ -50,7 +51,7 @@ unfolding halvedTo halved
 half-all [] = refl
 half-all (e ∷ es) = ap (λ (l : List Entry). withHits e (e .hits / 2) ∷ l) (half-all es)
 
-module _ (rows : ℕ) (ws : List ℕ) (k : Held rows ws) where
+module _ {atoms : ℕ} (rows : ℕ) (ws : List ℕ) (k : Held atoms rows ws) where
   pub halve-start : ws ≡ slotsOf (tierOf ws) (halvedTo 0 (entriesIn rows ws))
   unfolding halvedTo
   halve-start = sym (k .same)

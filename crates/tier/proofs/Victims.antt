@@ -13,9 +13,11 @@ use Rattle.meter.specs.Meter.{pick}
 use Rattle.model.specs.Records.{Entry, hitsAt, bornAt}
 use Rattle.model.specs.Slots.{entriesIn}
 use Rattle.model.specs.Retention.{before, victimFrom, victim}
-use Rattle.tier.specs.Tier.{Held, wordAt, lesserOf}
+use Rattle.slots.specs.Layout.{Held}
+use Rattle.slots.proofs.Holding.{no-entry}
+use Rattle.tier.specs.Tier.{wordAt, lesserOf}
 use Rattle.model.proofs.Slots.{entries-length}
-use Rattle.tier.proofs.Buffer.{no-entry, hits-at, born-at}
+use Rattle.tier.proofs.Buffer.{hits-at, born-at}
 
 -- ---- `lesser` by its four ways
 module _ (ws : List ℕ) (at i : ℕ) where
@@ -44,7 +46,7 @@ pick-from : (b : Bool) (es : List Entry) (at i n : ℕ) (rest : List Entry)
 pick-from true es at i n rest = refl
 pick-from false es at i n rest = refl
 
-module _ (rows : ℕ) (ws : List ℕ) (k : Held rows ws) where
+module _ {atoms : ℕ} (rows : ℕ) (ws : List ℕ) (k : Held atoms rows ws) where
   pub victim-start : 0 < rows
       → victimFrom 0 (getD (entriesIn rows ws) 0 no-entry) 1 (drop 1 (entriesIn rows ws)) ≡ victim (entriesIn rows ws)
   unfolding victim

@@ -1,26 +1,11 @@
--- The slots of a tier as one buffer: 'slots from rows on are zero'. What acceptance says of it, and its changes word by word.
--- Assumes nothing.
-use mathlib.Core.Path.{_≡_}
+-- The slots of a tier as one buffer, and its changes word by word. Assumes nothing.
 use mathlib.Core.Bool.{Bool, true, false, _&&_, _||_}
 use mathlib.Core.List.{List, [], _∷_, _++_}
-use Prim.Native.Nat.{ℕ, zero, suc, _+_, _*_, _/_, _≤_}
-use lib.Dec.{T, eqb, ltb}
-use lib.ListN.{length, getD, set, take, drop}
-use Rattle.lists.specs.Lists.{all}
-use Rattle.words.specs.Region.{maxAtoms}
+use Prim.Native.Nat.{ℕ, zero, suc, _+_, _*_}
+use lib.Dec.{eqb, ltb}
+use lib.ListN.{getD, set, take, drop}
 use Rattle.meter.specs.Meter.{pick}
-use Rattle.model.specs.Records.{Entry, isRow, slotWords, saturatingAdd, hitsAt, unsharedAt, bornAt, deliveredAt}
-use Rattle.model.specs.Slots.{slotsOf, entriesIn}
-
--- how many slots the buffer has
-abbrev pub tierOf : List ℕ → ℕ
-tierOf ws = length ws / slotWords
-
--- the buffer holds so many rows, each valid, and nothing else
-pub record Held (rows : ℕ) (ws : List ℕ) : Type 0 where
-  pub each : T (all (λ e. isRow maxAtoms (e .row)) (entriesIn rows ws))
-  pub few : rows ≤ tierOf ws
-  pub same : slotsOf (tierOf ws) (entriesIn rows ws) ≡ ws
+use Rattle.model.specs.Records.{Entry, slotWords, saturatingAdd, hitsAt, unsharedAt, bornAt, deliveredAt}
 
 -- word k of the slot at position p
 abbrev pub wordAt : ℕ → ℕ → ℕ

@@ -3,11 +3,12 @@ ghost use mathlib.Core.Path.{_≡_};
 ghost use mathlib.Core.List.{_++_};
 ghost use Prim.Native.Nat.{_+_, _-_, _*_, _<_, _≤_};
 ghost use lib.ListN.{length, take, drop, replicate};
-ghost use Rattle.words.specs.Region.{has};
+ghost use Rattle.words.specs.Region.{has, maxAtoms};
 ghost use Rattle.model.specs.Records.{slotWords};
 ghost use Rattle.model.specs.Slots.{slotsOf, entriesIn};
 ghost use Rattle.model.specs.Retention.{victim as victimOf, halved};
-ghost use Rattle.tier.specs.Tier.{tierOf, Held, hitWords, hitsAdded, markedDelivered, sharedOut, lesserOf, moved, keptWords};
+ghost use Rattle.slots.specs.Layout.{tierOf, Held};
+ghost use Rattle.tier.specs.Tier.{hitWords, hitsAdded, markedDelivered, sharedOut, lesserOf, moved, keptWords};
 ghost use Rattle.tier.specs.Tier.{keptPlace, closedUp};
 use lists::fill_zero;
 use model::BORN_AT;
@@ -79,7 +80,7 @@ fn lesser(slots: &[u64], at: usize, i: usize) -> usize
 
 // The row that a full tier gives up: the least (hits, born), the first on ties.
 pub fn victim(slots: &[u64], rows: usize) -> usize
-    requires { ⌜ Held rows (now slots) ⌝ ∗ ⌜ 0 < rows ⌝ }
+    requires { ⌜ Held maxAtoms rows (now slots) ⌝ ∗ ⌜ 0 < rows ⌝ }
     ensures { λ r. ⌜ r ≡ victimOf (entriesIn rows (now (slots .entry))) ⌝ }
 {
     let mut at: usize = 0;
@@ -93,7 +94,7 @@ pub fn victim(slots: &[u64], rows: usize) -> usize
 
 // All hits halved.
 pub fn halve(slots: &mut [u64], rows: usize)
-    requires { ⌜ Held rows (now slots) ⌝ }
+    requires { ⌜ Held maxAtoms rows (now slots) ⌝ }
     ensures { λ _. ⌜ now (slots .exit) ≡ slotsOf (tierOf (now (slots .entry))) (halved (entriesIn rows (now (slots .entry)))) ⌝ }
 {
     let mut i: usize = 0;
@@ -133,7 +134,7 @@ fn keep(slots: &mut [u64], from: usize, to: usize, replaced: &[u64]) -> usize
 
 // The rows after `first` that are not marked close up, and the places freed become zero; how many rows there are then.
 pub fn close_up(slots: &mut [u64], rows: usize, first: usize, replaced: &[u64]) -> usize
-    requires { ⌜ Held rows (now slots) ⌝ ∗ ⌜ first < rows ⌝ }
+    requires { ⌜ Held maxAtoms rows (now slots) ⌝ ∗ ⌜ first < rows ⌝ }
     ensures { λ r. ⌜ (now (slots .exit)
         ≡ slotsOf (tierOf (now (slots .entry))) (closedUp (has (now (replaced .entry))) first (entriesIn rows (now (slots .entry)))))
         × (r ≡ length (closedUp (has (now (replaced .entry))) first (entriesIn rows (now (slots .entry))))) ⌝ }

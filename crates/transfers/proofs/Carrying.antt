@@ -18,7 +18,7 @@ use Rattle.model.specs.Slots.{rowIn}
 use Rattle.model.specs.Retention.{Retention as Kept, retain}
 use Rattle.model.specs.Transfers.{Transfer, starting, ticked, receive}
 use Rattle.model.proofs.Priority.Steps.{most-ok}
-use Rattle.slots.specs.Layout.{Stored}
+use Rattle.slots.specs.Layout.{Stored, slotAt, RowsOver}
 use Rattle.slots.proofs.Storing.{laid-stored}
 use Rattle.contents.specs.Lent.{lent}
 use Rattle.contents.specs.Accepted.{Accepted}
@@ -29,7 +29,7 @@ use Rattle.retain.specs.Ends.{End, outcomeOf, retainEnd}
 use Rattle.transfers.specs.declared.receiving.Progress.{Progress}
 use Rattle.transfers.specs.declared.receiving.TransferState.{TransferState}
 use Rattle.transfers.specs.Receiving.{receivedEnd}
-use Rattle.transfers.specs.Transfer.{progressOf, startBy, Carried}
+use Rattle.transfers.specs.Transfer.{progressOf, startBy, Carried, Ready}
 use Rattle.transfers.proofs.Positions.{Within, retain-within, retain-limits}
 
 -- what a retention of the code is, beside the definition's, after the transfer v with at most c rows Added
@@ -123,12 +123,25 @@ carried-start h slots postings l s a m = record {
   few = omega arith;
 }
 
+-- ---- a row of the giver's slots can be received
+pub ready-at : (n i rows : ℕ) (p : TransferState) (slots postings given : List ℕ) (v : Transfer) (o : ℕ) → Carried n i p slots postings v
+    → RowsOver n rows given → o ≤ maxOutputs → i < rows → Ready p slots postings (slotAt given i) o
+ready-at n i rows p slots postings given v o h g m l = record {
+  atoms = n;
+  count = i;
+  state = v;
+  carried = h;
+  room = let f = g .few in omega arith;
+  stored = subst (λ (k : ℕ). Stored k (slotAt given i)) (sym (carried-atoms n i p slots postings v h)) (g .stored i l);
+  most = m;
+}
+
 -- ---- a position is within the words
 pub place-fits : (h : Header) (slots postings : List ℕ) (l : Ledger) → Stood h slots postings l → (p : ℕ) → p < h .rows
     → (p < maxRows) × (slotWords * p + slotWords ≤ length slots)
 place-fits h slots postings l s p q =
     let a = stood-accepted h slots postings l s in
-    let f = a .stands .few in let m = a .stands .most in let n = a .stands .long in (omega arith, omega arith)
+    let f = a .stands .held .over .few in let n = a .stands .held .over .long in (omega arith, omega arith)
 
 pub outputs-fit : (h : Header) (slots postings : List ℕ) (l : Ledger) → Stood h slots postings l → h .limits .«founded_outputs» ≤ maxOutputs
 outputs-fit h slots postings l s =

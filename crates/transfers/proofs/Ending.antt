@@ -20,9 +20,10 @@ use Rattle.model.specs.Transfers.{Transfer, starting, seedRows, markFor, seedin
 use Rattle.model.specs.Transfers.{delivering, deliveredTier, deliveredStore}
 use Rattle.model.specs.Transfers as transfers
 use Rattle.model.specs.Refusals.{Lent, refusal, accepts, ledgerIn, lentOf}
-use Rattle.model.specs.Operations.{TransferEnd, transferRefusal, untransferred, transferAnswer, transferEnd as endOf, seed, deliver}
+use Rattle.model.specs.Answers.{transferReply}
+use Rattle.model.specs.Operations.{TransferEnd, Transferred, transferRefusal, untransferred, transferAnswer}
+use Rattle.model.specs.Operations.{transferred as endOf, seed, deliver}
 use Rattle.slots.specs.Layout.{RowsOver}
-use Rattle.slots.proofs.Rows.{stands-rows}
 use Rattle.model.proofs.Headers.{setDeliveries, setSeeded, deliveries-in, seeded-in}
 use Rattle.contents.specs.Lent.{lent, refusedBy}
 use Rattle.contents.specs.Accepted.{Accepted}
@@ -103,7 +104,7 @@ module _ (t s : Lent) (e : transferRefusal t s ≡ none) where
       (seven-none (eqb (t .header .limits .atoms) (s .header .limits .atoms)) (rest .1))
 
 pub giving : (n : ℕ) (h : Header) (slots postings : List ℕ) → Accepted h slots postings → n ≡ h .limits .atoms → RowsOver n (h .rows) slots
-giving n h slots postings a e = subst (λ (k : ℕ). RowsOver k (h .rows) slots) (sym e) (stands-rows (a .stands))
+giving n h slots postings a e = subst (λ (k : ℕ). RowsOver k (h .rows) slots) (sym e) (a .stands .held .over)
 
 pub stood-now : (t : Header) (ts tp : List ℕ) → Stood t ts tp (ledgerIn (lent t ts tp))
     → Stood t ts tp (record { header = t; entries = entriesIn (t .rows) ts })
@@ -177,7 +178,7 @@ module _ (t s : Header) (ts tp ss sp : List ℕ) (m : Meter) where
   abbrev S : Lent
   S = lent s ss sp
 
-  pub seed-refused : (n : ℕ) → transferRefusal T S ≡ some n → transferEnd (untransferredBy n t s m) ts tp ss sp (seed T S m) ≡ seed T S m
+  pub seed-refused : (n : ℕ) → transferRefusal T S ≡ some n → transferEnd (untransferredBy n t s m) ts tp ss sp ≡ seed T S m .seen
   unfolding seed untransferred
   seed-refused n e = rw (e, seed, untransferred)
 
@@ -220,31 +221,26 @@ module _ (t s : Header) (ts tp ss sp : List ℕ) (m : Meter) where
         ∙ ap (λ (i : ℕ). lentOf (record { header = withSeeded s i; entries = ledgerIn S .entries })) (h .added)
 
     end-is : S ≡ lentOf (ledgerIn S)
-        → transferEnd (seededBy p s m) ws ps ss sp (endOf (seededTier (ledgerIn S) v) (seededStore (ledgerIn S) v) v m)
-        ≡ endOf (seededTier (ledgerIn S) v) (seededStore (ledgerIn S) v) v m
+        → transferEnd (seededBy p s m) ws ps ss sp ≡ endOf (seededTier (ledgerIn S) v) (seededStore (ledgerIn S) v) v m .seen
     unfolding endOf
     end-is e =
         ap₂ {C =
         TransferEnd}
         (λ (x y : Lent). record {
-          answer = answerOf (p .progress);
+          answer = transferReply (answerOf (p .progress));
           tier = x;
           store = y;
           meter = p .meter;
           ticks = made m (p .meter);
-          took = v .took;
-          evicts = v .evicts;
         }) tier-is (store-is e)
         ∙ ap₂ {C =
         TransferEnd}
         (λ (x : TransferAnswer) (y : Meter). record {
-          answer = x;
+          answer = transferReply x;
           tier = lentOf (seededTier (ledgerIn S) v);
           store = lentOf (seededStore (ledgerIn S) v);
           meter = y;
           ticks = made m y;
-          took = v .took;
-          evicts = v .evicts;
         })
         (answer-is (p .progress) ∙ ap transferAnswer (h .progress)) (h .meter)
 
@@ -253,14 +249,13 @@ module _ (t s : Header) (ts tp ss sp : List ℕ) (m : Meter) where
     is-end e = rw (e, seed) (ap (λ (u : Transfer). endOf (seededTier (ledgerIn S) u) (seededStore (ledgerIn S) u) u m) (sym the-seeding))
 
     pub seed-done : transferRefusal T S ≡ none → S ≡ lentOf (ledgerIn S) → {r : TransferResult} → r ≡ seededBy p s m
-        → transferEnd r ws ps ss sp (seed T S m) ≡ seed T S m
+        → transferEnd r ws ps ss sp ≡ seed T S m .seen
     seed-done e l q =
-        ap (λ (r : TransferResult). transferEnd r ws ps ss sp (seed T S m)) q
-        ∙ ap (transferEnd (seededBy p s m) ws ps ss sp) (is-end e) ∙ end-is l ∙ sym (is-end e)
+        ap (λ (r : TransferResult). transferEnd r ws ps ss sp) q ∙ end-is l ∙ sym (ap (λ (x : Transferred). x .seen) (is-end e))
 
   -- ---- Deliver
   pub deliver-refused : (n : ℕ) → transferRefusal T S ≡ some n
-      → transferEnd (untransferredBy n t s m) ts tp ss sp (deliver T S m) ≡ deliver T S m
+      → transferEnd (untransferredBy n t s m) ts tp ss sp ≡ deliver T S m .seen
   unfolding deliver untransferred
   deliver-refused n e = rw (e, deliver, untransferred)
 
@@ -290,31 +285,26 @@ module _ (t s : Header) (ts tp ss sp : List ℕ) (m : Meter) where
         ∙ ap (λ (i : ℕ). lentOf (record { header = withDeliveries (w .receiver .header) i; entries = w .receiver .entries }))
         (h .carried .added)
 
-    over-is : transferEnd (deliveredBy p t m) xs tp ws ps (endOf (deliveredTier (ledgerIn T) over) (deliveredStore over) w m)
-        ≡ endOf (deliveredTier (ledgerIn T) over) (deliveredStore over) w m
+    over-is : transferEnd (deliveredBy p t m) xs tp ws ps ≡ endOf (deliveredTier (ledgerIn T) over) (deliveredStore over) w m .seen
     unfolding endOf
     over-is =
         ap₂ {C =
         TransferEnd}
         (λ (x y : Lent). record {
-          answer = answerOf (p .progress);
+          answer = transferReply (answerOf (p .progress));
           tier = x;
           store = y;
           meter = p .meter;
           ticks = made m (p .meter);
-          took = w .took;
-          evicts = w .evicts;
         }) giver-is taker-is
         ∙ ap₂ {C =
         TransferEnd}
         (λ (x : TransferAnswer) (y : Meter). record {
-          answer = x;
+          answer = transferReply x;
           tier = lentOf (deliveredTier (ledgerIn T) over);
           store = lentOf (deliveredStore over);
           meter = y;
           ticks = made m y;
-          took = w .took;
-          evicts = w .evicts;
         })
         (answer-is (p .progress) ∙ ap transferAnswer (h .carried .progress)) (h .carried .meter)
 
@@ -323,7 +313,6 @@ module _ (t s : Header) (ts tp ss sp : List ℕ) (m : Meter) where
     is-over e = rw (e, deliver) (ap (λ (d : Delivery). endOf (deliveredTier (ledgerIn T) d) (deliveredStore d) (d .1) m) (sym the-delivery))
 
     pub deliver-done : transferRefusal T S ≡ none → {r : TransferResult} → r ≡ deliveredBy p t m
-        → transferEnd r xs tp ws ps (deliver T S m) ≡ deliver T S m
+        → transferEnd r xs tp ws ps ≡ deliver T S m .seen
     deliver-done e q =
-        ap (λ (r : TransferResult). transferEnd r xs tp ws ps (deliver T S m)) q
-        ∙ ap (transferEnd (deliveredBy p t m) xs tp ws ps) (is-over e) ∙ over-is ∙ sym (is-over e)
+        ap (λ (r : TransferResult). transferEnd r xs tp ws ps) q ∙ over-is ∙ sym (ap (λ (x : Transferred). x .seen) (is-over e))

@@ -1,25 +1,23 @@
 -- The entries of slots, position by position. Assumes nothing.
-use mathlib.Core.Path.{_≡_, refl, sym, ap, ap₂, _∙_}
+use mathlib.Core.Path.{_≡_, sym, ap, ap₂, _∙_}
 use mathlib.Core.List.{List, _∷_}
-use Prim.Native.Nat.{ℕ, zero, suc, _+_, _-_, _*_, _<_}
+use Prim.Native.Nat.{ℕ, _+_, _-_, _*_, _<_}
+use native.Mathlib.Numerals.{add-one}
 use native.Mathlib.Omega.{arith}
 use lib.ListN.{take, drop}
-use lib.Seq.{drop-drop}
-use Rattle.model.specs.Records.{slotWords}
+use lib.Seq.{drop-cons}
+use Rattle.model.specs.Records.{Entry, slotWords}
 use Rattle.model.specs.Slots.{entryIn, entriesIn}
+use Rattle.model.proofs.Slots.{entries-length}
 use Rattle.slots.specs.Layout.{slotAt}
-use Rattle.slots.proofs.Rows.{slot-code}
+use Rattle.slots.proofs.Rows.{slot-code, entries-at}
+use Rattle.slots.proofs.Holding.{no-entry}
 
 pub entries-drop : (n : ℕ) (ws : List ℕ) (i : ℕ) → i < n → drop i (entriesIn n ws) ≡ entryIn (slotAt ws i) ∷ drop (i + 1) (entriesIn n ws)
-unfolding entriesIn
-entries-drop zero ws i l = absurd (omega arith)
-entries-drop (suc n) ws zero l = refl
-entries-drop (suc n) ws (suc i) l =
-    let s : slotWords + slotWords * i ≡ slotWords * suc i = omega arith in
-    let k : suc (i + 1) ≡ suc i + 1 = omega arith in
-    entries-drop n (drop slotWords ws) i (omega arith)
-    ∙ ap₂ (λ (x : List ℕ) (j : ℕ). entryIn (take slotWords x) ∷ drop j (entriesIn (suc n) ws))
-    (drop-drop (slotWords * i) slotWords ws ∙ ap (λ (j : ℕ). drop j ws) s) k
+entries-drop n ws i l =
+    let c = entries-length n ws in
+    drop-cons (entriesIn n ws) i no-entry (omega arith)
+    ∙ ap₂ (λ (e : Entry) (j : ℕ). e ∷ drop j (entriesIn n ws)) (entries-at n ws i no-entry l) (sym (add-one i))
 
 -- the same of the part that the code lends
 pub entries-part : (n : ℕ) (ws : List ℕ) (i : ℕ) → i < n

@@ -21,7 +21,7 @@ use Rattle.row_propose.specs.Proposed.{Proposed}
 use Rattle.contents.specs.Lent.{lent}
 use Rattle.contents.specs.Accepted.{Accepted}
 use Rattle.row_propose.proofs.Proposing.{proposed-over}
-use Rattle.retain_keep.proofs.Holding.{accepted-lent}
+use Rattle.contents.proofs.Lending.{stands-lent}
 use Rattle.retain.specs.declared.Retained.the-variants.{Declined, Stopped}
 use Rattle.retain.specs.Ends.{retainEnd, endOf}
 use Rattle.transfers.specs.Receiving.{receivedEnd}
@@ -33,7 +33,7 @@ module _ (h : Header) (slots postings : List ℕ) (a : Accepted h slots postings
       ≡ receivedEnd (lent h slots postings) t outputs hits run
   unfolding retain retained untaken
   end-declined b m e =
-      ap (λ (x : Lent). record { outcome = Declines; ledger = x; account = b; meter = m }) (accepted-lent h slots postings a)
+      ap (λ (x : Lent). record { outcome = Declines; ledger = x; account = b; meter = m }) (stands-lent h slots postings (a .stands))
       ∙ ap (receivedEnd (lent h slots postings) t outputs hits) e
 
   pub end-stopped : (b : Account) (m : Meter) {run : Read} → read.Stopped b m ≡ run →
@@ -41,7 +41,7 @@ module _ (h : Header) (slots postings : List ℕ) (a : Accepted h slots postings
       ≡ receivedEnd (lent h slots postings) t outputs hits run
   unfolding retain retained untaken
   end-stopped b m e =
-      ap (λ (x : Lent). record { outcome = Stops; ledger = x; account = b; meter = m }) (accepted-lent h slots postings a)
+      ap (λ (x : Lent). record { outcome = Stops; ledger = x; account = b; meter = m }) (stands-lent h slots postings (a .stands))
       ∙ ap (receivedEnd (lent h slots postings) t outputs hits) e
 
 -- ---- the row of a slot as a proposal

@@ -13,7 +13,7 @@ use Rattle.model.specs.declared.Header.{Header}
 use Rattle.model.specs.Records.{Entry, Ledger, slotWords, maxRows}
 use Rattle.model.specs.Slots.{entryIn, entriesIn}
 use Rattle.model.specs.Transfers.{Transfer, Delivery, deliverRows}
-use Rattle.slots.specs.Layout.{Stored, slotAt}
+use Rattle.slots.specs.Layout.{slotAt}
 use Rattle.retain_keep.specs.Stood.{Stood}
 use Rattle.retain_keep.proofs.Standing.{stood-accepted, stood-rows, stood-entries}
 use Rattle.transfers.specs.declared.receiving.Progress.{Progress}
@@ -24,7 +24,7 @@ use Rattle.transfers.specs.Handing.{Keeps, Handed, Delivered}
 use Rattle.transfers.proofs.receiving.Progress.{the-type}
 use Rattle.transfers.proofs.Entries.{entries-drop}
 use Rattle.transfers.proofs.Deliveries.{alongBy, deliver-end, deliver-split}
-use Rattle.transfers.proofs.Carrying.{carried-atoms, carried-up, place-fits, outputs-fit}
+use Rattle.transfers.proofs.Carrying.{ready-at, carried-up, place-fits, outputs-fit}
 
 -- these entries are done, the rest as it ends
 abbrev after : List Entry → Delivery → Delivery
@@ -56,16 +56,9 @@ module _ (t : Header) (ws ps : List ℕ) (h : Header) (done es : List Entry) (i 
 
   pub tier-ready : (p : TransferState) (slots postings : List ℕ) (v : Transfer) → Carried (t .limits .atoms) i p slots postings v
       → Ready p slots postings (slotAt ws i) (t .limits .«founded_outputs»)
-  tier-ready p slots postings v k = record {
-    atoms = t .limits .atoms;
-    count = i;
-    state = v;
-    carried = k;
-    room = tier-small;
-    stored = subst (λ (n : ℕ). Stored n (slotAt ws i)) (sym (carried-atoms (t .limits .atoms) i p slots postings v k))
-        (stood-accepted t ws ps ledger s .stands .stored i under);
-    most = outputs-fit t ws ps ledger s;
-  }
+  tier-ready p slots postings v k =
+      ready-at (t .limits .atoms) i (t .rows) p slots postings ws v (t .limits .«founded_outputs») k
+      (stood-accepted t ws ps ledger s .stands .held .over) (outputs-fit t ws ps ledger s) under
 
 -- a transfer that does not go on
 ended : (x : Progress) (es : List Entry) (f : Transfer → Delivery) (d : Delivery) → OneOf (1 ∷ 2 ∷ []) (tagOf the-type x)

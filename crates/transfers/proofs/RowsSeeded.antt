@@ -14,7 +14,7 @@ use Rattle.model.specs.declared.Header.{Header}
 use Rattle.model.specs.Records.{Entry, slotWords, maxOutputs}
 use Rattle.model.specs.Transfers.{Transfer, starting, seedRows}
 use Rattle.model.specs.Refusals.{ledgerIn}
-use Rattle.slots.specs.Layout.{Stored, RowsOver}
+use Rattle.slots.specs.Layout.{RowsOver}
 use Rattle.slots.proofs.Rows.{slot-code}
 use Rattle.contents.specs.Lent.{lent}
 use Rattle.retain_keep.specs.Stood.{Stood}
@@ -24,22 +24,14 @@ use Rattle.transfers.specs.declared.receiving.TransferState.{TransferSta
 use Rattle.transfers.specs.Transfer.{progressOf, startBy, Carried, Ready}
 use Rattle.transfers.proofs.receiving.Progress.{the-type}
 use Rattle.transfers.proofs.Seeds.{onwardBy, seed-end, seed-split}
-use Rattle.transfers.proofs.Carrying.{carried-atoms, carried-up, carried-start}
+use Rattle.transfers.proofs.Carrying.{carried-up, carried-start, ready-at}
 
 -- a row of the giver's slots, as the code lends it
 pub row-ready : (n i rows : ℕ) (p : TransferState) (slots postings given : List ℕ) (v : Transfer) (o : ℕ) → Carried n i p slots postings v
     → RowsOver n rows given → o ≤ maxOutputs → i < rows
     → Ready p slots postings (take ((slotWords * i + slotWords) - slotWords * i) (drop (slotWords * i) given)) o
-row-ready n i rows p slots postings given v o h g m l = record {
-  atoms = n;
-  count = i;
-  state = v;
-  carried = h;
-  room = let f = g .few in omega arith;
-  stored = subst (λ (k : ℕ). Stored k (take ((slotWords * i + slotWords) - slotWords * i) (drop (slotWords * i) given)))
-      (sym (carried-atoms n i p slots postings v h)) (subst (Stored n) (sym (slot-code given i)) (g .stored i l));
-  most = m;
-}
+row-ready n i rows p slots postings given v o h g m l =
+    subst (λ (row : List ℕ). Ready p slots postings row o) (sym (slot-code given i)) (ready-at n i rows p slots postings given v o h g m l)
 
 -- the definition's transfer at the start of the code's
 abbrev pub startOf : TransferState → List ℕ → List ℕ → Transfer

@@ -1,5 +1,4 @@
--- 01, Seed and Deliver: their end, from what the code gives back and leaves in the lent slices.
--- What was taken and whether it evicted is the definition's to say: the code has no field for it. Assumes nothing.
+-- 01, Seed and Deliver: their end, from what the code gives back and leaves in the lent slices. Assumes nothing.
 use mathlib.Core.List.{List}
 use Prim.Native.Nat.{ℕ}
 use Rattle.meter.specs.declared.Meter.{Meter}
@@ -9,21 +8,20 @@ use Rattle.model.specs.declared.TransferAnswer.{TransferAnswer}
 use Rattle.model.specs.declared.TransferAnswer.the-variants as transfer-answer
 use Rattle.model.specs.declared.TransferResult.{TransferResult}
 use Rattle.model.specs.Records.{withAccount, withMark, withSeeded, withDeliveries}
+use Rattle.model.specs.Answers.{transferReply}
 use Rattle.model.specs.Operations.{TransferEnd}
 use Rattle.contents.specs.Lent.{lent}
 use Rattle.transfers.specs.declared.receiving.Progress.{Progress}
 use Rattle.transfers.specs.declared.receiving.Progress.the-variants.{Whole, Declined, Stopped}
 use Rattle.transfers.specs.declared.receiving.TransferState.{TransferState}
 
-abbrev pub transferEnd : TransferResult → List ℕ → List ℕ → List ℕ → List ℕ → TransferEnd → TransferEnd
-transferEnd r tierSlots tierPostings storeSlots storePostings e = record {
-  answer = r .answer;
+abbrev pub transferEnd : TransferResult → List ℕ → List ℕ → List ℕ → List ℕ → TransferEnd
+transferEnd r tierSlots tierPostings storeSlots storePostings = record {
+  answer = transferReply (r .answer);
   tier = lent (r .tier) tierSlots tierPostings;
   store = lent (r .store) storeSlots storePostings;
   meter = r .meter;
   ticks = r .ticks;
-  took = e .took;
-  evicts = e .evicts;
 }
 
 -- refused

@@ -239,10 +239,8 @@ pub fn deliver(
 ) -> TransferResult
     ensures { λ r. ⌜ transferEnd r (now («tier_slots» .exit)) (now («tier_postings» .entry)) (now («store_slots» .exit))
         (now («store_postings» .exit))
-        (deliver (lent tier (now («tier_slots» .entry)) (now («tier_postings» .entry)))
-        (lent store (now («store_slots» .entry)) (now («store_postings» .entry))) work)
         ≡ deliver (lent tier (now («tier_slots» .entry)) (now («tier_postings» .entry)))
-        (lent store (now («store_slots» .entry)) (now («store_postings» .entry))) work ⌝ }
+        (lent store (now («store_slots» .entry)) (now («store_postings» .entry))) work .seen ⌝ }
 {
     let n = refusal(
         tier,

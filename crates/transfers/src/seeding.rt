@@ -178,10 +178,8 @@ pub fn seed(
 ) -> TransferResult
     ensures { λ r. ⌜ transferEnd r (now («tier_slots» .exit)) (now («tier_postings» .exit)) (now («store_slots» .entry))
         (now («store_postings» .entry))
-        (seed (lent tier (now («tier_slots» .entry)) (now («tier_postings» .entry)))
-        (lent store (now («store_slots» .entry)) (now («store_postings» .entry))) work)
         ≡ seed (lent tier (now («tier_slots» .entry)) (now («tier_postings» .entry)))
-        (lent store (now («store_slots» .entry)) (now («store_postings» .entry))) work ⌝ }
+        (lent store (now («store_slots» .entry)) (now («store_postings» .entry))) work .seen ⌝ }
 {
     let n = refusal(
         tier,

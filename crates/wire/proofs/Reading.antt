@@ -12,8 +12,9 @@ use Rattle.model.specs.declared.Mark.{Mark}
 use Rattle.model.specs.declared.Mark.the-variants.{Unmarked, Marked}
 use Rattle.model.specs.declared.Header.{Header}
 use Rattle.model.specs.declared.OutputCursor.{OutputCursor}
-use Rattle.wire.specs.declared.Reply.{Reply}
-use Rattle.wire.specs.Words.{flagWord, flagIn, limitsIn, markWords, markIn, headerWords, headerWith, headerIn, meterWords, meterIn}
+use Rattle.model.specs.Answers.{flagWord}
+use Rattle.wire.specs.declared.ReplyWords.{ReplyWords}
+use Rattle.wire.specs.Words.{flagIn, limitsIn, markWords, markIn, headerWords, headerWith, headerIn, meterWords, meterIn}
 use Rattle.wire.specs.Words.{cursorWords, cursorIn, limitsLength, headerLength, meterLength, cursorLength, answerLength}
 use Rattle.wire.specs.Replies.{answerWords}
 
@@ -71,5 +72,5 @@ meter-long m = refl
 pub cursor-long : (k : OutputCursor) → length (cursorWords k) ≡ cursorLength
 cursor-long k = refl
 
-pub answer-long : (t : Reply) (ticks : ℕ) → length (answerWords t ticks) ≡ answerLength
+pub answer-long : (t : ReplyWords) (ticks : ℕ) → length (answerWords t ticks) ≡ answerLength
 answer-long t ticks = refl

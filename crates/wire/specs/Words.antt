@@ -12,6 +12,7 @@ use Rattle.model.specs.declared.Mark.the-variants.{Unmarked, Marked}
 use Rattle.model.specs.declared.Header.{Header}
 use Rattle.model.specs.declared.OutputCursor.{OutputCursor}
 use Rattle.model.specs.Records.{header}
+use Rattle.model.specs.Answers.{flagWord}
 
 -- ---- how many words each has
 abbrev pub limitsLength : ℕ
@@ -28,10 +29,6 @@ cursorLength = 4
 
 abbrev pub answerLength : ℕ
 answerLength = 3
-
-abbrev pub flagWord : Bool → ℕ
-flagWord true = 1
-flagWord false = 0
 
 abbrev pub flagIn : ℕ → Bool
 flagIn w = not (eqb w 0)

@@ -1,11 +1,12 @@
 // The words that cross the C boundary: the header, the limits, the meter, the cursor, and the number and value of each answer.
 // Words are read whatever they are, and none asks anything of its caller.
 ghost use mathlib.Core.Path.{_≡_};
-ghost use Rattle.wire.specs.Words.{flagWord, limitsIn, markWords, markIn, headerWords, headerIn, meterWords, meterIn, cursorWords};
+ghost use Rattle.wire.specs.Words.{limitsIn, markWords, markIn, headerWords, headerIn, meterWords, meterIn, cursorWords};
 ghost use Rattle.wire.specs.Words.{cursorIn};
-ghost use Rattle.wire.specs.Replies.{refused as refusedBy, answered as answeredBy, answerWords, makeReply, madeWords, offerReply};
-ghost use Rattle.wire.specs.Replies.{hitReply, beginReply, deduceReply, nextReply, candidatesReply, closeReply, transferReply};
-ghost use Rattle.wire.specs.Replies.{decideReply};
+ghost use Rattle.model.specs.Answers.{refused as refusedBy, answered as answeredBy, flagWord, makeReply, madeHeader, offerReply};
+ghost use Rattle.model.specs.Answers.{hitReply, beginReply, deduceReply, nextReply, candidatesReply, closeReply, transferReply};
+ghost use Rattle.model.specs.Answers.{deductionReply, decideReply};
+ghost use Rattle.wire.specs.Replies.{replyWords, answerWords, madeWords};
 use meter::Capture;
 use meter::Meter;
 use meter::Sharing;
@@ -36,8 +37,59 @@ pub const CURSOR_WORDS: usize = 4;
 
 pub const ANSWER_WORDS: usize = 3;
 
+// Where each word of a header stands. The limits are its first ten, in their order.
+pub const HEAD_ATOMS_AT: usize = 0;
+
+pub const HEAD_TIER_ROWS_AT: usize = 1;
+
+pub const HEAD_FOUNDED_CONDITIONS_AT: usize = 2;
+
+pub const HEAD_FOUNDED_OUTPUTS_AT: usize = 3;
+
+pub const HEAD_FOUNDED_FLOOR_AT: usize = 4;
+
+pub const HEAD_FOUNDED_ATTEMPTS_AT: usize = 5;
+
+pub const HEAD_FOUNDED_WORK_AT: usize = 6;
+
+pub const HEAD_SHARE_WORK_AT: usize = 7;
+
+pub const HEAD_SHARE_CONDITIONS_AT: usize = 8;
+
+pub const HEAD_SHARE_HITS_AT: usize = 9;
+
+pub const HEAD_NUMBER_AT: usize = 10;
+
+pub const HEAD_ROWS_AT: usize = 11;
+
+pub const HEAD_BORN_AT: usize = 12;
+
+pub const HEAD_EPOCH_AT: usize = 13;
+
+pub const HEAD_ATTEMPTS_AT: usize = 14;
+
+pub const HEAD_REMAINING_AT: usize = 15;
+
+pub const HEAD_SHARING_AT: usize = 16;
+
+pub const HEAD_EVICTED_AT: usize = 17;
+
+pub const HEAD_DELIVERIES_AT: usize = 18;
+
+pub const HEAD_SEEDED_AT: usize = 19;
+
+pub const HEAD_STALE_AT: usize = 20;
+
+pub const HEAD_FULL_AT: usize = 21;
+
+pub const HEAD_MARKED_AT: usize = 22;
+
+pub const HEAD_MARK_NUMBER_AT: usize = 23;
+
+pub const HEAD_MARK_BORN_AT: usize = 24;
+
 // An answer as numbers: `refusal` is the number of a refusal, or 0; then `case` and `value` say which answer it is.
-pub struct Reply {
+pub struct ReplyWords {
     pub refusal: u64,
     pub case: u64,
     pub value: u64,
@@ -58,16 +110,16 @@ pub fn limits_of(words: &[u64; LIMITS_WORDS]) -> LearningLimits
     ensures { λ r. ⌜ r ≡ limitsIn (now (words .entry)) ⌝ }
 {
     LearningLimits {
-        atoms: words[0],
-        tier_rows: words[1],
-        founded_conditions: words[2],
-        founded_outputs: words[3],
-        founded_floor: words[4],
-        founded_attempts: words[5],
-        founded_work: words[6],
-        share_work: words[7],
-        share_conditions: words[8],
-        share_hits: words[9],
+        atoms: words[HEAD_ATOMS_AT],
+        tier_rows: words[HEAD_TIER_ROWS_AT],
+        founded_conditions: words[HEAD_FOUNDED_CONDITIONS_AT],
+        founded_outputs: words[HEAD_FOUNDED_OUTPUTS_AT],
+        founded_floor: words[HEAD_FOUNDED_FLOOR_AT],
+        founded_attempts: words[HEAD_FOUNDED_ATTEMPTS_AT],
+        founded_work: words[HEAD_FOUNDED_WORK_AT],
+        share_work: words[HEAD_SHARE_WORK_AT],
+        share_conditions: words[HEAD_SHARE_CONDITIONS_AT],
+        share_hits: words[HEAD_SHARE_HITS_AT],
     }
 }
 
@@ -97,33 +149,37 @@ pub fn header_of(words: &[u64; HEADER_WORDS]) -> Header
 {
     let limits = limits_of(
         &[
-            words[0],
-            words[1],
-            words[2],
-            words[3],
-            words[4],
-            words[5],
-            words[6],
-            words[7],
-            words[8],
-            words[9],
+            words[HEAD_ATOMS_AT],
+            words[HEAD_TIER_ROWS_AT],
+            words[HEAD_FOUNDED_CONDITIONS_AT],
+            words[HEAD_FOUNDED_OUTPUTS_AT],
+            words[HEAD_FOUNDED_FLOOR_AT],
+            words[HEAD_FOUNDED_ATTEMPTS_AT],
+            words[HEAD_FOUNDED_WORK_AT],
+            words[HEAD_SHARE_WORK_AT],
+            words[HEAD_SHARE_CONDITIONS_AT],
+            words[HEAD_SHARE_HITS_AT],
         ],
     );
-    let mark = mark_of(words[22], words[23], words[24]);
+    let mark = mark_of(
+        words[HEAD_MARKED_AT],
+        words[HEAD_MARK_NUMBER_AT],
+        words[HEAD_MARK_BORN_AT],
+    );
     Header {
         limits,
-        number: words[10],
-        rows: words[11],
-        born: words[12],
-        epoch: words[13],
-        attempts: words[14],
-        remaining: Capture(words[15]),
-        sharing: Sharing(words[16]),
-        evicted: words[17],
-        deliveries: words[18],
-        seeded: words[19],
-        stale: words[20] != 0,
-        full: words[21] != 0,
+        number: words[HEAD_NUMBER_AT],
+        rows: words[HEAD_ROWS_AT],
+        born: words[HEAD_BORN_AT],
+        epoch: words[HEAD_EPOCH_AT],
+        attempts: words[HEAD_ATTEMPTS_AT],
+        remaining: Capture(words[HEAD_REMAINING_AT]),
+        sharing: Sharing(words[HEAD_SHARING_AT]),
+        evicted: words[HEAD_EVICTED_AT],
+        deliveries: words[HEAD_DELIVERIES_AT],
+        seeded: words[HEAD_SEEDED_AT],
+        stale: words[HEAD_STALE_AT] != 0,
+        full: words[HEAD_FULL_AT] != 0,
         mark,
     }
 }
@@ -205,7 +261,7 @@ pub fn put_cursor(cursor: OutputCursor, words: &mut [u64; CURSOR_WORDS])
 }
 
 // Writes an answer that is no refusal: case, value, ticks.
-pub fn put_answer(reply: Reply, ticks: u64, words: &mut [u64; ANSWER_WORDS])
+pub fn put_answer(reply: ReplyWords, ticks: u64, words: &mut [u64; ANSWER_WORDS])
     ensures { λ _. ⌜ now (words .exit) ≡ answerWords reply ticks ⌝ }
 {
     *words = [reply.case, reply.value, ticks];
@@ -213,7 +269,7 @@ pub fn put_answer(reply: Reply, ticks: u64, words: &mut [u64; ANSWER_WORDS])
 
 // Writes the header that was made; a refused Make leaves the words.
 pub fn put_made(answer: MakeAnswer, words: &mut [u64; HEADER_WORDS])
-    ensures { λ _. ⌜ now (words .exit) ≡ madeWords answer (now (words .entry)) ⌝ }
+    ensures { λ _. ⌜ now (words .exit) ≡ madeWords (madeHeader answer) (now (words .entry)) ⌝ }
 {
     if let MakeAnswer::Made(h) = answer {
         put_header(h, words);
@@ -222,10 +278,10 @@ pub fn put_made(answer: MakeAnswer, words: &mut [u64; HEADER_WORDS])
 
 // ---- The number and the value of each answer.
 // A refusal, by its number.
-fn refused(n: u64) -> Reply
-    ensures { λ r. ⌜ r ≡ refusedBy n ⌝ }
+fn refused(n: u64) -> ReplyWords
+    ensures { λ r. ⌜ r ≡ replyWords (refusedBy n) ⌝ }
 {
-    Reply {
+    ReplyWords {
         refusal: n,
         case: 0,
         value: 0,
@@ -233,10 +289,10 @@ fn refused(n: u64) -> Reply
 }
 
 // An answer that is no refusal.
-fn reply_of(case: u64, value: u64) -> Reply
-    ensures { λ r. ⌜ r ≡ answeredBy case value ⌝ }
+fn answered(case: u64, value: u64) -> ReplyWords
+    ensures { λ r. ⌜ r ≡ replyWords (answeredBy case value) ⌝ }
 {
-    Reply {
+    ReplyWords {
         refusal: 0,
         case,
         value,
@@ -244,116 +300,123 @@ fn reply_of(case: u64, value: u64) -> Reply
 }
 
 // Refused by a number; 0 for a header made.
-pub fn make_reply(a: MakeAnswer) -> Reply
-    ensures { λ r. ⌜ r ≡ makeReply a ⌝ }
+pub fn make_reply(a: MakeAnswer) -> ReplyWords
+    ensures { λ r. ⌜ r ≡ replyWords (makeReply a) ⌝ }
 {
     match a {
         MakeAnswer::Refused(n) => refused(n),
-        MakeAnswer::Made(_) => reply_of(0, 0),
+        MakeAnswer::Made(_) => answered(0, 0),
     }
 }
 
 // Refused by a number; 1 Shut, 2 Stopped, 3 Declined, 4 Subsumed and 5 Added with the row's position.
-pub fn offer_reply(a: OfferAnswer) -> Reply
-    ensures { λ r. ⌜ r ≡ offerReply a ⌝ }
+pub fn offer_reply(a: OfferAnswer) -> ReplyWords
+    ensures { λ r. ⌜ r ≡ replyWords (offerReply a) ⌝ }
 {
     match a {
         OfferAnswer::Refused(n) => refused(n),
-        OfferAnswer::Shut => reply_of(1, 0),
-        OfferAnswer::Stopped => reply_of(2, 0),
-        OfferAnswer::Declined => reply_of(3, 0),
-        OfferAnswer::Subsumed(p) => reply_of(4, p),
-        OfferAnswer::Added(p) => reply_of(5, p),
+        OfferAnswer::Shut => answered(1, 0),
+        OfferAnswer::Stopped => answered(2, 0),
+        OfferAnswer::Declined => answered(3, 0),
+        OfferAnswer::Subsumed(p) => answered(4, p),
+        OfferAnswer::Added(p) => answered(5, p),
     }
 }
 
 // Refused by a number; 0 for done.
-pub fn hit_reply(a: HitAnswer) -> Reply
-    ensures { λ r. ⌜ r ≡ hitReply a ⌝ }
+pub fn hit_reply(a: HitAnswer) -> ReplyWords
+    ensures { λ r. ⌜ r ≡ replyWords (hitReply a) ⌝ }
 {
     match a {
         HitAnswer::Refused(n) => refused(n),
-        HitAnswer::Done => reply_of(0, 0),
+        HitAnswer::Done => answered(0, 0),
     }
 }
 
 // Refused by a number; 0 for done.
-pub fn begin_reply(a: BeginAnswer) -> Reply
-    ensures { λ r. ⌜ r ≡ beginReply a ⌝ }
+pub fn begin_reply(a: BeginAnswer) -> ReplyWords
+    ensures { λ r. ⌜ r ≡ replyWords (beginReply a) ⌝ }
 {
     match a {
         BeginAnswer::Refused(n) => refused(n),
-        BeginAnswer::Done => reply_of(0, 0),
+        BeginAnswer::Done => answered(0, 0),
     }
 }
 
-// Refused by a number; 0 Nothing, 1 Force, 2 Stopped, 3 Require with the code.
-pub fn deduce_reply(a: DeduceAnswer) -> Reply
-    ensures { λ r. ⌜ r ≡ deduceReply a ⌝ }
+// Refused by a number; 2 Stopped, or the deduction's number.
+pub fn deduce_reply(a: DeduceAnswer, d: Deduction) -> ReplyWords
+    ensures { λ r. ⌜ r ≡ replyWords (deduceReply a d) ⌝ }
 {
     match a {
         DeduceAnswer::Refused(n) => refused(n),
-        DeduceAnswer::Stopped => reply_of(2, 0),
-        DeduceAnswer::Deduced(d) => match d {
-            Deduction::Nothing => reply_of(0, 0),
-            Deduction::Force => reply_of(1, 0),
-            Deduction::Require(l) => reply_of(3, l.0 as u64),
-        },
+        DeduceAnswer::Stopped => answered(2, 0),
+        DeduceAnswer::Done => deduction_reply(d),
+    }
+}
+
+// 0 Nothing, 1 Force, 3 Require with the code.
+fn deduction_reply(d: Deduction) -> ReplyWords
+    ensures { λ r. ⌜ r ≡ replyWords (deductionReply d) ⌝ }
+{
+    match d {
+        Deduction::Nothing => answered(0, 0),
+        Deduction::Force => answered(1, 0),
+        Deduction::Require(l) => answered(3, l.0 as u64),
     }
 }
 
 // Refused by a number; 0 End, 1 Output with the code, 2 Stopped.
-pub fn next_reply(a: NextAnswer) -> Reply
-    ensures { λ r. ⌜ r ≡ nextReply a ⌝ }
+pub fn next_reply(a: NextAnswer) -> ReplyWords
+    ensures { λ r. ⌜ r ≡ replyWords (nextReply a) ⌝ }
 {
     match a {
         NextAnswer::Refused(n) => refused(n),
-        NextAnswer::Stopped => reply_of(2, 0),
-        NextAnswer::End => reply_of(0, 0),
-        NextAnswer::Output(l) => reply_of(1, l.0 as u64),
+        NextAnswer::Stopped => answered(2, 0),
+        NextAnswer::End => answered(0, 0),
+        NextAnswer::Output(l) => answered(1, l.0 as u64),
     }
 }
 
 // Refused by a number; 0 with the count, 2 Stopped.
-pub fn candidates_reply(a: CandidatesAnswer) -> Reply
-    ensures { λ r. ⌜ r ≡ candidatesReply a ⌝ }
+pub fn candidates_reply(a: CandidatesAnswer) -> ReplyWords
+    ensures { λ r. ⌜ r ≡ replyWords (candidatesReply a) ⌝ }
 {
     match a {
         CandidatesAnswer::Refused(n) => refused(n),
-        CandidatesAnswer::Stopped => reply_of(2, 0),
-        CandidatesAnswer::Count(n) => reply_of(0, n),
+        CandidatesAnswer::Stopped => answered(2, 0),
+        CandidatesAnswer::Count(n) => answered(0, n),
     }
 }
 
 // Refused by a number; 0 Closed, 1 Conflict, 2 Stopped.
-pub fn close_reply(a: CloseAnswer) -> Reply
-    ensures { λ r. ⌜ r ≡ closeReply a ⌝ }
+pub fn close_reply(a: CloseAnswer) -> ReplyWords
+    ensures { λ r. ⌜ r ≡ replyWords (closeReply a) ⌝ }
 {
     match a {
         CloseAnswer::Refused(n) => refused(n),
-        CloseAnswer::Stopped => reply_of(2, 0),
-        CloseAnswer::Conflict => reply_of(1, 0),
-        CloseAnswer::Closed => reply_of(0, 0),
+        CloseAnswer::Stopped => answered(2, 0),
+        CloseAnswer::Conflict => answered(1, 0),
+        CloseAnswer::Closed => answered(0, 0),
     }
 }
 
 // Seed and deliver. Refused by a number; 0 Done, 2 Stopped.
-pub fn transfer_reply(a: TransferAnswer) -> Reply
-    ensures { λ r. ⌜ r ≡ transferReply a ⌝ }
+pub fn transfer_reply(a: TransferAnswer) -> ReplyWords
+    ensures { λ r. ⌜ r ≡ replyWords (transferReply a) ⌝ }
 {
     match a {
         TransferAnswer::Refused(n) => refused(n),
-        TransferAnswer::Stopped => reply_of(2, 0),
-        TransferAnswer::Done => reply_of(0, 0),
+        TransferAnswer::Stopped => answered(2, 0),
+        TransferAnswer::Done => answered(0, 0),
     }
 }
 
 // Refused by a number; 0 false, 1 true.
-pub fn decide_reply(a: DecideAnswer) -> Reply
-    ensures { λ r. ⌜ r ≡ decideReply a ⌝ }
+pub fn decide_reply(a: DecideAnswer) -> ReplyWords
+    ensures { λ r. ⌜ r ≡ replyWords (decideReply a) ⌝ }
 {
     match a {
         DecideAnswer::Refused(n) => refused(n),
-        DecideAnswer::Decided(b) => reply_of(flag_word(b), 0),
+        DecideAnswer::Decided(b) => answered(flag_word(b), 0),
     }
 }

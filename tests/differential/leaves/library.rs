@@ -1,6 +1,6 @@
 //! The static library of crate `leaves`, whose source says what each function takes and gives. A lent slice is a pointer
-//! and a length, a lent array a pointer. A function that takes `times` is called so many times in a row, each with the
-//! account and the meter that the last left.
+//! and a length, a lent array a pointer, a truth value a word. A function that takes `times` is called so many times in a row,
+//! each with the account and the meter that the last left.
 
 use crate::case::{Row, SLOT_WORDS};
 
@@ -42,7 +42,7 @@ unsafe extern "C" {
         other_conditions_length: usize,
         other_outputs: *const u64,
         other_outputs_length: usize,
-        turned: bool,
+        turned: u64,
         paying: *const Four,
         times: u64,
         answer: *mut Four,
@@ -99,11 +99,11 @@ unsafe extern "C" {
         cut: *mut u64,
         cut_length: usize,
         atom: u64,
-        value: bool,
+        value: u64,
         answer: *mut Four,
     ) -> u64;
     fn leaf_next_from(words: *const u64, length: usize, from: u64, answer: *mut Four) -> u64;
-    fn leaf_contains(words: *const u64, length: usize, atom: u64) -> bool;
+    fn leaf_contains(words: *const u64, length: usize, atom: u64) -> u64;
     fn leaf_insert(words: *mut u64, length: usize, atom: u64);
 }
 
@@ -177,7 +177,7 @@ pub fn subsumes(
         leaf_subsumes,
         atoms,
         [row, other],
-        turned,
+        u64::from(turned),
         paying,
         times,
         answer
@@ -276,7 +276,7 @@ pub fn decide(
             cut,
             cut_length,
             atom,
-            value,
+            u64::from(value),
             answer,
         )
     }
@@ -290,7 +290,7 @@ pub fn next_from(words: &[u64], from: u64, answer: &mut Four) -> u64 {
 
 pub fn contains(words: &[u64], atom: u64) -> bool {
     // SAFETY: as above.
-    unsafe { leaf_contains(words.as_ptr(), words.len(), atom) }
+    unsafe { leaf_contains(words.as_ptr(), words.len(), atom) != 0 }
 }
 
 pub fn insert(words: &mut [u64], atom: u64) {

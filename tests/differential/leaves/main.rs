@@ -14,12 +14,15 @@ mod rattle;
 mod rust;
 mod shapes;
 mod shrink;
+#[path = "../verdict.rs"]
+mod verdict;
 
 use std::process::ExitCode;
 
 use case::{Case, End, Function, Row};
 use random::Random;
 use shapes::Counts;
+use verdict::verdict;
 
 /// Up to this charge every account is tried with every meter; above it each alone, and both together.
 const ALL_PAIRS: u64 = 10;
@@ -191,17 +194,5 @@ fn main() -> ExitCode {
         comparison.round(&mut random);
     }
     let missing = comparison.counts.report();
-    if missing > 0 {
-        println!("{missing} of what must occur did not");
-    }
-    println!(
-        "{} calls compared, {} differ",
-        comparison.counts.calls(),
-        comparison.differ
-    );
-    if comparison.differ == 0 && missing == 0 {
-        ExitCode::SUCCESS
-    } else {
-        ExitCode::FAILURE
-    }
+    verdict(comparison.counts.calls(), comparison.differ, missing)
 }

@@ -95,7 +95,7 @@ pub fn pass(call: &Call, lent: &mut Lent) {
         Call::Begin { .. } => tier.begin(answer),
         Call::Candidates { atoms, .. } => tier.candidates(atoms, found, answer, meter),
         Call::Deduce { position, .. } => {
-            tier.deduce(*position, &region.held, &region.cut, answer, meter)
+            tier.deduce(*position, (&region.held, &region.cut), answer, meter)
         }
         Call::Next { position, .. } => {
             let region = (&region.held[..], &region.cut[..]);

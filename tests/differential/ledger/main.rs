@@ -28,6 +28,8 @@ mod rust;
 mod shrink;
 mod sweep;
 mod unfit;
+#[path = "../verdict.rs"]
+mod verdict;
 
 use std::process::ExitCode;
 use std::sync::atomic::{AtomicU64, Ordering};
@@ -36,6 +38,7 @@ use std::thread;
 use fault::Fault;
 use random::Random;
 use run::{Comparison, Smallest};
+use verdict::verdict;
 
 /// Rounds, where none are given.
 const ROUNDS: u64 = 200_000;
@@ -136,17 +139,5 @@ fn main() -> ExitCode {
     let comparison = compare(rounds, numbers.next().unwrap_or(1));
     comparison.found.iter().for_each(show);
     let missing = comparison.counts.report();
-    if missing > 0 {
-        println!("{missing} of what must occur did not");
-    }
-    println!(
-        "{} calls compared, {} differ",
-        comparison.counts.calls(),
-        comparison.differ
-    );
-    if comparison.differ == 0 && missing == 0 {
-        ExitCode::SUCCESS
-    } else {
-        ExitCode::FAILURE
-    }
+    verdict(comparison.counts.calls(), comparison.differ, missing)
 }

@@ -8,7 +8,7 @@ use zetesis_ferraris::regions::{Cursor, Leaves, Metered, Work, metered};
 
 use crate::answer::Answer;
 use crate::ledger::{Done, Published, deduced};
-use crate::literals::{code, codes, literals};
+use crate::literals::{code, codes, groups, literals};
 
 /// `Region::decide`, with number 6 in front.
 pub use crate::ledger::decide;
@@ -68,11 +68,7 @@ pub fn prepare(row: Codes<'_>, account: u64, limit: u64) -> Paid<Form> {
     pay(account, limit, |account, work| {
         let shape = Leaves::prepare(&conditions, &outputs, account, work)?;
         Ok(shape.map(|shape| Form {
-            groups: shape
-                .groups
-                .iter()
-                .map(|&(index, present, absent)| (index as u64, present, absent))
-                .collect(),
+            groups: groups(&shape.groups),
             condition_groups: shape.condition_groups as u64,
         }))
     })

@@ -9,7 +9,7 @@ use zetesis_ferraris::regions::{
 };
 
 use crate::answer::Answer;
-use crate::literals::{MOST_ATOMS, code, codes, is_region, is_row, literals};
+use crate::literals::{MOST_ATOMS, code, codes, groups, is_region, is_row, literals};
 
 /// The limits, in document 01's order.
 #[derive(Clone, Copy, Debug, PartialEq, Eq)]
@@ -283,11 +283,7 @@ impl Ledger {
         Row {
             conditions: codes(&shape.conditions),
             outputs: codes(&shape.outputs),
-            groups: shape
-                .groups
-                .iter()
-                .map(|&(index, present, absent)| (index as u64, present, absent))
-                .collect(),
+            groups: groups(&shape.groups),
             condition_groups: shape.condition_groups as u64,
             hits: record.hits,
             unshared: record.unshared,

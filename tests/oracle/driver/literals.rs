@@ -25,6 +25,14 @@ pub fn codes(literals: &[Literal]) -> Vec<u64> {
     literals.iter().copied().map(code).collect()
 }
 
+/// The words of groups: the number of a mask's word, present bits, absent bits.
+pub fn groups(groups: &[(usize, u64, u64)]) -> Vec<(u64, u64, u64)> {
+    groups
+        .iter()
+        .map(|&(index, present, absent)| (index as u64, present, absent))
+        .collect()
+}
+
 /// Whether the codes are a row over `atoms` atoms, with at most so many conditions and outputs.
 pub fn is_row(atoms: u64, most: (u64, u64), conditions: &[u64], outputs: &[u64]) -> bool {
     let known = |codes: &[u64]| codes.iter().all(|&code| code / 2 < atoms);

@@ -16,17 +16,14 @@ at-start-from-deduction-arg3 c = at-start-from-slots (c .before .before .before)
 abbrev at-start : tie.After-deduction → tie.Start
 at-start c = at-start-from-slots (c .before .before .before .before)
 
-abbrev at-deduction-from-known-told : tie.After-known-told → tie.After-deduction
-at-deduction-from-known-told c = c .before .before .before .before
-
-abbrev at-deduction : tie.At-match2-keys2 → tie.After-deduction
-at-deduction c = at-deduction-from-known-told (c .before)
+abbrev at-deduction : tie.At-match-keys2 → tie.After-deduction
+at-deduction c = c .before .before .before
 
 abbrev at-deduction-from-enum-told : tie.After-enum-told → tie.After-deduction
-at-deduction-from-enum-told c = at-deduction-from-known-told (c .before .before)
+at-deduction-from-enum-told c = c .before .before .before .before
 
-abbrev at-match2-keys2 : tie.After-hit → tie.At-match2-keys2
-at-match2-keys2 c = c .before .before
+abbrev at-match-keys2 : tie.After-hit → tie.At-match-keys2
+at-match-keys2 c = c .before .before
 
 abbrev at-hit-from-slots3 : tie.After-slots3 → tie.After-hit
 at-hit-from-slots3 c = c .before .before .before
@@ -81,9 +78,6 @@ deduction-requires c κs =
     let s = stored-part (a .atoms) (a .rows) _ (a .slots .now) (a .held .now) (a .cut .now) (t .pre .0) (a .position) (t .pre .1) in
     record { holds = record { atoms = a .atoms; stored = s }; region = t .pre .0 .region }
 
-enum-known-answer : tie.Need-enum-known-answer
-enum-known-answer c = search needs
-
 same-length : tie.Need-same-length
 same-length c = search needs
 
@@ -102,7 +96,7 @@ returns c =
       λ h. act-stopped (a .atoms) (a .position) (ledgerOf h (a .rows) (a .slots .now)) (a .held .now) (a .cut .now) (a .work) _
           (part-row (a .atoms) (a .rows) (a .position) (a .slots .now) (a .held .now) (a .cut .now) (a .work) (t .pre .0 .holds) (t .pre .1)
           h)
-          (d .result) (d .ensures) (c .match .keys2),
+          (d .result) (d .ensures) (c .if1 .taken),
       t .pre .0,
     )
 
@@ -123,12 +117,11 @@ returns-2 c =
     let deduction = at-deduction-from-enum-told c in
     let t = at-start deduction in
     let a = t .args in
-    let d = deduction .deduction in
-    let o = c .before .before .before .answer .given in (
+    let d = deduction .deduction in (
       λ h. act-nothing (a .atoms) (a .position) (ledgerOf h (a .rows) (a .slots .now)) (a .held .now) (a .cut .now) (a .work) _
           (part-row (a .atoms) (a .rows) (a .position) (a .slots .now) (a .held .now) (a .cut .now) (a .work) (t .pre .0 .holds) (t .pre .1)
           h)
-          (d .result) (d .ensures) (o .0 .0) (o .1) (c .enum-told .given .1),
+          (d .result) (d .ensures) (c .before .before .if1 .left) (c .enum-told .given .1),
       t .pre .0,
     )
 
@@ -141,7 +134,7 @@ hit-requires c κs =
 
 mul-follow : tie.Need-mul-follow
 mul-follow c =
-    let t = at-start (at-deduction (at-match2-keys2 (c .before .before))) in
+    let t = at-start (at-deduction (at-match-keys2 (c .before .before))) in
     let a = t .args in
     let f = slot-fits (a .atoms) (a .rows) _ (a .slots .now) (a .held .now) (a .cut .now) (t .pre .0) (a .position) (t .pre .1) in
     search needs
@@ -154,7 +147,7 @@ part-follow-start c = search needs
 
 part-follow-end : tie.Need-part-follow-end
 part-follow-end c =
-    let t = at-start (at-deduction (at-match2-keys2 (c .before .before .before))) in
+    let t = at-start (at-deduction (at-match-keys2 (c .before .before .before))) in
     let a = t .args in
     let f = slot-fits (a .atoms) (a .rows) _ (a .slots .now) (a .held .now) (a .cut .now) (t .pre .0) (a .position) (t .pre .1) in
     search needs
@@ -162,7 +155,7 @@ part-follow-end c =
 follow-requires : tie.Need-follow-requires
 follow-requires c κs =
     let hit = at-hit c in
-    let t = at-start (at-deduction (at-match2-keys2 hit)) in
+    let t = at-start (at-deduction (at-match-keys2 hit)) in
     let a = t .args in
     let s = hit-stands (a .atoms) (a .rows) _ (a .slots .now) (a .held .now) (a .cut .now) (t .pre .0) (a .position) (t .pre .1) _
     (hit .hit .ensures) in
@@ -180,21 +173,17 @@ same-length-9 c = search needs
 returns-3 : tie.Need-returns-3
 returns-3 c =
     let hit-place = at-hit-from-slice-known6 c in
-    let match2-keys2 = at-match2-keys2 hit-place in
-    let deduction = at-deduction match2-keys2 in
+    let match-keys2 = at-match-keys2 hit-place in
+    let deduction = at-deduction match-keys2 in
     let t = at-start deduction in
     let a = t .args in
-    let d =
-    deduction .deduction in
-    let o =
-    match2-keys2 .before .before .answer .given in
+    let d = deduction .deduction in
     let hit = hit-place .hit in
     let g = c .before .before .before .before .follow in
     let s = hit-stands (a .atoms) (a .rows) _ (a .slots .now) (a .held .now) (a .cut .now) (t .pre .0) (a .position) (t .pre .1) _
     (hit .ensures) in (
       act-follows (a .atoms) (a .rows) (a .position) (a .slots .now) (a .held .now) (a .cut .now) (a .work) (t .pre .0 .holds) (t .pre .1)
-          (d .result) (d .ensures) (o .0 .0) (o .1)
-          (match2-keys2 .match2 .keys2) _
+          (d .result) (d .ensures) (match-keys2 .before .if1 .left) (match-keys2 .match .keys2) _
           (hit .ensures) (g .result) _ _ (g .ensures .0),
       decided-stands (a .atoms) (a .rows) _ _ (a .held .now) (a .cut .now) s _ _ (g .ensures .1),
     )
@@ -210,7 +199,6 @@ act-spec =
     part-deduction-start
     part-deduction-end
     deduction-requires
-    enum-known-answer
     same-length
     same-length-2
     same-length-3

@@ -1,7 +1,7 @@
 -- `close_rounds::one_round`. The search, then the rows that it found. Assumes nothing.
 use borrow.Author.Needs.{needs}
-use Rattle.close_rounds.proofs.Searching.{new-stopped, search-noted, round-noted, since-new, search-under, search-runs}
-use Rattle.close_rounds.proofs.Searching.{search-stopped, search-fits, search-each, round-turn, round-runs}
+use Rattle.close_rounds.proofs.Searching.{runs-standing, new-stopped, search-noted, round-noted, since-new, search-under}
+use Rattle.close_rounds.proofs.Searching.{search-runs, search-stopped, search-fits, search-each, round-turn, round-runs}
 use Rattle.close_rounds.proofs.one_round.Statement.{statement}
 use Rattle.close_rounds.proofs.one_round.Tie as tie
 
@@ -135,7 +135,7 @@ round-requires c κs =
     candidates .candidates in
     let a = t .args in
     let o = answer .answer .given in (
-      t .pre .0 .standing,
+      runs-standing (a .header) (a .slots .now) (a .postings .now) (a .held .now) (a .cut .now) (t .pre .0),
       search-each (a .header) (a .slots .now) (a .postings .now) (a .held .now) (a .cut .now) (a .noted .now) (a .given) (a .work)
           (t .pre .0)
           (f .result) (a .places .now) _ (f .ensures .0) (o .0 .0) (o .1),
@@ -165,7 +165,8 @@ same-length-8 : tie.Need-same-length-8
 same-length-8 c = search needs
 
 same-length-9 : tie.Need-same-length-9
-same-length-9 c = search needs
+same-length-9 c =
+    at-candidates (at-answer (at-note-decided (at-round-from-spent c))) .candidates .kept .1 .1 .1 .1 .0
 
 same-length-10 : tie.Need-same-length-10
 same-length-10 c = search needs

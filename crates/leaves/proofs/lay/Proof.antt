@@ -1,7 +1,7 @@
 -- `lay` meets its contract: a slot and a proposal are both laid out. Assumes nothing.
 use borrow.Author.Needs.{needs}
-use Rattle.slots.proofs.Storing.{laid-stored}
-use Rattle.leaves.proofs.Fitting.{offered-laid}
+use mathlib.Core.Path.{sym, _∙_}
+use Rattle.leaves.proofs.Fitting.{fits-slot, fits-laid}
 use Rattle.leaves.proofs.lay.Statement.{statement}
 use Rattle.leaves.proofs.lay.Tie as tie
 
@@ -12,7 +12,9 @@ same-length : tie.Need-same-length
 same-length c = search needs
 
 returns : tie.Need-returns
-returns c = λ t. laid-stored _ _ (c .before .before .store .ensures t)
+returns c =
+    let e = c .before .before .store .ensures in
+    (e .0, λ t. fits-slot _ _ (sym (e .0) ∙ t) _ (e .1 t))
 
 propose-requires : tie.Need-propose-requires
 propose-requires c κs = search needs
@@ -21,7 +23,9 @@ same-length-2 : tie.Need-same-length-2
 same-length-2 c = search needs
 
 returns-2 : tie.Need-returns-2
-returns-2 c = λ t. offered-laid _ _ (c .before .before .propose .ensures t)
+returns-2 c =
+    let e = c .before .before .propose .ensures in
+    (e .0, λ t. fits-laid _ _ (sym (e .0) ∙ t) _ (e .1 t))
 
 pub lay-spec : {M : Type 1} → statement M
 lay-spec =

@@ -1,6 +1,7 @@
 -- `store` meets its contract: the slot is that of the row that passed its test. Assumes nothing.
 use borrow.Author.Needs.{needs}
-use Rattle.leaves.proofs.Fitting.{untold, told, offered-proposed, offered-stored}
+use mathlib.Core.Path.{sym}
+use Rattle.leaves.proofs.Fitting.{untold, yes, no, told, fits-proposed, written}
 use Rattle.leaves.proofs.store.Statement.{statement}
 use Rattle.leaves.proofs.store.Tie as tie
 
@@ -14,6 +15,9 @@ at-else1-from-form-of c = c .before .before .before .before
 abbrev at-else1 : tie.After-write-row → tie.Else1
 at-else1 c = at-else1-from-form-of (c .before)
 
+abbrev at-propose-then : tie.Then1 → tie.After-propose
+at-propose-then c = c .before .before
+
 slice-aggregate-propose : tie.Need-slice-aggregate-propose
 slice-aggregate-propose c = search needs
 
@@ -21,7 +25,7 @@ propose-requires : tie.Need-propose-requires
 propose-requires c κs = search needs
 
 returns : tie.Need-returns
-returns c = untold
+returns c = (sym (no (at-propose-then c .propose .ensures .0) (c .if1 .taken)), untold)
 
 slice-aggregate-write-row : tie.Need-slice-aggregate-write-row
 slice-aggregate-write-row c = search needs
@@ -32,12 +36,14 @@ slice-aggregate-form-of c = search needs
 form-of-requires : tie.Need-form-of-requires
 form-of-requires c κs =
     let e = c .before .before .before in
-    offered-proposed _ _ (told _ (e .before .before .propose .ensures) (e .if1 .left))
+    let p = at-propose e .propose .ensures in
+    fits-proposed _ _ (yes (p .0) (e .if1 .left)) _ (told _ (p .1) (e .if1 .left))
 
 write-row-requires : tie.Need-write-row-requires
 write-row-requires c κs =
-    let e = c .before .before .before .before in
-    (search needs, (offered-proposed _ _ (told _ (e .before .before .propose .ensures) (e .if1 .left)), c .form-of .ensures))
+    let e = at-else1-from-form-of c in
+    let p = at-propose e .propose .ensures in
+    (search needs, (fits-proposed _ _ (yes (p .0) (e .if1 .left)) _ (told _ (p .1) (e .if1 .left)), c .form-of .ensures))
 
 same-length : tie.Need-same-length
 same-length c = search needs
@@ -46,8 +52,8 @@ returns-2 : tie.Need-returns-2
 returns-2 c =
     let write-row = c .before .before in
     let e = at-else1 write-row in
-    λ _.
-    offered-stored _ _ (told _ (at-propose e .propose .ensures) (e .if1 .left)) _ (write-row .write-row .ensures)
+    let p = at-propose e .propose .ensures in
+    (sym (yes (p .0) (e .if1 .left)), λ _. written _ (told _ (p .1) (e .if1 .left)) (write-row .write-row .ensures))
 
 pub store-spec : {M : Type 1} → statement M
 store-spec =

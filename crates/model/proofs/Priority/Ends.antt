@@ -4,16 +4,16 @@ use mathlib.Core.Path.{_≡_, refl, sym, _∙_, ap, subst}
 use mathlib.Core.Bool.{Bool, true, false, _&&_}
 use mathlib.Core.List.{List, [], _∷_}
 use mathlib.Core.Option.{Option, none, some}
-use Prim.Native.Nat.{ℕ}
+use Prim.Native.Nat.{ℕ, zero, suc}
 use lib.Dec.{T, eqb}
 use lib.ListN.{length}
 use Rattle.words.specs.Region.{Region, isRegion, atomsOk, region}
 use Rattle.words.proofs.Regions.{Sound, sound-of, region-test}
 use Rattle.meter.specs.declared.Meter.{Meter}
-use Rattle.model.specs.declared.CloseAnswer.{CloseAnswer}
-use Rattle.model.specs.declared.CloseAnswer.the-variants.{Refused, Stopped, Conflict, Closed}
+use Rattle.model.specs.declared.CloseAnswer.the-variants.{Stopped, Conflict, Closed}
 use Rattle.model.specs.Records.{Row, rowsOf, limitsOk}
 use Rattle.model.specs.Refusals.{Lent, ledgerIn, refusal, accepts}
+use Rattle.model.specs.Answers.{Reply, refused, answered, closeReply}
 use Rattle.model.specs.Operations.{CloseEnd, closeEnd, close, regionOk}
 use Rattle.model.specs.Closing.{State, Turn, going, conflict, halted, closing}
 use Rattle.model.specs.Priority.{In, Contains, ClosedFor, NoneClosed}
@@ -29,20 +29,19 @@ pub record Left (n : ℕ) (rows : List Row) (r : Region) (e : CloseEnd) : Type 0
   pub least : (d : Region) → T (isRegion n d) → ClosedFor rows d → Contains d r → Contains d (e .region)
 
 pub record EndOk (n : ℕ) (rows : List Row) (r : Region) (e : CloseEnd) : Type 0 where
-  pub ifClosed : e .answer ≡ Closed → Left n rows r e
-  pub ifConflict : e .answer ≡ Conflict → NoneClosed n rows r
+  pub ifClosed : e .answer ≡ closeReply Closed → Left n rows r e
+  pub ifConflict : e .answer ≡ closeReply Conflict → NoneClosed n rows r
 
-abbrev pub IsClosed : CloseAnswer → Type 0
-IsClosed (Refused k) = ⊥
-IsClosed Stopped = ⊥
-IsClosed Conflict = ⊥
-IsClosed Closed = Unit {0}
+abbrev pub IsClosed : Reply → Type 0
+IsClosed (refused k) = ⊥
+IsClosed (answered zero v) = Unit {0}
+IsClosed (answered (suc c) v) = ⊥
 
-abbrev pub IsConflict : CloseAnswer → Type 0
-IsConflict (Refused k) = ⊥
-IsConflict Stopped = ⊥
-IsConflict Conflict = Unit {0}
-IsConflict Closed = ⊥
+abbrev pub IsConflict : Reply → Type 0
+IsConflict (refused k) = ⊥
+IsConflict (answered zero v) = ⊥
+IsConflict (answered (suc zero) v) = Unit {0}
+IsConflict (answered (suc (suc c)) v) = ⊥
 
 turn-end : (n : ℕ) (rows : List Row) (over : Over n rows) (fine : Fine rows) (r : Region) (x y : List ℕ) (m : Meter) (t : Turn)
     → T (atomsOk n) → TurnIn n rows over fine r t
@@ -81,7 +80,7 @@ pub atoms-in : (s : Lent) → ledgerIn s .header .limits .atoms ≡ s .header .l
 unfolding ledgerIn
 atoms-in s = refl
 
-refused-end : (n : ℕ) (rows : List Row) (r : Region) (e : CloseEnd) (k : ℕ) → e .answer ≡ Refused k → EndOk n rows r e
+refused-end : (n : ℕ) (rows : List Row) (r : Region) (e : CloseEnd) (k : ℕ) → e .answer ≡ refused k → EndOk n rows r e
 refused-end n rows r e k q = record {
   ifClosed = λ z. absurd (subst IsClosed (sym z ∙ q) tt);
   ifConflict = λ z. absurd (subst IsConflict (sym z ∙ q) tt);
@@ -100,7 +99,7 @@ close-end s held cut x y m = go (refusal tests) refl
     go : (o : Option ℕ) → refusal tests ≡ o
         → EndOk (s .header .limits .atoms) (rowsE (ledgerIn s .entries)) (region held cut) (elim o as (λ k. CloseEnd) [
           | some n ↦ record {
-            answer = Refused n;
+            answer = refused n;
             ledger = s;
             region = region held cut;
             rowScratch = x;
@@ -116,7 +115,7 @@ close-end s held cut x y m = go (refusal tests) refl
         ])
     go (some k) e =
         refused-end (s .header .limits .atoms) (rowsE (ledgerIn s .entries)) (region held cut)
-        (record { answer = Refused k; ledger = s; region = region held cut; rowScratch = x; atomScratch = y; meter = m; ticks = 0 }) k refl
+        (record { answer = refused k; ledger = s; region = region held cut; rowScratch = x; atomScratch = y; meter = m; ticks = 0 }) k refl
     go none e =
         let a = accepted s (eqb (length x) (s .header .limits .«tier_rows») && eqb (length y) (s .header .limits .atoms))
         ((regionOk s held cut, 6) ∷ []) e in

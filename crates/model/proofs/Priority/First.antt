@@ -12,10 +12,9 @@ use Rattle.lists.proofs.Bools.{not-of}
 use Rattle.words.specs.Region.{Region, atomsOk}
 use Rattle.model.specs.declared.LearningLimits.{LearningLimits}
 use Rattle.model.specs.declared.Header.{Header}
-use Rattle.model.specs.declared.MakeAnswer.{MakeAnswer}
-use Rattle.model.specs.declared.MakeAnswer.the-variants as make-answer
 use Rattle.model.specs.Records.{Row, rowsOf, limitsOk, fresh, slotWords, postingWords}
 use Rattle.model.specs.Refusals.{Lent, ledgerIn, refusal}
+use Rattle.model.specs.Answers.{refused, answered}
 use Rattle.model.specs.Operations.{MakeEnd, make}
 use Rattle.model.specs.Calls.{Call, Followed, run}
 use Rattle.model.specs.Priority.{In, Forces, ForceAlike, Covers, FirstHalf, NothingInvented, EvictionsCounted}
@@ -27,7 +26,7 @@ use Rattle.model.proofs.Priority.Following.{RunOk, run-ok, IsMade}
 use Rattle.model.proofs.Priority.Conditions.{force-iff}
 
 -- Make accepted the limits
-made-limits : (l : LearningLimits) (i : ℕ) (ss ps : List ℕ) (h : Header) → make l i ss ps .answer ≡ make-answer.Made h → T (limitsOk l)
+made-limits : (l : LearningLimits) (i : ℕ) (ss ps : List ℕ) (h : Header) → make l i ss ps .header ≡ some h → T (limitsOk l)
 unfolding make
 made-limits l i ss ps h e = go _ refl _ _ e
   where
@@ -36,9 +35,9 @@ made-limits l i ss ps h e = go _ refl _ _ e
 
     go : (o : Option ℕ) → refusal tests ≡ o → (xs ys : List ℕ)
         → (elim o as (λ k. MakeEnd) [
-          | some n ↦ record { answer = make-answer.Refused n; slots = ss; postings = ps; ticks = 0 }
-          | none ↦ record { answer = make-answer.Made (fresh l i); slots = xs; postings = ys; ticks = 0 }
-        ]) .answer ≡ make-answer.Made h
+          | some n ↦ record { answer = refused n; header = none; slots = ss; postings = ps; ticks = 0 }
+          | none ↦ record { answer = answered 0 0; header = some (fresh l i); slots = xs; postings = ys; ticks = 0 }
+        ]) .header ≡ some h
         → T (limitsOk l)
     go (some n) r xs ys q = absurd (subst IsMade (sym q) tt)
     go none r xs ys q = refusal-cons _ _ _ r .0

@@ -8,11 +8,10 @@ use lib.Dec.{T}
 use Rattle.meter.specs.declared.Meter.{Meter}
 use Rattle.model.specs.declared.LearningLimits.{LearningLimits}
 use Rattle.model.specs.declared.Header.{Header}
-use Rattle.model.specs.declared.MakeAnswer.{MakeAnswer}
-use Rattle.model.specs.declared.MakeAnswer.the-variants as make-answer
 use Rattle.model.specs.Records.{Row, rowsOf, fresh}
 use Rattle.model.specs.Slots.{entriesIn}
 use Rattle.model.specs.Refusals.{Lent, ledgerIn, refusal}
+use Rattle.model.specs.Answers.{refused, answered}
 use Rattle.model.specs.Operations.{MakeEnd, make, offer, hit, begin, candidates, close, seed, deliver}
 use Rattle.model.specs.Calls.{Call, Offer, Hit, Begin, Candidates, Close, SeedAsTier, SeedAsStore, DeliverAsTier, DeliverAsStore}
 use Rattle.model.specs.Calls.{Followed, followed, step, runFrom, run}
@@ -60,26 +59,26 @@ runs-ok l u [] k = k
 runs-ok l u (c ∷ cs) k = runs-ok l (step u c) cs (step-ok l u c k)
 
 -- the header that Make returns is the fresh one
-abbrev made-header : MakeAnswer → Header → Header
-made-header (make-answer.Refused n) h = h
-made-header (make-answer.Made k) h = k
+abbrev made-header : Option Header → Header → Header
+made-header none h = h
+made-header (some k) h = k
 
-abbrev pub IsMade : MakeAnswer → Type 0
-IsMade (make-answer.Refused n) = ⊥
-IsMade (make-answer.Made k) = Unit {0}
+abbrev pub IsMade : Option Header → Type 0
+IsMade none = ⊥
+IsMade (some k) = Unit {0}
 
-pub fresh-of : (l : LearningLimits) (i : ℕ) (ss ps : List ℕ) (h : Header) → make l i ss ps .answer ≡ make-answer.Made h → h ≡ fresh l i
+pub fresh-of : (l : LearningLimits) (i : ℕ) (ss ps : List ℕ) (h : Header) → make l i ss ps .header ≡ some h → h ≡ fresh l i
 unfolding make
 fresh-of l i ss ps h e = go (refusal _) _ _ e
   where
     go : (o : Option ℕ) (xs ys : List ℕ)
         → (elim o as (λ k. MakeEnd) [
-          | some n ↦ record { answer = make-answer.Refused n; slots = ss; postings = ps; ticks = 0 }
-          | none ↦ record { answer = make-answer.Made (fresh l i); slots = xs; postings = ys; ticks = 0 }
-        ]) .answer ≡ make-answer.Made h
+          | some n ↦ record { answer = refused n; header = none; slots = ss; postings = ps; ticks = 0 }
+          | none ↦ record { answer = answered 0 0; header = some (fresh l i); slots = xs; postings = ys; ticks = 0 }
+        ]) .header ≡ some h
         → h ≡ fresh l i
     go (some n) xs ys q = absurd (subst IsMade (sym q) tt)
-    go none xs ys q = sym (ap (λ (a : MakeAnswer). made-header a h) q)
+    go none xs ys q = sym (ap (λ (a : Option Header). made-header a h) q)
 
 first : (l : LearningLimits) (i : ℕ) (ss ps : List ℕ)
     → RunOk l (record { ledger = record { header = fresh l i; slots = ss; postings = ps }; taken = []; evicted = false })
@@ -87,7 +86,7 @@ unfolding fresh ledgerIn entriesIn
 first l i ss ps =
     record { limits = refl; alike = λ t. alike-refl []; over = λ r m. absurd m; from = covers-refl []; counted = none-counted 0 }
 
-pub run-ok : (l : LearningLimits) (i : ℕ) (ss ps : List ℕ) (h : Header) (cs : List Call) → make l i ss ps .answer ≡ make-answer.Made h
+pub run-ok : (l : LearningLimits) (i : ℕ) (ss ps : List ℕ) (h : Header) (cs : List Call) → make l i ss ps .header ≡ some h
     → RunOk l (run h (make l i ss ps) cs)
 unfolding run
 run-ok l i ss ps h cs e = runs-ok l _ cs (start (fresh-of l i ss ps h e))

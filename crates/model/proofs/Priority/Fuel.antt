@@ -1,22 +1,23 @@
 -- The fuel of publishing and of the rounds is never used up: more changes nothing, and a closing halts only on a spent meter.
 -- Assumes nothing.
-use mathlib.Core.Path.{_≡_, refl, sym, ap, subst}
+use mathlib.Core.Path.{_≡_, refl, sym, subst}
 use mathlib.Core.Logic.{inl}
 use mathlib.Core.Bool.{Bool, true, false, _&&_, _||_}
 use mathlib.Core.List.{List, [], _∷_}
 use mathlib.Core.Option.{Option, none, some}
-use Prim.Native.Nat.{ℕ, zero, suc, _+_, _<_, suc-le-suc}
+use native.Mathlib.Omega.{arith}
+use Prim.Native.Nat.{ℕ, zero, suc, _<_, suc-le-suc}
 use native.Mathlib.Nat.{le-trans, not-suc-le-zero, le-of-suc-le-suc}
 use lib.ListN.{length, drop}
-use lib.Dec.{eqb, leb, ltb}
+use lib.Dec.{eqb, leb}
 use Rattle.lists.specs.Lists.{upTo}
 use Rattle.words.specs.Region.{Region, decide, region}
 use Rattle.words.proofs.Regions.{Sound}
 use Rattle.meter.specs.declared.Meter.{Meter}
 use Rattle.meter.specs.declared.Tick.{Tick}
 use Rattle.meter.specs.declared.Tick.the-variants.{Ticked, Stopped}
-use Rattle.meter.specs.Meter.{pick, tickOf, onTick, ticks}
-use Rattle.model.specs.declared.CloseAnswer.{CloseAnswer}
+use Rattle.meter.specs.Meter.{tickOf, ticks}
+use Rattle.meter.specs.Counting.{Spent, tick-stopped, ticks-stopped}
 use Rattle.model.specs.declared.CloseAnswer.the-variants as close-answer
 use Rattle.model.specs.declared.Header.{Header}
 use Rattle.model.specs.declared.Deduction.{Deduction}
@@ -31,6 +32,7 @@ use Rattle.model.specs.Postings.{Search, searched, rebuilt, searchTicks,
 use Rattle.model.specs.Closing.{State, Turn, going, conflict, halted, onGoing, withMeter, withHeader, counted, decideOn, publish}
 use Rattle.model.specs.Closing.{obey, act, round, decidedSince, rounds, closing}
 use Rattle.model.specs.Refusals.{Lent, ledgerIn, refusal, accepts}
+use Rattle.model.specs.Answers.{Reply, refused, answered, closeReply}
 use Rattle.model.specs.Operations.{CloseEnd, closeEnd, close, regionOk}
 use Rattle.model.specs.Priority.{In}
 use Rattle.model.proofs.Packing.{Asc}
@@ -138,31 +140,20 @@ module _ (n : ℕ) (rows : List Row) (fine : Fine rows) where
   closing-fuel f s i h =
       rounds-fuel f (suc n) [] s i (le-trans (suc-le-suc (opens-le n (s .region))) h) (suc-le-suc (opens-le n (s .region)))
 
--- ---- a meter that makes no tick more
-abbrev pub Spent : Meter → Type 0
-Spent m = tickOf m ≡ Stopped m
-
+-- ---- ticks that are stopped leave a spent meter
 abbrev TickOk : Tick → Type 0
 TickOk (Ticked m) = Unit {0}
 TickOk (Stopped m) = Spent m
 
+tick-ok : (t : Tick) → ((m : Meter) → t ≡ Stopped m → Spent m) → TickOk t
+tick-ok (Ticked m) f = tt
+tick-ok (Stopped m) f = f m refl
+
 tick-spent : (m : Meter) → TickOk (tickOf m)
-unfolding tickOf
-tick-spent m = go (ltb (m .charged) (m .limit)) refl
-  where
-    go : (b : Bool) → ltb (m .charged) (m .limit) ≡ b
-        → TickOk (pick b (Ticked (record { charged = m .charged + 1; limit = m .limit })) (Stopped m))
-    go true e = tt
-    go false e = ap (λ (b : Bool). pick b (Ticked (record { charged = m .charged + 1; limit = m .limit })) (Stopped m)) e
+tick-spent m = tick-ok (tickOf m) (λ k e. tick-stopped m e .1)
 
 ticks-spent : (n : ℕ) (m : Meter) → TickOk (ticks n m)
-unfolding ticks
-ticks-spent zero m = tt
-ticks-spent (suc n) m = go (tickOf m) (tick-spent m) (ticks-spent n)
-  where
-    go : (t : Tick) → TickOk t → ((k : Meter) → TickOk (ticks n k)) → TickOk (onTick t (ticks n))
-    go (Ticked k) o ih = ih k
-    go (Stopped k) o ih = o
+ticks-spent n m = tick-ok (ticks n m) (λ k e. ticks-stopped n m e .spent)
 
 -- ---- no more output for want of a tick
 abbrev StopOk : Next → Meter → Type 0
@@ -397,18 +388,16 @@ module _ (n : ℕ) (rows : List Row) (fine : Fine rows) where
       (record { sound = s; grown = λ x t. t; same = q }) (suc-le-suc (opens-le n r)))
 
 -- ---- Close answers Stopped only on a spent meter
-abbrev IsStopped : CloseAnswer → Type 0
-IsStopped (close-answer.Refused k) = ⊥
-IsStopped close-answer.Stopped = Unit {0}
-IsStopped close-answer.Conflict = ⊥
-IsStopped close-answer.Closed = ⊥
+abbrev IsStopped : Reply → Type 0
+IsStopped (refused k) = ⊥
+IsStopped (answered c v) = c ≡ 2
 
 turn-spent : (x y : List ℕ) (m : Meter) (t : Turn) → Halts t
     → (elim t as (λ k. CloseEnd) [
       | going u ↦ closeEnd close-answer.Closed u x y m
       | conflict u ↦ closeEnd close-answer.Conflict u x y m
       | halted u ↦ closeEnd close-answer.Stopped u x y m
-    ]) .answer ≡ close-answer.Stopped
+    ]) .answer ≡ closeReply close-answer.Stopped
     → Spent
     ((elim t as (λ k. CloseEnd) [
       | going u ↦ closeEnd close-answer.Closed u x y m
@@ -416,11 +405,11 @@ turn-spent : (x y : List ℕ) (m : Meter) (t : Turn) → Halts t
       | halted u ↦ closeEnd close-answer.Stopped u x y m
     ]) .meter)
 unfolding closeEnd
-turn-spent x y m (going u) i e = absurd (subst IsStopped (sym e) tt)
-turn-spent x y m (conflict u) i e = absurd (subst IsStopped (sym e) tt)
+turn-spent x y m (going u) i e = absurd (let z : _≡_ {A = ℕ} 0 2 = subst IsStopped (sym e) refl in omega arith)
+turn-spent x y m (conflict u) i e = absurd (let z : _≡_ {A = ℕ} 1 2 = subst IsStopped (sym e) refl in omega arith)
 turn-spent x y m (halted u) i e = i
 
-pub close-stopped : (s : Lent) (held cut x y : List ℕ) (m : Meter) → close s held cut x y m .answer ≡ close-answer.Stopped
+pub close-stopped : (s : Lent) (held cut x y : List ℕ) (m : Meter) → close s held cut x y m .answer ≡ closeReply close-answer.Stopped
     → Spent (close s held cut x y m .meter)
 unfolding close
 close-stopped s held cut x y m = go (refusal tests) refl
@@ -433,7 +422,7 @@ close-stopped s held cut x y m = go (refusal tests) refl
     ending : Option ℕ → CloseEnd
     ending o = elim o as (λ k. CloseEnd) [
       | some n ↦ record {
-        answer = close-answer.Refused n;
+        answer = refused n;
         ledger = s;
         region = region held cut;
         rowScratch = x;
@@ -448,8 +437,8 @@ close-stopped s held cut x y m = go (refusal tests) refl
       ]
     ]
 
-    go : (o : Option ℕ) → refusal tests ≡ o → ending o .answer ≡ close-answer.Stopped → Spent (ending o .meter)
-    go (some k) e q = absurd (subst IsStopped (sym q) tt)
+    go : (o : Option ℕ) → refusal tests ≡ o → ending o .answer ≡ closeReply close-answer.Stopped → Spent (ending o .meter)
+    go (some k) e q = absurd (subst IsStopped (sym q) refl)
     go none e q =
         let a = accepted s (eqb (length x) (s .header .limits .«tier_rows») && eqb (length y) (s .header .limits .atoms))
         ((regionOk s held cut, 6) ∷ []) e in

@@ -30,8 +30,8 @@ use Rattle.model.specs.Transfers.{seeding, marked, seededTier, seededSto
 use Rattle.model.specs.Transfers.{deliveredStore}
 use Rattle.model.specs.Transfers as transfers
 use Rattle.model.specs.Refusals.{Lent, refusal, ledgerIn, lentOf, lengthsOk, entryOk, countsOk, wordsOk, contentsOk, accepts}
-use Rattle.model.specs.Operations.{OfferEnd, unoffered, capture, fitsOffer, offer, positionOk, hit, begin, TransferEnd}
-use Rattle.model.specs.Operations.{transferRefusal, untransferred, transferEnd, seed, deliver}
+use Rattle.model.specs.Operations.{Offered, unoffered, capture, fitsOffer, offer, positionOk, hit, begin, Transferred}
+use Rattle.model.specs.Operations.{transferRefusal, untransferred, transferred, seed, deliver}
 use Rattle.model.specs.Closing.{State, Turn, going, conflict, halted, onGoing, withMeter, withHeader, hitAt, counted, decideOn}
 use Rattle.model.specs.Closing.{publish, obey, act, round, decidedSince, rounds, closing}
 use Rattle.model.specs.Priority.{In, Gives, Covers}

@@ -30,8 +30,8 @@ use Rattle.model.specs.Transfers.{seeding, marked, seededTier, seededSto
 use Rattle.model.specs.Transfers.{deliveredStore}
 use Rattle.model.specs.Transfers as transfers
 use Rattle.model.specs.Refusals.{Lent, refusal, ledgerIn, lentOf, lengthsOk, entryOk, countsOk, wordsOk, contentsOk, accepts}
-use Rattle.model.specs.Operations.{OfferEnd, unoffered, capture, fitsOffer, offer, positionOk, hit, begin, TransferEnd}
-use Rattle.model.specs.Operations.{transferRefusal, untransferred, transferEnd, seed, deliver}
+use Rattle.model.specs.Operations.{Offered, unoffered, capture, fitsOffer, offer, positionOk, hit, begin, Transferred}
+use Rattle.model.specs.Operations.{transferRefusal, untransferred, transferred, seed, deliver}
 use Rattle.model.specs.Closing.{State, Turn, going, conflict, halted, onGoing, withMeter, withHeader, hitAt, counted, decideOn}
 use Rattle.model.specs.Closing.{publish, obey, act, round, decidedSince, rounds, closing}
 use Rattle.model.specs.Priority.{In, Gives, Covers}
@@ -254,11 +254,12 @@ delivering-ok t s b m =
     (λ r i. subst (λ (n : ℕ). T (isRow n r)) (b .atoms) (rows-ok t (b .tier) r i))
     (starting-ok (ledgerIn s) _ m (fine-in s (b .store)))
 
-pub record TransferEndOk (t s : Lent) (tierTakes : Bool) (e : TransferEnd) : Type 0 where
-  pub tier : StepOk t (e .tier) (elim tierTakes [ true ↦ e .took | false ↦ [] ]) (elim tierTakes [ true ↦ e .evicts | false ↦ false ])
-  pub store : StepOk s (e .store) (elim tierTakes [ true ↦ [] | false ↦ e .took ]) (elim tierTakes [ true ↦ false | false ↦ e .evicts ])
+pub record TransferredOk (t s : Lent) (tierTakes : Bool) (e : Transferred) : Type 0 where
+  pub tier : StepOk t (e .seen .tier) (elim tierTakes [ true ↦ e .took | false ↦ [] ]) (elim tierTakes [ true ↦ e .evicts | false ↦ false ])
+  pub store : StepOk s (e .seen .store)
+      (elim tierTakes [ true ↦ [] | false ↦ e .took ]) (elim tierTakes [ true ↦ false | false ↦ e .evicts ])
 
-unmoved : (t s : Lent) (b : Bool) (n : ℕ) (m : Meter) → TransferEndOk t s b (untransferred n t s m)
+unmoved : (t s : Lent) (b : Bool) (n : ℕ) (m : Meter) → TransferredOk t s b (untransferred n t s m)
 unfolding untransferred
 unmoved t s true n m = record { tier = still t; store = still s }
 unmoved t s false n m = record { tier = still t; store = still s }
@@ -285,10 +286,10 @@ delivered-store t s d k =
     to-lent s _ (d .1 .took) (d .1 .evicts) (k .transfer .fine) (k .transfer .limits) (k .transfer .alike) (k .transfer .over)
     (k .transfer .from) (k .transfer .counted)
 
-pub seed-ok : (t s : Lent) (m : Meter) → TransferEndOk t s true (seed t s m)
-unfolding seed transferEnd
+pub seed-ok : (t s : Lent) (m : Meter) → TransferredOk t s true (seed t s m)
+unfolding seed transferred
 seed-ok t s m =
-    opt-elim (TransferEndOk t s true) (transferRefusal t s) _ _
+    opt-elim (TransferredOk t s true) (transferRefusal t s) _ _
     (λ e. let b = both t s e in let k = seeding-ok t s b m in record { tier = tier-ok b k; store = store-ok b })
     (λ n. unmoved t s true n m)
   where
@@ -301,10 +302,10 @@ seed-ok t s m =
     store-ok : BothAccepted t s → StepOk s (lentOf (seededStore (ledgerIn s) v)) [] false
     store-ok b = seeded-store s v (b .store)
 
-pub deliver-ok : (t s : Lent) (m : Meter) → TransferEndOk t s false (deliver t s m)
-unfolding deliver transferEnd
+pub deliver-ok : (t s : Lent) (m : Meter) → TransferredOk t s false (deliver t s m)
+unfolding deliver transferred
 deliver-ok t s m =
-    opt-elim (TransferEndOk t s false) (transferRefusal t s) _ _
+    opt-elim (TransferredOk t s false) (transferRefusal t s) _ _
     (λ e. let b = both t s e in let k = delivering-ok t s b m in
     record { tier = delivered-tier t s (b .tier) _ k; store = delivered-store t s _ k })
     (λ n. unmoved t s false n m)

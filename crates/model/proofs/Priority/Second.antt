@@ -16,11 +16,11 @@ use Rattle.words.proofs.Regions.{Sound, sound-of, has-ext}
 use Rattle.words.proofs.Literals.{atom-even, atom-odd}
 use Rattle.meter.specs.declared.Meter.{Meter}
 use Rattle.model.specs.declared.LearningLimits.{LearningLimits}
-use Rattle.model.specs.declared.CloseAnswer.{CloseAnswer}
-use Rattle.model.specs.declared.CloseAnswer.the-variants.{Refused, Stopped, Conflict, Closed}
+use Rattle.model.specs.declared.CloseAnswer.the-variants.{Stopped, Conflict, Closed}
 use Rattle.model.specs.Records.{Row, rowsOf, limitsOk, slotWords, maxRows}
 use Rattle.model.specs.Slots.{entriesIn}
 use Rattle.model.specs.Refusals.{Lent, ledgerIn, refusal, accepts, contentsOk, countsOk}
+use Rattle.model.specs.Answers.{Reply, refused, answered, closeReply}
 use Rattle.model.specs.Operations.{CloseEnd, closeEnd, close, regionOk}
 use Rattle.model.specs.Closing.{Turn, going, conflict, halted, closing}
 use Rattle.model.specs.Priority.{Contains, ClosedFor, NoneClosed, Ended, Right, ClosesRight, CloseAlike, SecondHalf, Demand3}
@@ -61,14 +61,12 @@ few-rows s a =
     (le-trans (rows-few s a) (tier-ok (s .header .limits) (a .limits)))
 
 -- ---- Closed is closed
-abbrev NotRefused : CloseAnswer → Type 0
-NotRefused (Refused k) = ⊥
-NotRefused Stopped = Unit {0}
-NotRefused Conflict = Unit {0}
-NotRefused Closed = Unit {0}
+abbrev NotRefused : Reply → Type 0
+NotRefused (refused k) = ⊥
+NotRefused (answered c v) = Unit {0}
 
 pub record Shut (s : Lent) (e : CloseEnd) : Type 0 where
-  pub closed : e .answer ≡ Closed → ClosedFor (rowsE (ledgerIn s .entries)) (e .region)
+  pub closed : e .answer ≡ closeReply Closed → ClosedFor (rowsE (ledgerIn s .entries)) (e .region)
   pub taken : NotRefused (e .answer) → Accepted s
 
 turn-closed : (rows : List Row) (x y : List ℕ) (m : Meter) (t : Turn) → OnGoing (λ u. ClosedFor rows (u .region)) t
@@ -76,7 +74,7 @@ turn-closed : (rows : List Row) (x y : List ℕ) (m : Meter) (t : Turn) → OnGo
       | going u ↦ closeEnd Closed u x y m
       | conflict u ↦ closeEnd Conflict u x y m
       | halted u ↦ closeEnd Stopped u x y m
-    ]) .answer ≡ Closed
+    ]) .answer ≡ closeReply Closed
     → ClosedFor rows
     ((elim t as (λ k. CloseEnd) [
       | going u ↦ closeEnd Closed u x y m
@@ -98,7 +96,7 @@ close-shut s held cut x y m = go (refusal tests) refl
         ((regionOk s held cut, 6) ∷ [])
 
     go : (o : Option ℕ) → refusal tests ≡ o → Shut s (elim o as (λ k. CloseEnd) [
-      | some n ↦ record { answer = Refused n; ledger = s; region = region held cut; rowScratch = x; atomScratch = y; meter = m; ticks = 0 }
+      | some n ↦ record { answer = refused n; ledger = s; region = region held cut; rowScratch = x; atomScratch = y; meter = m; ticks = 0 }
       | none ↦ elim (closing (ledgerIn s) (region held cut) m) [
         | going t ↦ closeEnd Closed t x y m
         | conflict t ↦ closeEnd Conflict t x y m
@@ -155,7 +153,7 @@ region-ext n r q g h a b =
     both c = bool-ext (holds r c) (holds q c) (a c) (b c)
 
 -- ---- two closings
-ended-taken : (a : CloseAnswer) → Ended a → NotRefused a
+ended-taken : (a : Reply) → Ended a → NotRefused a
 ended-taken a (inl e) = subst NotRefused (sym e) tt
 ended-taken a (inr e) = subst NotRefused (sym e) tt
 
@@ -186,11 +184,11 @@ alike-end n us vs r x y f a b p q = record {
         absurd (p .ifConflict e (y .region) (c .isA) (f (y .region) (c .isA) .1 (c .closed)) (c .contains))
     go (inr e) (inr z) = e ∙ sym z
 
-    none : Ended (x .answer) → NoneClosed n us r → x .answer ≡ Conflict
+    none : Ended (x .answer) → NoneClosed n us r → x .answer ≡ closeReply Conflict
     none (inl e) h = let c = p .ifClosed e in absurd (h (x .region) (c .isA) (c .closed) (c .contains))
     none (inr e) h = e
 
-    word : x .answer ≡ Closed → Ended (y .answer) → x .region ≡ y .region
+    word : x .answer ≡ closeReply Closed → Ended (y .answer) → x .region ≡ y .region
     word e (inl z) =
         let c = p .ifClosed e in
         let d = q .ifClosed z in

@@ -30,8 +30,8 @@ use Rattle.model.specs.Transfers.{seeding, marked, seededTier, seededSto
 use Rattle.model.specs.Transfers.{deliveredStore}
 use Rattle.model.specs.Transfers as transfers
 use Rattle.model.specs.Refusals.{Lent, refusal, ledgerIn, lentOf, lengthsOk, entryOk, countsOk, wordsOk, contentsOk, accepts}
-use Rattle.model.specs.Operations.{OfferEnd, unoffered, capture, fitsOffer, offer, positionOk, hit, begin, TransferEnd}
-use Rattle.model.specs.Operations.{transferRefusal, untransferred, transferEnd, seed, deliver}
+use Rattle.model.specs.Operations.{Offered, unoffered, capture, fitsOffer, offer, positionOk, hit, begin, Transferred}
+use Rattle.model.specs.Operations.{transferRefusal, untransferred, transferred, seed, deliver}
 use Rattle.model.specs.Closing.{hitAt}
 use Rattle.model.specs.Priority.{In, Gives, Covers}
 use Rattle.model.proofs.Cover.{and-left, and-right}
@@ -241,8 +241,8 @@ offered-valid l t k h =
     le-leb : (a b c : ℕ) → T (leb a b) → b ≤ c → T (leb a c)
     le-leb a b c x y = le→leb a c (le-trans (leb→le a b x) y)
 
-abbrev OfferOk : Lent → OfferEnd → Type 0
-OfferOk s e = StepOk s (e .ledger) (e .took) (e .evicts)
+abbrev OfferOk : Lent → Offered → Type 0
+OfferOk s e = StepOk s (e .seen .ledger) (e .took) (e .evicts)
 
 capture-ok : (s : Lent) (t : Row) (m : Meter) → Accepted s → T (fitsOffer (s .header .limits) t) → OfferOk s (capture (ledgerIn s) t m)
 unfolding capture attempted withAccount ledgerIn

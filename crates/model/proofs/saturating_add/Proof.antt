@@ -3,8 +3,6 @@ use native.Mathlib.Omega.{arith}
 use Rattle.model.specs.Records.{saturatingAdd}
 use Rattle.model.proofs.saturating_add.Statement.{statement}
 use Rattle.model.proofs.saturating_add.Tie as tie
-use Rattle.model.proofs.saturating_add.Reads as reads
-use Rattle.model.proofs.saturating_add.Lts as lts
 
 sub-if1 : tie.Need-sub-if1
 sub-if1 c = search needs

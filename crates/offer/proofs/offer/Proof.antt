@@ -5,9 +5,9 @@ use mathlib.Core.List.{List, [], _∷_}
 use Prim.Native.Nat.{ℕ}
 use borrow.Author.Tests.{not-true, not-false}
 use Rattle.model.specs.Operations.{fitsOffer}
+use Rattle.slots.specs.Layout.{rowOf}
 use Rattle.contents.specs.Lent.{lent}
 use Rattle.contents.proofs.Accepting.{accepted, accept-refused, accept-passed, accept-none}
-use Rattle.row_propose.specs.Offered.{rowOf}
 use Rattle.offer.proofs.Fitting.{may-attempts, limits-passed}
 use Rattle.offer.proofs.Offering.{offer-refused, offer-shut, offer-captured, unfit, fit, fit-passes}
 use borrow.Author.Needs.{needs}
@@ -155,7 +155,7 @@ returns-4 c =
     (fit (a .header) (a .slots .now) (a .postings .now) (a .conditions .now) (a .outputs .now) (a .work) _
     (is-row .is-row .ensures)
     (not-false _ (can-capture .before .if2 .left))))
-    _ _ _ _ (can-capture .can-capture .ensures)
+    _ (capture .capture .result) _ _ (can-capture .can-capture .ensures)
     (not-false _ (capture .before .before .before .if3 .left))
     (capture .capture .ensures)
 

@@ -8,7 +8,7 @@ use Rattle.model.specs.Slots.{rowIn}
 use Rattle.slots.proofs.Rows.{slot-code}
 use Rattle.contents.specs.Lent.{lent}
 use Rattle.contents.proofs.Accepting.{accepted, accept-refused, accept-passed, accept-none}
-use Rattle.operations.specs.Ends.{deduceEnd}
+use Rattle.operations.specs.Ends.{deducedBy, deduceEnd}
 use Rattle.operations.proofs.Tests.{all-passed, position-no, position-yes, region-no, region-yes}
 use Rattle.model.specs.Operations.{positionOk, regionOk}
 use Rattle.operations.proofs.Deducing.{slot-fits, matched, deduce-refused, deduce-done}
@@ -28,42 +28,54 @@ at-accept c = c .before .before .before .before
 accept-requires : tie.Need-accept-requires
 accept-requires c κs = search needs
 
+deduce-refused-requires : tie.Need-deduce-refused-requires
+deduce-refused-requires c κs = search needs
+
 returns : tie.Need-returns
 returns c =
-    let accept = c .before in
+    let accept = c .before .before in
     let a = at-start accept .args in
     let s = lent (a .header) (a .slots .now) (a .postings .now) in
-    deduce-refused (a .header) (a .slots .now) (a .postings .now) (a .position) (a .held .now) (a .cut .now) (a .work) _
+    ap deduceEnd (c .deduce-refused .ensures)
+    ∙ deduce-refused (a .header) (a .slots .now) (a .postings .now) (a .position) (a .held .now) (a .cut .now) (a .work) _
     (accept-refused s true ((positionOk s (a .position), 5) ∷ (regionOk s (a .held .now) (a .cut .now), 6) ∷ []) _
-    (accept .accept .ensures) (c .if1 .taken))
+    (accept .accept .ensures) (c .before .if1 .taken))
+
+deduce-refused-requires-2 : tie.Need-deduce-refused-requires-2
+deduce-refused-requires-2 c κs = search needs
 
 returns-2 : tie.Need-returns-2
 returns-2 c =
-    let accept = c .before .before .before in
+    let accept = c .before .before .before .before in
     let a = at-start accept .args in
     let s = lent (a .header) (a .slots .now) (a .postings .now) in
-    deduce-refused (a .header) (a .slots .now) (a .postings .now) (a .position) (a .held .now) (a .cut .now) (a .work) 5
+    ap deduceEnd (c .deduce-refused2 .ensures)
+    ∙ deduce-refused (a .header) (a .slots .now) (a .postings .now) (a .position) (a .held .now) (a .cut .now) (a .work) 5
     (accept-passed s true ((positionOk s (a .position), 5) ∷ (regionOk s (a .held .now) (a .cut .now), 6) ∷ []) _
-    (accept .accept .ensures) (c .before .before .if1 .left)
+    (accept .accept .ensures) (c .before .before .before .if1 .left)
     ∙ position-no (a .header) (a .slots .now) (a .postings .now) (a .position) ((regionOk s (a .held .now) (a .cut .now), 6) ∷ [])
-    (c .if2 .taken))
+    (c .before .if2 .taken))
 
 is-region-requires : tie.Need-is-region-requires
 is-region-requires c κs = search needs
 
+deduce-refused-requires-3 : tie.Need-deduce-refused-requires-3
+deduce-refused-requires-3 c κs = search needs
+
 returns-3 : tie.Need-returns-3
 returns-3 c =
-    let is-region = c .before in
+    let is-region = c .before .before in
     let accept = at-accept is-region in
     let a = at-start accept .args in
     let s = lent (a .header) (a .slots .now) (a .postings .now) in
-    deduce-refused (a .header) (a .slots .now) (a .postings .now) (a .position) (a .held .now) (a .cut .now) (a .work) 6
+    ap deduceEnd (c .deduce-refused3 .ensures)
+    ∙ deduce-refused (a .header) (a .slots .now) (a .postings .now) (a .position) (a .held .now) (a .cut .now) (a .work) 6
     (accept-passed s true ((positionOk s (a .position), 5) ∷ (regionOk s (a .held .now) (a .cut .now), 6) ∷ []) _
     (accept .accept .ensures) (is-region .before .before .before .if1 .left)
     ∙ position-yes (a .header) (a .slots .now) (a .postings .now) (a .position) ((regionOk s (a .held .now) (a .cut .now), 6) ∷ [])
     (is-region .before .if2 .left)
     ∙ region-no (a .header) (a .slots .now) (a .postings .now) (a .held .now) (a .cut .now) []
-    (sym (is-region .is-region .ensures) ∙ not-true _ (c .if3 .taken)))
+    (sym (is-region .is-region .ensures) ∙ not-true _ (c .before .if3 .taken)))
 
 mul-a : tie.Need-mul-a
 mul-a c =
@@ -127,13 +139,17 @@ deduction-requires c κs =
     matched (a .header) (a .slots .now) (a .postings .now) (a .position) k (is-region .before .if2 .left) (a .held .now)
     (a .cut .now) (sym (is-region .is-region .ensures) ∙ not-false _ (c .before .if3 .left))
 
+deduce-done-requires : tie.Need-deduce-done-requires
+deduce-done-requires c κs = search needs
+
 returns-4 : tie.Need-returns-4
 returns-4 c =
-    let is-region = c .before .before .before in
+    let deduction = c .before in
+    let is-region = deduction .before .before .before in
     let accept = at-accept is-region in
     let a = at-start accept .args in
     let s = lent (a .header) (a .slots .now) (a .postings .now) in
-    ap deduceEnd (c .deduction .ensures)
+    ap deduceEnd (c .deduce-done .ensures ∙ ap deducedBy (deduction .deduction .ensures))
     ∙ deduce-done (a .header) (a .slots .now) (a .postings .now) (a .position) (a .held .now) (a .cut .now) (a .work)
     (accept-passed s true ((positionOk s (a .position), 5) ∷ (regionOk s (a .held .now) (a .cut .now), 6) ∷ []) _
     (accept .accept .ensures)
@@ -141,7 +157,7 @@ returns-4 c =
     ∙ position-yes (a .header) (a .slots .now) (a .postings .now) (a .position) ((regionOk s (a .held .now) (a .cut .now), 6) ∷ [])
     (is-region .before .if2 .left)
     ∙ region-yes (a .header) (a .slots .now) (a .postings .now) (a .held .now) (a .cut .now) []
-    (sym (is-region .is-region .ensures) ∙ not-false _ (c .before .before .if3 .left)) ∙ all-passed)
+    (sym (is-region .is-region .ensures) ∙ not-false _ (deduction .before .before .if3 .left)) ∙ all-passed)
     (is-region .before .if2 .left) _ (ap rowIn (slot-code (a .slots .now) (a .position)))
 
 pub deduce-spec : {M : Type 1} → statement M
@@ -149,9 +165,12 @@ deduce-spec =
     tie.close
     (tie.spec
     accept-requires
+    deduce-refused-requires
     returns
+    deduce-refused-requires-2
     returns-2
     is-region-requires
+    deduce-refused-requires-3
     returns-3
     mul-a
     add-e
@@ -160,4 +179,5 @@ deduce-spec =
     part-deduction-start
     part-deduction-end
     deduction-requires
+    deduce-done-requires
     returns-4)

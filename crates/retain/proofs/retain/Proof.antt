@@ -82,7 +82,7 @@ compare-requires : tie.Need-compare-requires
 compare-requires c κs =
     let t = at-start-from-replaced c in
     let a = t .pre .0 in
-    (held _ _ _ a, (t .pre .1 .0, (t .pre .1 .1 .1, (omega (arith, a .stands .few, a .stands .most), has-zero (maxRows / wordBits)))))
+    (held _ _ _ a, (t .pre .1 .0, (t .pre .1 .1 .1, (omega (arith, a .stands .held .over .few), has-zero (maxRows / wordBits)))))
 
 enum-told : tie.Need-enum-told
 enum-told c = search needs

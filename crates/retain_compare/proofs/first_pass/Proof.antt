@@ -10,7 +10,7 @@ use lib.ListN.{length, getD}
 use Rattle.model.specs.Records.{Row, Entry, slotWords}
 use Rattle.model.specs.Slots.{rowIn, entriesIn}
 use Rattle.model.proofs.Slots.{entries-length}
-use Rattle.tier.proofs.Buffer.{no-entry, rows-fit}
+use Rattle.slots.proofs.Holding.{no-entry}
 use Rattle.retain_compare.proofs.Holding.{held-laid, held-row, held-under}
 use Rattle.retain_compare.proofs.Joining.{Beside}
 use Rattle.retain_compare.proofs.Advance.{Advance, advance-start, advance-found, advance-declined, advance-stopped, advance-turn}
@@ -87,7 +87,7 @@ module _ (c : tie.After-compare-row Inv-loop μ-loop) where
 loop-holds : tie.Need-loop-holds Inv-loop μ-loop
 loop-holds c =
     let t = c .before .before .before in
-    (omega arith, rows-fit _ _ (t .pre .0), t .pre .1 .1 .1 .0, refl, advance-start _ _ _ _ _ _ _ refl (t .pre .1 .0) (t .pre .1 .1 .1 .1))
+    (omega arith, t .pre .0 .over .long, t .pre .1 .1 .1 .0, refl, advance-start _ _ _ _ _ _ _ refl (t .pre .1 .0) (t .pre .1 .1 .1 .1))
 
 mul-a : tie.Need-mul-a Inv-loop μ-loop
 mul-a c = search needs

@@ -11,7 +11,7 @@ use Rattle.words.specs.Region.{has}
 use Rattle.model.specs.Records.{Row, Entry, slotWords}
 use Rattle.model.specs.Slots.{rowIn, entriesIn}
 use Rattle.model.proofs.Slots.{entries-length}
-use Rattle.tier.proofs.Buffer.{no-entry, rows-fit}
+use Rattle.slots.proofs.Holding.{no-entry}
 use Rattle.retain_compare.proofs.Holding.{held-laid, held-row}
 use Rattle.retain_compare.proofs.Sweeping.{Swept}
 use Rattle.retain_compare.proofs.Sweep.{Sweep, sweep-start, sweep-turn, sweep-not, sweep-end}
@@ -77,7 +77,7 @@ module _ (c : tie.After-sweep-row Inv-loop μ-loop) where
 loop-holds : tie.Need-loop-holds Inv-loop μ-loop
 loop-holds c =
     let t = c .before .before .before in
-    (omega arith, rows-fit _ _ (t .pre .0), t .pre .1 .1, sweep-start _ _ _ _ _)
+    (omega arith, t .pre .0 .over .long, t .pre .1 .1, sweep-start _ _ _ _ _)
 
 mul-a : tie.Need-mul-a Inv-loop μ-loop
 mul-a c = search needs

@@ -1,11 +1,11 @@
 -- `row_deduce::concluded`: one answer for each end of the walk over the outputs. Assumes nothing.
 use mathlib.Core.Path.{sym, ap, _∙_}
+use mathlib.Core.Bool.{false}
 use borrow.Author.Needs.{needs}
-use Rattle.model.specs.declared.DeduceAnswer.the-variants as deduce-answer
 use Rattle.model.specs.declared.Deduction.the-variants.{Require}
 use Rattle.model.specs.declared.Literal.{Literal}
 use Rattle.row_deduce.specs.declared.OutputState.{OutputState}
-use Rattle.row_deduce.specs.Walks.{ended, outputAnswer, concluded}
+use Rattle.row_deduce.specs.Walks.{ended, outputEnd, concluded}
 use Rattle.row_deduce.proofs.concluded.Statement.{statement}
 use Rattle.row_deduce.proofs.concluded.Tie as tie
 
@@ -38,7 +38,7 @@ returns c =
     let k = c .before .before .before in
     let a = k .before .before .before .before .args in
     c .ended .ensures
-    ∙ ap (λ (x : OutputState). ended (outputAnswer (a .code) x) (a .before) (k .outputs .result .meter))
+    ∙ ap (λ (x : OutputState). outputEnd (a .code) x (a .before) (k .outputs .result .meter))
     (sym (c .before .enum-told .given .1))
     ∙ ap (concluded (a .code) (a .before)) (k .outputs .ensures)
 
@@ -47,7 +47,7 @@ returns-2 c =
     let k = c .before .before .before in
     let a = k .before .before .before .before .args in
     c .ended2 .ensures
-    ∙ ap (λ (x : OutputState). ended (outputAnswer (a .code) x) (a .before) (k .outputs .result .meter))
+    ∙ ap (λ (x : OutputState). outputEnd (a .code) x (a .before) (k .outputs .result .meter))
     (sym (c .before .enum-told2 .given .1))
     ∙ ap (concluded (a .code) (a .before)) (k .outputs .ensures)
 
@@ -56,8 +56,8 @@ returns-3 c =
     let k = c .before .before .before .before in
     let a = k .before .before .before .before .args in
     c .ended3 .ensures
-    ∙ ap (λ (x : Literal). ended (deduce-answer.Deduced (Require x)) (a .before) (k .outputs .result .meter)) (c .before .negation .ensures)
-    ∙ ap (λ (x : OutputState). ended (outputAnswer (a .code) x) (a .before) (k .outputs .result .meter))
+    ∙ ap (λ (x : Literal). ended (Require x) false (a .before) (k .outputs .result .meter)) (c .before .negation .ensures)
+    ∙ ap (λ (x : OutputState). outputEnd (a .code) x (a .before) (k .outputs .result .meter))
     (sym (c .before .before .enum-told3 .given .1))
     ∙ ap (concluded (a .code) (a .before)) (k .outputs .ensures)
 

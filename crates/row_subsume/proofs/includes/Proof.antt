@@ -2,12 +2,16 @@
 use borrow.Author.Needs.{needs}
 use native.Mathlib.Omega.{arith}
 use mathlib.Core.Path.{_≡_, refl, sym, ap, ap₂, _∙_, subst}
+use mathlib.Core.Logic.{⊎-elim}
+use mathlib.Core.Bool.{Bool, true, false}
 use mathlib.Core.List.{List, [], _∷_}
 use Prim.Native.Nat.{ℕ, _<_}
 use lib.ListN.{length}
 use denote.Ref.{now}
 use Rattle.meter.specs.declared.Judged.{Judged}
-use Rattle.meter.specs.Meter.{payOne}
+use Rattle.meter.specs.declared.Account.{Account}
+use Rattle.meter.specs.declared.Meter.{Meter}
+use Rattle.meter.specs.Meter.{payOne, pay, judged}
 use Rattle.slots.specs.Cursor.{rest, rest-start, given, Placed, PlacedStep, listOf}
 use Rattle.meter.specs.declared.Payment.the-variants as Charge
 use Rattle.meter.specs.Payment.{paymentOf}
@@ -135,6 +139,51 @@ module _ (c : tie.After-known-told4 Inv-loop μ-loop Inv-wanted μ-wanted) where
       let p = at-p c in
       sym (p .p .given .1) ∙ at-pay-read p .pay-read .ensures
 
+-- ---- the ways out of both loops: what is answered after them is the whole question
+abbrev asked : tie.Start Inv-loop μ-loop Inv-wanted μ-wanted → Judged
+asked s =
+    included (listOf (now (s .args .a)) (s .args .candidates)) (listOf (now (s .args .b)) (s .args .wanted))
+    (s .args .account) (s .args .work)
+
+-- nothing is wanted any more
+module _ (c : tie.After-enum-told Inv-loop μ-loop Inv-wanted μ-wanted) where
+  abbrev t : tie.At-wanted Inv-loop μ-loop Inv-wanted μ-wanted
+  t = c .before .before .before
+
+  all-found : judged true (pay 0 (t .wanted .account) (t .wanted .meter)) ≡ asked (top t)
+  all-found =
+      let e : rest (B t) (top t .args .wanted) (t .wanted .want) ≡ []
+      = sym (c .before .before .next .ensures .0) ∙ ap (given (B t) (top t .args .wanted)) (c .enum-told .given .1) in
+      include-all (left t) _ _
+      ∙ ap (λ (l : List ℕ). included (left t) l (t .wanted .account) (t .wanted .meter)) (sym e) ∙ whole t
+
+-- the candidates end
+module _ (c : tie.After-enum-told2 Inv-loop μ-loop Inv-wanted μ-wanted) where
+  abbrev n : tie.After-p Inv-loop μ-loop Inv-wanted μ-wanted
+  n = c .before .before .before .before
+
+  none-left : let q = at-loop (at-pay-read n) in judged false (pay 0 (n .p .given .0 .0) (n .p .given .0 .1 .0)) ≡ asked (top (o q))
+  none-left =
+      let q = at-loop (at-pay-read n) in
+      let e : cs q ≡ []
+      = sym (c .before .before .next2 .ensures .0)
+      ∙ ap (given (A (o q)) (top (o q) .args .candidates)) (c .enum-told2 .given .1) in
+      include-none (w (q .before)) (ws (q .before)) _ _ (sym (n .p .given .1) ∙ at-pay-read n .pay-read .ensures)
+      ∙ ap (asks q) (sym e) ∙ back q ∙ whole (o q)
+
+-- a candidate is greater
+passed : (c : tie.Then2 Inv-loop μ-loop Inv-wanted μ-wanted)
+    → let u = c .before .before in
+    let n = at-p u in
+    judged false (pay 0 (n .p .given .0 .0) (n .p .given .0 .1 .0)) ≡ asked (top (o (l u)))
+passed c =
+    let u = c .before .before in
+    include-greater (w (l u .before)) (ws (l u .before)) _ _ (payment u) (k u) (more u) (c .if2 .taken)
+    ∙ ap (asks (l u)) (sym (taken-c u)) ∙ back (l u) ∙ whole (o (l u))
+
+same-judged : {b d : Bool} {a e : Account} {m k : Meter} → b ≡ d → a ≡ e → m ≡ k → judged b (pay 0 a m) ≡ judged d (pay 0 e k)
+same-judged f g h = rw (f, g, h) refl
+
 start-requires : tie.Need-start-requires Inv-loop μ-loop Inv-wanted μ-wanted
 start-requires c κs = search needs
 
@@ -158,17 +207,6 @@ enum-known-w c = search needs
 enum-told : tie.Need-enum-told Inv-loop μ-loop Inv-wanted μ-wanted
 enum-told c = search needs
 
-answer-requires : tie.Need-answer-requires Inv-loop μ-loop Inv-wanted μ-wanted
-answer-requires c κs = search needs
-
-returns : tie.Need-returns Inv-loop μ-loop Inv-wanted μ-wanted
-returns c =
-    let t = c .before .before .before .before in
-    let e : rest (B t) (top t .args .wanted) (t .wanted .want) ≡ []
-    = sym (c .before .before .before .next .ensures .0) ∙ ap (given (B t) (top t .args .wanted)) (c .before .enum-told .given .1) in
-    c .answer .ensures ∙ include-all (left t) _ _
-    ∙ ap (λ (l : List ℕ). included (left t) l (t .wanted .account) (t .wanted .meter)) (sym e) ∙ whole t
-
 loop-holds : tie.Need-loop-holds Inv-loop μ-loop Inv-wanted μ-wanted
 loop-holds c = search needs
 
@@ -181,8 +219,8 @@ enum-known-p c = search needs
 enum-known-j : tie.Need-enum-known-j Inv-loop μ-loop Inv-wanted μ-wanted
 enum-known-j c = search needs
 
-returns-2 : tie.Need-returns-2 Inv-loop μ-loop Inv-wanted μ-wanted
-returns-2 c =
+returns : tie.Need-returns Inv-loop μ-loop Inv-wanted μ-wanted
+returns c =
     let l = c .before .before .before .before in
     include-ended (w (l .before)) (ws (l .before)) _ _ (cs l) (sym (c .before .j .given .1) ∙ c .before .before .before .pay-read .ensures)
     ∙ back l ∙ whole (o l)
@@ -196,20 +234,6 @@ enum-known-c c = search needs
 enum-told-2 : tie.Need-enum-told-2 Inv-loop μ-loop Inv-wanted μ-wanted
 enum-told-2 c = search needs
 
-answer-requires-2 : tie.Need-answer-requires-2 Inv-loop μ-loop Inv-wanted μ-wanted
-answer-requires-2 c κs = search needs
-
-returns-3 : tie.Need-returns-3 Inv-loop μ-loop Inv-wanted μ-wanted
-returns-3 c =
-    let p = c .before .before .before .before in
-    let l = p .before .before .before .before in
-    let e : cs l ≡ []
-    = sym (c .before .before .before .next2 .ensures .0)
-    ∙ ap (given (A (o l)) (top (o l) .args .candidates)) (c .before .enum-told2 .given .1) in
-    c .answer2 .ensures
-    ∙ include-none (w (l .before)) (ws (l .before)) _ _ (sym (p .before .p .given .1) ∙ p .before .before .before .pay-read .ensures)
-    ∙ ap (asks l) (sym e) ∙ back l ∙ whole (o l)
-
 wanted-less : tie.Need-wanted-less Inv-loop μ-loop Inv-wanted μ-wanted
 wanted-less c = omega (arith, ap length (taken-w (l (c .before) .before)))
 
@@ -221,17 +245,6 @@ wanted-again c =
       include-equal (w (l u .before)) (ws (l u .before)) _ _ (payment u) (k u) (more u) (c .if1 .taken)
           ∙ ap (asks (l u)) (sym (taken-c u)) ∙ back (l u) ∙ o (l u) .wanted .inv .2,
     )
-
-answer-requires-3 : tie.Need-answer-requires-3 Inv-loop μ-loop Inv-wanted μ-wanted
-answer-requires-3 c κs = search needs
-
-returns-4 : tie.Need-returns-4 Inv-loop μ-loop Inv-wanted μ-wanted
-returns-4 c =
-    let u = c .before .before .before in
-    let h = c .before .if2 .taken in
-    c .answer3 .ensures
-    ∙ include-greater (w (l u .before)) (ws (l u .before)) _ _ (payment u) (k u) (more u) h
-    ∙ ap (asks (l u)) (sym (taken-c u)) ∙ back (l u) ∙ whole (o (l u))
 
 loop-less : tie.Need-loop-less Inv-loop μ-loop Inv-wanted μ-wanted
 loop-less c = omega (arith, ap length (taken-c (c .before .before)))
@@ -245,6 +258,41 @@ loop-again c =
       include-less (w (l u .before)) (ws (l u .before)) _ _ (payment u) (k u) (more u) h ∙ ap (asks (l u)) (sym (taken-c u))
           ∙ l u .loop .inv .1,
     )
+
+answer-requires : tie.Need-answer-requires Inv-loop μ-loop Inv-wanted μ-wanted
+answer-requires c κs = search needs
+
+-- which way out was taken: a way tells what stood on it, from the next wanted literal on
+returns-2 : tie.Need-returns-2 Inv-loop μ-loop Inv-wanted μ-wanted
+returns-2 c =
+    let met = c .before .before in
+    c .answer .ensures
+    ∙ ⊎-elim
+    (λ x. same-judged (x .4) (x .2) (x .3) ∙ all-found (record { before = record { before = met; match = x .0 }; enum-told = x .1 }))
+    (⊎-elim
+    (λ x.
+    let r : tie.After-known-told Inv-loop μ-loop Inv-wanted μ-wanted
+    = record { before = record { before = record { before = met; match = x .0 }; w = x .1 }; known-told = x .2 } in
+    let q : tie.After-pay-read Inv-loop μ-loop Inv-wanted μ-wanted
+    = record { before = record { before = r; loop = x .3 }; pay-read = x .4 } in
+    let p : tie.After-p Inv-loop μ-loop Inv-wanted μ-wanted
+    = record { before = record { before = q; match2 = x .5 }; p = x .6 } in
+    let n : tie.After-next2 Inv-loop μ-loop Inv-wanted μ-wanted
+    = record { before = record { before = p; known-told2 = x .7 }; next2 = x .8 } in
+    same-judged (x .13) (x .11) (x .12) ∙ none-left (record { before = record { before = n; match3 = x .9 }; enum-told2 = x .10 }))
+    (λ x.
+    let r : tie.After-known-told Inv-loop μ-loop Inv-wanted μ-wanted
+    = record { before = record { before = record { before = met; match = x .0 }; w = x .1 }; known-told = x .2 } in
+    let q : tie.After-pay-read Inv-loop μ-loop Inv-wanted μ-wanted
+    = record { before = record { before = r; loop = x .3 }; pay-read = x .4 } in
+    let p : tie.After-p Inv-loop μ-loop Inv-wanted μ-wanted
+    = record { before = record { before = q; match2 = x .5 }; p = x .6 } in
+    let n : tie.After-next2 Inv-loop μ-loop Inv-wanted μ-wanted
+    = record { before = record { before = p; known-told2 = x .7 }; next2 = x .8 } in
+    let u : tie.After-known-told4 Inv-loop μ-loop Inv-wanted μ-wanted
+    = record { before = record { before = record { before = n; match3 = x .9 }; c = x .10 }; known-told4 = x .11 } in
+    same-judged (x .16) (x .14) (x .15) ∙ passed (record { before = record { before = u; if1 = x .12 }; if2 = x .13 })))
+    (c .before .match .came)
 
 pub includes-spec : {M : Type 1} → statement M
 includes-spec =
@@ -260,21 +308,17 @@ includes-spec =
     next-requires
     enum-known-w
     enum-told
-    answer-requires
-    returns
     loop-holds
     pay-read-requires
     enum-known-p
     enum-known-j
-    returns-2
+    returns
     next-requires-2
     enum-known-c
     enum-told-2
-    answer-requires-2
-    returns-3
     wanted-less
     wanted-again
-    answer-requires-3
-    returns-4
     loop-less
-    loop-again)
+    loop-again
+    answer-requires
+    returns-2)

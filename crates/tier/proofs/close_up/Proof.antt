@@ -4,7 +4,6 @@ use mathlib.Core.Path.{_≡_, refl, sym, _∙_, ap, subst}
 use Prim.Native.Nat.{ℕ, _+_, _*_, _-_, _≤_, _<_}
 use lib.ListN.{length}
 use Rattle.words.specs.Region.{has}
-use Rattle.tier.proofs.Buffer.{rows-fit}
 use Rattle.tier.proofs.Closing.{Down, down-turn, down-end}
 use Rattle.tier.proofs.close_up.Statement.{statement}
 use Rattle.tier.proofs.close_up.Tie as tie
@@ -39,7 +38,7 @@ add-i : tie.Need-add-i Inv-loop μ-loop
 add-i c = search needs
 
 loop-holds : tie.Need-loop-holds Inv-loop μ-loop
-loop-holds c = (omega arith, omega arith, rows-fit _ _ (c .before .before .pre .0), refl, refl)
+loop-holds c = (omega arith, omega arith, c .before .before .pre .0 .over .long, refl, refl)
 
 keep-requires : tie.Need-keep-requires Inv-loop μ-loop
 keep-requires c κs = search needs

@@ -5,8 +5,7 @@ use Prim.Native.Nat.{ℕ, _*_, _-_, _≤_, _<_}
 use lib.ListN.{length, length-set}
 use Rattle.model.specs.Records.{slotWords}
 use Rattle.model.specs.Slots.{slotsOf, entriesIn}
-use Rattle.tier.specs.Tier.{tierOf}
-use Rattle.tier.proofs.Buffer.{rows-fit}
+use Rattle.slots.specs.Layout.{tierOf}
 use Rattle.tier.proofs.Halving.{halvedTo, halve-start, halve-step, halve-length, halve-end}
 use Rattle.tier.proofs.halve.Statement.{statement}
 use Rattle.tier.proofs.halve.Tie as tie
@@ -22,7 +21,7 @@ abbrev μ-loop : tie.MeasureT-loop
 μ-loop slots₀ rows i₀ slots i = rows - i
 
 loop-holds : tie.Need-loop-holds Inv-loop μ-loop
-loop-holds c = (omega arith, rows-fit _ _ (c .pre), refl, halve-start _ _ (c .pre))
+loop-holds c = (omega arith, c .pre .over .long, refl, halve-start _ _ (c .pre))
 
 mul-at : tie.Need-mul-at Inv-loop μ-loop
 mul-at c = search needs

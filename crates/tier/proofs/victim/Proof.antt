@@ -6,7 +6,7 @@ use lib.ListN.{length, getD, drop}
 use Rattle.model.specs.Records.{slotWords}
 use Rattle.model.specs.Slots.{entriesIn}
 use Rattle.model.specs.Retention.{victimFrom, victim}
-use Rattle.tier.proofs.Buffer.{no-entry, rows-fit}
+use Rattle.slots.proofs.Holding.{no-entry}
 use Rattle.tier.proofs.Victims.{victim-start, victim-step, victim-end, lesser-lt}
 use Rattle.tier.proofs.victim.Statement.{statement}
 use Rattle.tier.proofs.victim.Tie as tie
@@ -23,7 +23,7 @@ abbrev μ-loop : tie.MeasureT-loop
 μ-loop slots rows at₀ i₀ at i = rows - i
 
 loop-holds : tie.Need-loop-holds Inv-loop μ-loop
-loop-holds c = (omega arith, omega arith, rows-fit _ _ (c .before .pre .0), victim-start _ _ (c .before .pre .0) (omega arith))
+loop-holds c = (omega arith, omega arith, c .before .pre .0 .over .long, victim-start _ _ (c .before .pre .0) (omega arith))
 
 lesser-requires : tie.Need-lesser-requires Inv-loop μ-loop
 lesser-requires c κs = search needs

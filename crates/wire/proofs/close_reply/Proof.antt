@@ -1,21 +1,22 @@
 -- `wire::close_reply`. One way out for each case. Assumes nothing.
 use mathlib.Core.Path.{sym, ap, _∙_}
-use Rattle.wire.specs.Replies.{closeReply}
+use Rattle.model.specs.Answers.{closeReply}
+use Rattle.wire.specs.Replies.{replyWords}
 use borrow.Author.Needs.{needs}
 use Rattle.wire.proofs.close_reply.Statement.{statement}
 use Rattle.wire.proofs.close_reply.Tie as tie
 
 returns : tie.Need-returns
-returns c = c .refused .ensures ∙ ap closeReply (sym (c .before .before .a .given .1))
+returns c = c .refused .ensures ∙ ap (λ a. replyWords (closeReply a)) (sym (c .before .before .a .given .1))
 
 returns-2 : tie.Need-returns-2
-returns-2 c = c .reply-of .ensures ∙ ap closeReply (sym (c .before .enum-told .given .1))
+returns-2 c = c .answered .ensures ∙ ap (λ a. replyWords (closeReply a)) (sym (c .before .enum-told .given .1))
 
 returns-3 : tie.Need-returns-3
-returns-3 c = c .reply-of2 .ensures ∙ ap closeReply (sym (c .before .enum-told2 .given .1))
+returns-3 c = c .answered2 .ensures ∙ ap (λ a. replyWords (closeReply a)) (sym (c .before .enum-told2 .given .1))
 
 returns-4 : tie.Need-returns-4
-returns-4 c = c .reply-of3 .ensures ∙ ap closeReply (sym (c .before .enum-told3 .given .1))
+returns-4 c = c .answered3 .ensures ∙ ap (λ a. replyWords (closeReply a)) (sym (c .before .enum-told3 .given .1))
 
 pub close-reply-spec : {M : Type 1} → statement M
 close-reply-spec =

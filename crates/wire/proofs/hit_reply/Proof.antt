@@ -1,15 +1,16 @@
 -- `wire::hit_reply`. One way out for each case. Assumes nothing.
 use mathlib.Core.Path.{sym, ap, _∙_}
-use Rattle.wire.specs.Replies.{hitReply}
+use Rattle.model.specs.Answers.{hitReply}
+use Rattle.wire.specs.Replies.{replyWords}
 use borrow.Author.Needs.{needs}
 use Rattle.wire.proofs.hit_reply.Statement.{statement}
 use Rattle.wire.proofs.hit_reply.Tie as tie
 
 returns : tie.Need-returns
-returns c = c .refused .ensures ∙ ap hitReply (sym (c .before .before .a .given .1))
+returns c = c .refused .ensures ∙ ap (λ a. replyWords (hitReply a)) (sym (c .before .before .a .given .1))
 
 returns-2 : tie.Need-returns-2
-returns-2 c = c .reply-of .ensures ∙ ap hitReply (sym (c .before .enum-told .given .1))
+returns-2 c = c .answered .ensures ∙ ap (λ a. replyWords (hitReply a)) (sym (c .before .enum-told .given .1))
 
 pub hit-reply-spec : {M : Type 1} → statement M
 hit-reply-spec =

@@ -1,15 +1,16 @@
 -- `wire::make_reply`. One way out for each case. Assumes nothing.
 use mathlib.Core.Path.{sym, ap, _∙_}
-use Rattle.wire.specs.Replies.{makeReply}
+use Rattle.model.specs.Answers.{makeReply}
+use Rattle.wire.specs.Replies.{replyWords}
 use borrow.Author.Needs.{needs}
 use Rattle.wire.proofs.make_reply.Statement.{statement}
 use Rattle.wire.proofs.make_reply.Tie as tie
 
 returns : tie.Need-returns
-returns c = c .refused .ensures ∙ ap makeReply (sym (c .before .before .a .given .1))
+returns c = c .refused .ensures ∙ ap (λ a. replyWords (makeReply a)) (sym (c .before .before .a .given .1))
 
 returns-2 : tie.Need-returns-2
-returns-2 c = c .reply-of .ensures ∙ ap makeReply (sym (c .before .enum-told .given .1))
+returns-2 c = c .answered .ensures ∙ ap (λ a. replyWords (makeReply a)) (sym (c .before .enum-told .given .1))
 
 pub make-reply-spec : {M : Type 1} → statement M
 make-reply-spec =

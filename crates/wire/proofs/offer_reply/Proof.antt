@@ -1,27 +1,28 @@
 -- `wire::offer_reply`. One way out for each case. Assumes nothing.
 use mathlib.Core.Path.{sym, ap, _∙_}
-use Rattle.wire.specs.Replies.{offerReply}
+use Rattle.model.specs.Answers.{offerReply}
+use Rattle.wire.specs.Replies.{replyWords}
 use borrow.Author.Needs.{needs}
 use Rattle.wire.proofs.offer_reply.Statement.{statement}
 use Rattle.wire.proofs.offer_reply.Tie as tie
 
 returns : tie.Need-returns
-returns c = c .refused .ensures ∙ ap offerReply (sym (c .before .before .a .given .1))
+returns c = c .refused .ensures ∙ ap (λ a. replyWords (offerReply a)) (sym (c .before .before .a .given .1))
 
 returns-2 : tie.Need-returns-2
-returns-2 c = c .reply-of .ensures ∙ ap offerReply (sym (c .before .enum-told .given .1))
+returns-2 c = c .answered .ensures ∙ ap (λ a. replyWords (offerReply a)) (sym (c .before .enum-told .given .1))
 
 returns-3 : tie.Need-returns-3
-returns-3 c = c .reply-of2 .ensures ∙ ap offerReply (sym (c .before .enum-told2 .given .1))
+returns-3 c = c .answered2 .ensures ∙ ap (λ a. replyWords (offerReply a)) (sym (c .before .enum-told2 .given .1))
 
 returns-4 : tie.Need-returns-4
-returns-4 c = c .reply-of3 .ensures ∙ ap offerReply (sym (c .before .enum-told3 .given .1))
+returns-4 c = c .answered3 .ensures ∙ ap (λ a. replyWords (offerReply a)) (sym (c .before .enum-told3 .given .1))
 
 returns-5 : tie.Need-returns-5
-returns-5 c = c .reply-of4 .ensures ∙ ap offerReply (sym (c .before .before .a2 .given .1))
+returns-5 c = c .answered4 .ensures ∙ ap (λ a. replyWords (offerReply a)) (sym (c .before .before .a2 .given .1))
 
 returns-6 : tie.Need-returns-6
-returns-6 c = c .reply-of5 .ensures ∙ ap offerReply (sym (c .before .before .a3 .given .1))
+returns-6 c = c .answered5 .ensures ∙ ap (λ a. replyWords (offerReply a)) (sym (c .before .before .a3 .given .1))
 
 pub offer-reply-spec : {M : Type 1} → statement M
 offer-reply-spec =

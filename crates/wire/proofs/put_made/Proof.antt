@@ -1,6 +1,7 @@
 -- `wire::put_made`. By the answer. Assumes nothing.
 use mathlib.Core.Path.{sym, ap, _∙_}
 use Rattle.model.specs.declared.MakeAnswer.{MakeAnswer}
+use Rattle.model.specs.Answers.{madeHeader}
 use Rattle.wire.specs.Replies.{madeWords}
 use borrow.Author.Needs.{needs}
 use Rattle.wire.proofs.put_made.Statement.{statement}
@@ -15,7 +16,7 @@ at-start c = at-start-from-put-header-arg (c .before)
 
 returns : tie.Need-returns
 returns c =
-    c .put-header .ensures ∙ ap (λ (a : MakeAnswer). madeWords a (at-start c .args .words .now))
+    c .put-header .ensures ∙ ap (λ (a : MakeAnswer). madeWords (madeHeader a) (at-start c .args .words .now))
     (sym (c .before .before .before .answer .given .1))
 
 pub put-made-spec : {M : Type 1} → statement M

@@ -1,12 +1,10 @@
+-- `Account::pay_all`: what is left to be paid, from the account and the meter as they stand, is what was to be paid. Assumes nothing.
 use borrow.Author.Needs.{needs}
 use native.Mathlib.Omega.{arith}
 use mathlib.Core.Path.{_≡_, refl, sym, _∙_, ap}
 use Rattle.meter.specs.Meter.{pay, pay-left, pay-none}
 use Rattle.meter.proofs.Account.pay_all.Statement.{statement}
 use Rattle.meter.proofs.Account.pay_all.Tie as tie
-use Rattle.meter.proofs.Account.pay_all.Reads as reads
-use Rattle.meter.proofs.Account.pay_all.Lts as lts
-use Rattle.meter.proofs.Account.pay.Reads as pay-reads
 
 abbrev Inv-loop : tie.InvT-loop
 Inv-loop reads account₀ meter₀ left₀ account meter left = pay left account meter ≡ pay left₀ account₀ meter₀
@@ -14,53 +12,42 @@ Inv-loop reads account₀ meter₀ left₀ account meter left = pay left account
 abbrev μ-loop : tie.MeasureT-loop
 μ-loop reads account₀ meter₀ left₀ account meter left = left
 
--- src/lib.rt:108:9
 loop-holds : tie.Need-loop-holds Inv-loop μ-loop
 loop-holds c = refl
 
--- src/lib.rt:109:19
 pay-requires : tie.Need-pay-requires Inv-loop μ-loop
 pay-requires c κs = search needs
 
--- src/lib.rt:110:28
 enum-known-a : tie.Need-enum-known-a Inv-loop μ-loop
 enum-known-a c = search needs
 
--- src/lib.rt:114:32
 enum-known-a-2 : tie.Need-enum-known-a-2 Inv-loop μ-loop
 enum-known-a-2 c = search needs
 
--- src/lib.rt:114:41
 returns : tie.Need-returns Inv-loop μ-loop
 returns c =
     let t = c .before .before .before in
     sym (pay-left _ _ _ (t .before .loop-test .taken) (sym (c .before .a2 .given .1) ∙ t .pay .ensures)) ∙ t .before .before .loop .inv
 
--- src/lib.rt:115:31
 enum-known-a-3 : tie.Need-enum-known-a-3 Inv-loop μ-loop
 enum-known-a-3 c = search needs
 
--- src/lib.rt:115:40
 returns-2 : tie.Need-returns-2 Inv-loop μ-loop
 returns-2 c =
     let t = c .before .before .before in
     sym (pay-left _ _ _ (t .before .loop-test .taken) (sym (c .before .a3 .given .1) ∙ t .pay .ensures)) ∙ t .before .before .loop .inv
 
--- src/lib.rt:117:13
 sub-left : tie.Need-sub-left Inv-loop μ-loop
 sub-left c = search needs
 
--- src/lib.rt:108:9
 loop-less : tie.Need-loop-less Inv-loop μ-loop
 loop-less c = search needs
 
--- src/lib.rt:108:9
 loop-again : tie.Need-loop-again Inv-loop μ-loop
 loop-again c =
     let t = c .before .before .before in
     sym (pay-left _ _ _ (t .before .loop-test .taken) (sym (c .before .a .given .1) ∙ t .pay .ensures)) ∙ t .before .before .loop .inv
 
--- src/lib.rt:102:5
 returns-3 : tie.Need-returns-3 Inv-loop μ-loop
 returns-3 c =
     let z : c .before .loop .left ≡ 0 = omega arith in

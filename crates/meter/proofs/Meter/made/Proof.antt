@@ -1,16 +1,13 @@
+-- `Meter::made`: a difference, or 0. Assumes nothing.
 use borrow.Author.Needs.{needs}
 use Rattle.meter.specs.Meter.{made}
 use Rattle.meter.proofs.Meter.made.Statement.{statement}
 use Rattle.meter.proofs.Meter.made.Tie as tie
-use Rattle.meter.proofs.Meter.made.Reads as reads
-use Rattle.meter.proofs.Meter.made.Lts as lts
 
--- src/lib.rt:37:13
 returns : tie.Need-returns
 unfolding made
 returns c = search needs
 
--- src/lib.rt:33:5
 returns-2 : tie.Need-returns-2
 unfolding made
 returns-2 c = search needs

@@ -1,12 +1,10 @@
+-- `LearningLimits::store`. Assumes nothing.
 use borrow.Author.Needs.{needs}
 use mathlib.Core.Path.{refl}
 use Rattle.model.specs.Records.{limitsOf, storeLimits}
 use Rattle.model.proofs.LearningLimits.store.Statement.{statement}
 use Rattle.model.proofs.LearningLimits.store.Tie as tie
-use Rattle.model.proofs.LearningLimits.store.Reads as reads
-use Rattle.model.proofs.LearningLimits.store.Lts as lts
 
--- src/lib.rt:49:5
 returns : tie.Need-returns
 unfolding limitsOf storeLimits
 returns c = refl

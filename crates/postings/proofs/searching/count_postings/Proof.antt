@@ -34,7 +34,7 @@ abbrev at-start-from-zero-first : tie.After-zero-first Inv-loop μ-loop → tie.
 at-start-from-zero-first c = at-start-from-conditions (c .before)
 
 laid : (c : tie.Start Inv-loop μ-loop) → Laid (slotAt (now (c .args .slots)) 0)
-laid c = laid-stored (c .args .header .limits .atoms) (slotAt (now (c .args .slots)) 0) (c .pre .0 .stored 0 (c .pre .1 .1))
+laid c = laid-stored (c .args .header .limits .atoms) (slotAt (now (c .args .slots)) 0) (c .pre .0 .held .over .stored 0 (c .pre .1 .1))
 
 module _ (c : tie.After-zero-first2 Inv-loop μ-loop) where
   abbrev root : tie.Start Inv-loop μ-loop

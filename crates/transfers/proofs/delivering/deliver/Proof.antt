@@ -90,8 +90,8 @@ returns c =
     let refusal = c .before .before in
     let t = at-start refusal in
     let a = t .args in
-    ap (λ r. transferEnd r (now (a .tier-slots)) (now (a .tier-postings)) (now (a .store-slots)) (now (a .store-postings))
-    (deliver (T t) (S t) (a .work))) (c .untransferred .ensures)
+    ap (λ r. transferEnd r (now (a .tier-slots)) (now (a .tier-postings)) (now (a .store-slots)) (now (a .store-postings)))
+    (c .untransferred .ensures)
     ∙ deliver-refused (a .tier) (a .store) (now (a .tier-slots)) (now (a .tier-postings)) (now (a .store-slots)) (now (a .store-postings))
     (a .work) _
     (sym (refusal .refusal .ensures) ∙ refusedBy-some _ (c .before .if1 .taken))
