@@ -29,7 +29,7 @@ struct Passed {
     scratch: bool,
 }
 
-fn judged(refused: u64, same: bool) -> Tried {
+fn outcome(refused: u64, same: bool) -> Tried {
     if refused == 0 {
         return Tried { refused, wrong: 0 };
     }
@@ -189,7 +189,7 @@ fn compare(
     let p = with_scratch(operation, w, words, slots, postings, first, second);
     let a = ledger_kept(w, words, slots, postings);
     let b = pair_kept(operation, w, first, second);
-    judged(p.refused, a & b & p.scratch)
+    outcome(p.refused, a & b & p.scratch)
 }
 
 // Copies a part, for which there is room, and answers how many words it has.
