@@ -40,15 +40,15 @@ fn outcome(refused: u64, same: bool) -> Tried {
 }
 
 // ---- What a call is lent, out of the words of a copy.
-// The part that starts at `at`: so many words, or as many as there is room for.
-fn part(length: u64, at: usize, room: usize) -> Bounds
-    requires { ⌜ at + room ≤ 1700 ⌝ }
-    ensures { λ r. ⌜ (r .from ≤ r .to) × (r .to ≤ r .from + room) × (r .to ≤ 1700) ⌝ }
+// The part that starts at `at`: so many words, or at most `most`.
+fn part(length: u64, at: usize, most: usize) -> Bounds
+    requires { ⌜ at + most ≤ 1700 ⌝ }
+    ensures { λ r. ⌜ (r .from ≤ r .to) × (r .to ≤ r .from + most) × (r .to ≤ 1700) ⌝ }
 {
-    if room as u64 <= length {
+    if most as u64 <= length {
         return Bounds {
             from: at,
-            to: at + room,
+            to: at + most,
         };
     }
     Bounds {
@@ -192,7 +192,7 @@ fn compare(
     outcome(p.refused, a & b & p.scratch)
 }
 
-// Copies a part, for which there is room, and answers how many words it has.
+// Copies a part, for which there is space, and answers how many words it has.
 fn lend(w: &[u64], p: Bounds, into: &mut [u64]) -> usize
     requires { ⌜ (p .from ≤ p .to) × (p .to ≤ length (now w)) × (p .to ≤ p .from + length (now into)) ⌝ }
     ensures { λ r. ⌜ r ≤ length (now (into .entry)) ⌝ }
@@ -326,16 +326,16 @@ fn run(s: &[u8], out: &mut [u8]) {
 }
 
 fn main() {
-    let mut input = room();
+    let mut input = input_buffer();
     let mut out = io::large_buffer();
     let n = io::read_full(0, &mut input);
     text::join_lines(&mut input);
     run(&input[0..n], &mut out);
 }
 
-// ---- Rooms, each with its length said.
+// ---- Buffers, each with its length said.
 // The input.
-fn room() -> [u8; 524288]
+fn input_buffer() -> [u8; 524288]
     ensures { λ r. ⌜ 524288 ≡ length r ⌝ }
 {
     [0; 524288]

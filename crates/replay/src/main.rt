@@ -61,8 +61,8 @@ fn no_list(s: &[u8]) -> Listed {
     }
 }
 
-// So many words, into a room that is all zeros.
-fn fill(s: &[u8], at: usize, count: u64, room: &mut [u64]) -> Listed {
+// So many words, into a buffer that is all zeros.
+fn fill(s: &[u8], at: usize, count: u64, buffer: &mut [u64]) -> Listed {
     let mut next = at;
     let mut i: u64 = 0;
     while i < count {
@@ -75,7 +75,7 @@ fn fill(s: &[u8], at: usize, count: u64, room: &mut [u64]) -> Listed {
         if count - i < times {
             return no_list(s);
         }
-        store(room, i, word);
+        store(buffer, i, word);
         i += times;
         next = after;
     }
@@ -86,11 +86,11 @@ fn fill(s: &[u8], at: usize, count: u64, room: &mut [u64]) -> Listed {
     }
 }
 
-fn read_words(s: &[u8], at: usize, room: &mut [u64]) -> Listed {
+fn read_words(s: &[u8], at: usize, buffer: &mut [u64]) -> Listed {
     let Parsed::Number(count, next) = text::number(s, at) else {
         return no_list(s);
     };
-    fill(s, next, count, room)
+    fill(s, next, count, buffer)
 }
 
 // ---- Lists out.
@@ -201,8 +201,8 @@ fn with_scratch(
     out: &mut [u8],
     to: usize,
 ) -> Ended {
-    let mut third = list_room();
-    let mut fourth = list_room();
+    let mut third = list_buffer();
+    let mut fourth = list_buffer();
     let a = read_words(s, at, &mut third);
     let b = read_words(s, a.at, &mut fourth);
     let n = kept(&third, a.count);
@@ -232,8 +232,8 @@ fn with_pair(
     out: &mut [u8],
     to: usize,
 ) -> Ended {
-    let mut first = list_room();
-    let mut second = list_room();
+    let mut first = list_buffer();
+    let mut second = list_buffer();
     let a = read_words(s, at, &mut first);
     let b = read_words(s, a.at, &mut second);
     let n = kept(&first, a.count);
@@ -254,8 +254,8 @@ fn with_pair(
 
 fn call_at(operation: u64, s: &[u8], at: usize, out: &mut [u8], to: usize) -> Ended {
     let mut words = [0u64; 62];
-    let mut slots = slots_room();
-    let mut postings = postings_room();
+    let mut slots = slots_buffer();
+    let mut postings = postings_buffer();
     let l = read_words(s, at, &mut words);
     let a = read_words(s, l.at, &mut slots);
     let b = read_words(s, a.at, &mut postings);
@@ -305,37 +305,37 @@ fn run(s: &[u8], out: &mut [u8]) {
 }
 
 fn main() {
-    let mut input = room();
+    let mut input = input_buffer();
     let mut out = io::large_buffer();
     let n = io::read_full(0, &mut input);
     text::join_lines(&mut input);
     run(&input[0..n], &mut out);
 }
 
-// ---- Rooms, each with its length said.
+// ---- Buffers, each with its length said.
 // The input.
-fn room() -> [u8; 524288]
+fn input_buffer() -> [u8; 524288]
     ensures { λ r. ⌜ 524288 ≡ length r ⌝ }
 {
     [0; 524288]
 }
 
 // The slots of 67 rows.
-fn slots_room() -> [u64; 11256]
+fn slots_buffer() -> [u64; 11256]
     ensures { λ r. ⌜ 11256 ≡ length r ⌝ }
 {
     [0; 11256]
 }
 
 // The postings of 67 rows.
-fn postings_room() -> [u64; 5360]
+fn postings_buffer() -> [u64; 5360]
     ensures { λ r. ⌜ 5360 ≡ length r ⌝ }
 {
     [0; 5360]
 }
 
 // Any other slice: the slots of six rows at most.
-fn list_room() -> [u64; 1008]
+fn list_buffer() -> [u64; 1008]
     ensures { λ r. ⌜ 1008 ≡ length r ⌝ }
 {
     [0; 1008]

@@ -1,4 +1,4 @@
--- The invariant of `fill`: the room stays as long as it was, and the words left fall. Assumes nothing.
+-- The invariant of `fill`: the buffer stays as long as it was, and the words left fall. Assumes nothing.
 use mathlib.Core.Path.{_≡_}
 use Prim.Native.Nat.{_-_, _≤_}
 use lib.ListN.{length}
@@ -7,10 +7,10 @@ use Rattle.replay.proofs.fill.Statement.{statement}
 use Rattle.replay.proofs.fill.Tie as tie
 
 abbrev Inv-loop : tie.InvT-loop
-Inv-loop s at count room₀ next₀ i₀ room next i = (length room ≡ length room₀) × (i ≤ count)
+Inv-loop s at count buffer₀ next₀ i₀ buffer next i = (length buffer ≡ length buffer₀) × (i ≤ count)
 
 abbrev μ-loop : tie.MeasureT-loop
-μ-loop s at count room₀ next₀ i₀ room next i = count - i
+μ-loop s at count buffer₀ next₀ i₀ buffer next i = count - i
 
 loop-holds : tie.Need-loop-holds Inv-loop μ-loop
 loop-holds c = search needs
