@@ -18,8 +18,8 @@ use Rattle.operations.specs.Ends.{makeEnd, beginEnd, hitEnd, deduceEnd, outputE
 use Rattle.wire.specs.declared.ReplyWords.{ReplyWords}
 use Rattle.wire.specs.Words.{flagIn, limitsIn, headerIn, headerWords, meterIn, meterWords, cursorIn, cursorWords}
 use Rattle.model.specs.Answers.{makeReply, madeHeader, beginReply, hitReply, deduceReply, nextReply, decideReply}
-use Rattle.wire.specs.Replies.{replyWords, answerWords, madeWords}
-use Rattle.boundary.specs.Calls.{left, makeLeft, makeCall, beginLeft, beginCall, hitLeft, hitCall, deduceLeft, deduceCall, outputLeft}
+use Rattle.wire.specs.Replies.{left, replyWords, answerWords, madeWords}
+use Rattle.boundary.specs.Calls.{makeLeft, makeCall, beginLeft, beginCall, hitLeft, hitCall, deduceLeft, deduceCall, outputLeft}
 use Rattle.boundary.specs.Calls.{outputCall, decideLeft, decideCall}
 use Rattle.boundary.proofs.Leaving.{refused-way, done-way}
 use Rattle.boundary.proofs.Keeping.{makeLends, hitLends, decideLends, make-keeps, hit-keeps, decide-keeps}

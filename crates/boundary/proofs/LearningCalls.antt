@@ -15,8 +15,7 @@ use Rattle.close.specs.Ends.{closedEnd}
 use Rattle.wire.specs.declared.ReplyWords.{ReplyWords}
 use Rattle.wire.specs.Words.{headerIn, headerWords, meterIn, meterWords}
 use Rattle.model.specs.Answers.{offerReply, candidatesReply, closeReply}
-use Rattle.wire.specs.Replies.{replyWords, answerWords}
-use Rattle.boundary.specs.Calls.{left}
+use Rattle.wire.specs.Replies.{left, replyWords, answerWords}
 use Rattle.boundary.specs.Learning.{offerLeft, offerCall, candidatesLeft, candidatesCall, closeLeft, closeCall}
 use Rattle.boundary.proofs.Leaving.{refused-way, done-way}
 use Rattle.boundary.proofs.Calling.{number, answer-told}

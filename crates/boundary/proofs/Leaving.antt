@@ -3,7 +3,8 @@ use mathlib.Core.Path.{_≡_, refl, sym, ap, _∙_}
 use mathlib.Core.List.{List}
 use mathlib.Core.Option.{Option, none, some}
 use Prim.Native.Nat.{ℕ, zero, suc}
-use Rattle.boundary.specs.Calls.{Left, left, unlessRefused, leaves}
+use Rattle.wire.specs.Replies.{Left, left}
+use Rattle.boundary.specs.Calls.{unlessRefused, leaves}
 
 refused : (old new : List (List ℕ)) (n : ℕ) → (n ≡ 0 → ⊥) → left n old ≡ unlessRefused old n new
 refused old new zero f = absurd (f refl)

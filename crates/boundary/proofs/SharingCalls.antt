@@ -11,8 +11,7 @@ use Rattle.transfers.specs.Ends.{transferEnd}
 use Rattle.wire.specs.declared.ReplyWords.{ReplyWords}
 use Rattle.wire.specs.Words.{headerIn, headerWords, meterIn, meterWords}
 use Rattle.model.specs.Answers.{transferReply}
-use Rattle.wire.specs.Replies.{replyWords, answerWords}
-use Rattle.boundary.specs.Calls.{left}
+use Rattle.wire.specs.Replies.{left, replyWords, answerWords}
 use Rattle.boundary.specs.Sharing.{seedLeft, seedCall, deliverLeft, deliverCall}
 use Rattle.boundary.proofs.Leaving.{refused-way, done-way}
 use Rattle.boundary.proofs.Calling.{number, answer-told}

@@ -5,15 +5,7 @@ use Prim.Native.Nat.{ℕ, zero, suc}
 use Rattle.model.specs.Operations.{MakeEnd, BeginEnd, HitEnd, DeduceEnd, NextEnd, DecideEnd, make, begin, hit, deduce, nextOutput, decide}
 use Rattle.contents.specs.Lent.{lent}
 use Rattle.wire.specs.Words.{flagIn, limitsIn, headerIn, headerWords, meterIn, meterWords, cursorIn, cursorWords}
-use Rattle.wire.specs.Replies.{replyWords, answerWords, madeWords}
-
--- the result, and the words of each slice that the call may write
-pub record Left : Type 0 where
-  pub result : ℕ
-  pub words : List (List ℕ)
-
-abbrev pub left : ℕ → List (List ℕ) → Left
-left r ws = record { result = r; words = ws }
+use Rattle.wire.specs.Replies.{Left, left, replyWords, answerWords, madeWords}
 
 -- refused: the number, and every word as it was
 abbrev pub unlessRefused : List (List ℕ) → ℕ → List (List ℕ) → Left

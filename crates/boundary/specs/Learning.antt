@@ -5,8 +5,8 @@ use Prim.Native.Nat.{ℕ}
 use Rattle.model.specs.Operations.{OfferEnd, CandidatesEnd, CloseEnd, offer, candidates, close}
 use Rattle.contents.specs.Lent.{lent}
 use Rattle.wire.specs.Words.{headerIn, headerWords, meterIn, meterWords}
-use Rattle.wire.specs.Replies.{replyWords, answerWords}
-use Rattle.boundary.specs.Calls.{Left, left, leaves}
+use Rattle.wire.specs.Replies.{Left, left, replyWords, answerWords}
+use Rattle.boundary.specs.Calls.{leaves}
 
 -- ---- Offer
 abbrev pub offerLeft : OfferEnd → Left

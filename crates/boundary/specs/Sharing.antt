@@ -6,8 +6,8 @@ use Prim.Native.Nat.{ℕ}
 use Rattle.model.specs.Operations.{TransferEnd, seed, deliver}
 use Rattle.contents.specs.Lent.{lent}
 use Rattle.wire.specs.Words.{headerIn, headerWords, meterIn, meterWords}
-use Rattle.wire.specs.Replies.{replyWords, answerWords}
-use Rattle.boundary.specs.Calls.{Left, left, leaves}
+use Rattle.wire.specs.Replies.{Left, left, replyWords, answerWords}
+use Rattle.boundary.specs.Calls.{leaves}
 
 -- ---- Seed: the tier takes rows, and the store counts them
 abbrev pub seedLeft : TransferEnd → Left

@@ -2,7 +2,8 @@
 // Each gives back 0, or the number of a refusal, and then no lent word is written. include/ledger.h says what the words are.
 ghost use mathlib.Core.Path.{_≡_};
 ghost use mathlib.Core.List.{[], _∷_};
-ghost use Rattle.boundary.specs.Calls.{left, makeCall, beginCall, hitCall, deduceCall, outputCall, decideCall};
+ghost use Rattle.wire.specs.Replies.{left};
+ghost use Rattle.boundary.specs.Calls.{makeCall, beginCall, hitCall, deduceCall, outputCall, decideCall};
 ghost use Rattle.boundary.specs.Learning.{offerCall, candidatesCall, closeCall};
 ghost use Rattle.boundary.specs.Sharing.{seedCall, deliverCall};
 use close::close;

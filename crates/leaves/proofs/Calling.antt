@@ -17,11 +17,12 @@ use Rattle.model.specs.Rows.{prepareReads}
 use Rattle.model.specs.Deduction.{deduction, deductionTicks}
 use Rattle.row_deduce.specs.declared.Deduced.{Deduced}
 use Rattle.row_deduce.specs.Walks.{deduced}
-use Rattle.leaves.specs.Calls.{given, unless, again, asked, payer, Prepared, prepared, prepareOnce, preparer, deduceOnce}
+use Rattle.wire.specs.Replies.{left}
+use Rattle.leaves.specs.Calls.{unless, again, asked, payer, Prepared, prepared, prepareOnce, preparer, deduceOnce}
 
 -- ---- the tests
 module _ {b : Bool} (n : ℕ) (ts : List (Bool × ℕ)) (old new : List (List ℕ)) where
-  pub fails : b ≡ false → given n old ≡ unless ((b, n) ∷ ts) old new
+  pub fails : b ≡ false → left n old ≡ unless ((b, n) ∷ ts) old new
   unfolding unless
   fails e = rw e
 
@@ -29,7 +30,7 @@ module _ {b : Bool} (n : ℕ) (ts : List (Bool × ℕ)) (old new : List (List �
   unfolding unless
   passes e = rw e
 
-pub passed : (old new : List (List ℕ)) → given 0 new ≡ unless [] old new
+pub passed : (old new : List (List ℕ)) → left 0 new ≡ unless [] old new
 unfolding unless
 passed old new = refl
 

@@ -26,7 +26,7 @@ use Rattle.slots.specs.Layout.{rowOf}
 use Rattle.row_propose.specs.Proposed.{Proposed}
 use Rattle.row_propose.proofs.Proposing.{proposed-over}
 use Rattle.row_write.specs.Forms.{newEntry}
-use Rattle.leaves.specs.Fit.{LaidOut}
+use Rattle.leaves.specs.Fit.{LaidAs}
 use Rattle.leaves.specs.Calls.{rowFits}
 
 -- nothing is told where a test said no
@@ -79,8 +79,8 @@ module _ (n : ℕ) (r : Row) (f : rowFits n r ≡ true) where
   pub fits-proposed : (ws : List ℕ) → ws ≡ proposal r → Proposed ws
   fits-proposed ws e = subst Proposed (sym e) (proposed-over n r fits-atoms (both .1))
 
-  pub fits-laid : (ws : List ℕ) → ws ≡ proposal r → LaidOut r ws
-  fits-laid ws e = subst (LaidOut r) (sym e) (record { laid = laid-proposal r valid; row = row-proposal r })
+  pub fits-laid : (ws : List ℕ) → ws ≡ proposal r → LaidAs r ws
+  fits-laid ws e = subst (LaidAs r) (sym e) (record { laid = laid-proposal r valid; row = row-proposal r })
 
   -- its slot
   pub fits-stored : (ws : List ℕ) → ws ≡ slotOf (newEntry r 0 0) → Stored n ws
@@ -89,7 +89,7 @@ module _ (n : ℕ) (r : Row) (f : rowFits n r ≡ true) where
   pub fits-row : (ws : List ℕ) → ws ≡ slotOf (newEntry r 0 0) → rowIn ws ≡ r
   fits-row ws e = ap rowIn e ∙ row-there (newEntry r 0 0) valid
 
-  pub fits-slot : (ws : List ℕ) → ws ≡ slotOf (newEntry r 0 0) → LaidOut r ws
+  pub fits-slot : (ws : List ℕ) → ws ≡ slotOf (newEntry r 0 0) → LaidAs r ws
   fits-slot ws e = record { laid = laid-stored n ws (fits-stored ws e); row = fits-row ws e }
 
 -- what was written from a proposal

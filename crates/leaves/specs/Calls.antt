@@ -33,6 +33,7 @@ use Rattle.row_write.specs.Forms.{newEntry}
 use Rattle.row_deduce.specs.declared.Deduced.{Deduced}
 use Rattle.row_deduce.specs.Walks.{deduced}
 use Rattle.model.specs.Answers.{flagWord}
+use Rattle.wire.specs.Replies.{Left, left}
 use Rattle.wire.specs.Words.{flagIn, cursorIn, cursorWords}
 
 -- ---- the words `paying`: the reads of the account, whether it is the sharing one, the meter's charged and limit
@@ -72,9 +73,9 @@ abbrev pub deducedWords : Deduced → List ℕ
 deducedWords d =
     elim (d .stopped) [ true ↦ 0 ∷ 0 ∷ 0 ∷ d .meter .charged ∷ [] | false ↦ saidWords (d .deduction) (d .meter .charged) ]
 
-abbrev pub foundWords : Option ℕ → List ℕ
-foundWords none = 0 ∷ 0 ∷ 0 ∷ 0 ∷ []
-foundWords (some a) = 1 ∷ a ∷ 0 ∷ 0 ∷ []
+abbrev pub nextFromWords : Option ℕ → List ℕ
+nextFromWords none = 0 ∷ 0 ∷ 0 ∷ 0 ∷ []
+nextFromWords (some a) = 1 ∷ a ∷ 0 ∷ 0 ∷ []
 
 -- ---- what was not given: the first test that fails has its number for result, and every word is as it was
 abbrev pub noRow : ℕ
@@ -92,17 +93,9 @@ noChoice = 4
 abbrev pub noSlot : ℕ
 noSlot = 5
 
--- the result, and the words of each slice that the call may write
-pub record Given : Type 0 where
-  pub result : ℕ
-  pub words : List (List ℕ)
-
-abbrev pub given : ℕ → List (List ℕ) → Given
-given r ws = record { result = r; words = ws }
-
-unfoldable pub unless : List (Bool × ℕ) → List (List ℕ) → List (List ℕ) → Given
-unless [] old new = given 0 new
-unless (t ∷ ts) old new = elim (t .0) [ true ↦ unless ts old new | false ↦ given (t .1) old ]
+unfoldable pub unless : List (Bool × ℕ) → List (List ℕ) → List (List ℕ) → Left
+unless [] old new = left 0 new
+unless (t ∷ ts) old new = elim (t .0) [ true ↦ unless ts old new | false ↦ left (t .1) old ]
 
 unfoldable pub rowFits : ℕ → Row → Bool
 rowFits n r = leb n maxAtoms && isRow n r
@@ -142,14 +135,14 @@ preparer e = (e .judged .account, e .judged .meter, e .slot)
 abbrev pub prepareTimes : Row → ℕ → Account → Meter → List ℕ → Prepared
 prepareTimes r times a m s = again (prepareOnce r) preparer (times - 1) (a, m, s)
 
-unfoldable pub prepareCall : ℕ → List ℕ → List ℕ → List ℕ → ℕ → List ℕ → List ℕ → Given
+unfoldable pub prepareCall : ℕ → List ℕ → List ℕ → List ℕ → ℕ → List ℕ → List ℕ → Left
 prepareCall atoms cs os paying times slot answer =
     let e : Prepared = prepareTimes (rowOf cs os) times (accountIn paying) (meterOf paying) slot in
     unless ((rowFits atoms (rowOf cs os), noRow) ∷ (eqb (length slot) slotWords, noSlot) ∷ [])
     (slot ∷ answer ∷ []) (e .slot ∷ judgedWords (e .judged) ∷ [])
 
 -- ---- includes, subsumes; whichever form the rows are in, 3 at most of the four ways to choose them
-unfoldable pub includesCall : ℕ → List ℕ → List ℕ → ℕ → List ℕ → ℕ → List ℕ → Given
+unfoldable pub includesCall : ℕ → List ℕ → List ℕ → ℕ → List ℕ → ℕ → List ℕ → Left
 includesCall atoms cs ws forms paying times answer =
     unless ((rowFits atoms (rowOf [] cs), noRow) ∷ (rowFits atoms (rowOf [] ws), noRow) ∷ (leb forms 3, noChoice) ∷ [])
     (answer ∷ [])
@@ -159,7 +152,7 @@ abbrev pub subsumesWords : Row → Row → List ℕ → ℕ → List ℕ
 subsumesWords r s paying times =
     judgedWords (askedTimes (subsumes r s) (subsumesReads r s) times (accountIn paying) (meterOf paying))
 
-unfoldable pub subsumesCall : ℕ → Row → Row → ℕ → List ℕ → ℕ → List ℕ → Given
+unfoldable pub subsumesCall : ℕ → Row → Row → ℕ → List ℕ → ℕ → List ℕ → Left
 subsumesCall atoms r s turned paying times answer =
     unless ((rowFits atoms r, noRow) ∷ (rowFits atoms s, noRow) ∷ []) (answer ∷ [])
     ((elim (flagIn turned) [ true ↦ subsumesWords s r paying times | false ↦ subsumesWords r s paying times ]) ∷ [])
@@ -171,7 +164,7 @@ unitedBy r t j = ifYes (j .verdict) (proposal (grown r t)) (proposal t)
 abbrev pub unionTimes : ℕ → Row → Row → ℕ → Account → Meter → Judged
 unionTimes most r t times a m = askedTimes (joins most r t) (joinReads most r t) times a m
 
-unfoldable pub unionCall : ℕ → Row → Row → ℕ → List ℕ → ℕ → List ℕ → List ℕ → Given
+unfoldable pub unionCall : ℕ → Row → Row → ℕ → List ℕ → ℕ → List ℕ → List ℕ → Left
 unionCall atoms r t most paying times slot answer =
     let j : Judged = unionTimes most r t times (accountIn paying) (meterOf paying) in
     unless
@@ -185,7 +178,7 @@ deduceOnce q r m = deduced (deduction q r) m (ticks (deductionTicks q r) m)
 abbrev pub deduceTimes : Region → Row → ℕ → Meter → Deduced
 deduceTimes q r times m = again (deduceOnce q r) (λ d. d .meter) (times - 1) m
 
-unfoldable pub deductionCall : ℕ → Row → List ℕ → List ℕ → List ℕ → ℕ → List ℕ → Given
+unfoldable pub deductionCall : ℕ → Row → List ℕ → List ℕ → List ℕ → ℕ → List ℕ → Left
 deductionCall atoms r held cut paying times answer =
     unless ((rowFits atoms r, noRow) ∷ (isRegion atoms (region held cut), noRegion) ∷ []) (answer ∷ [])
     (deducedWords (deduceTimes (region held cut) r times (meterOf paying)) ∷ [])
@@ -194,7 +187,7 @@ deductionCall atoms r held cut paying times answer =
 abbrev pub nextLeft : Published → List (List ℕ)
 nextLeft x = cursorWords (x .cursor) ∷ nextWords (nextAnswer (x .next)) (x .meter .charged) ∷ []
 
-unfoldable pub nextCall : ℕ → Row → List ℕ → List ℕ → List ℕ → List ℕ → List ℕ → Given
+unfoldable pub nextCall : ℕ → Row → List ℕ → List ℕ → List ℕ → List ℕ → List ℕ → Left
 nextCall atoms r held cut cursor paying answer =
     unless
     ((rowFits atoms r, noRow) ∷ (isRegion atoms (region held cut), noRegion) ∷ (cursorOk r (cursorIn cursor), noCursor) ∷ [])
@@ -204,11 +197,11 @@ nextCall atoms r held cut cursor paying answer =
 abbrev pub decideLeft : Decision → List (List ℕ)
 decideLeft d = d .after .held ∷ d .after .cut ∷ (flagWord (d .answer) ∷ 0 ∷ 0 ∷ 0 ∷ []) ∷ []
 
-unfoldable pub decideCall : ℕ → List ℕ → List ℕ → ℕ → ℕ → List ℕ → Given
+unfoldable pub decideCall : ℕ → List ℕ → List ℕ → ℕ → ℕ → List ℕ → Left
 decideCall atoms held cut atom value answer =
     unless ((isRegion atoms (region held cut), noRegion) ∷ []) (held ∷ cut ∷ answer ∷ [])
     (decideLeft (decisionOn atoms held cut (code atom (flagIn value))))
 
 -- ---- next_from
-abbrev pub foundCall : List ℕ → ℕ → Given
-foundCall ws from = given 0 (foundWords (nextFrom maxWord ws from) ∷ [])
+abbrev pub foundCall : List ℕ → ℕ → Left
+foundCall ws from = left 0 (nextFromWords (nextFrom maxWord ws from) ∷ [])

@@ -7,6 +7,6 @@ use Rattle.model.specs.Slots.{rowIn}
 use Rattle.slots.specs.Layout.{Laid}
 
 -- words that are laid out as this row, in either form
-pub record LaidOut (r : Row) (ws : List ℕ) : Type 0 where
+pub record LaidAs (r : Row) (ws : List ℕ) : Type 0 where
   pub laid : Laid ws
   pub row : rowIn ws ≡ r

@@ -23,8 +23,9 @@ ghost use Rattle.row_propose.specs.Proposed.{Proposed};
 ghost use Rattle.row_write.specs.Forms.{newEntry};
 ghost use Rattle.row_deduce.specs.Chunks.{Matched};
 ghost use Rattle.model.specs.Answers.{flagWord};
-ghost use Rattle.leaves.specs.Fit.{LaidOut};
-ghost use Rattle.leaves.specs.Calls.{accountIn, meterOf, verdictNumber, judgedWords, deducedWords, nextWords, rowFits, given};
+ghost use Rattle.wire.specs.Replies.{left};
+ghost use Rattle.leaves.specs.Fit.{LaidAs};
+ghost use Rattle.leaves.specs.Calls.{accountIn, meterOf, verdictNumber, judgedWords, deducedWords, nextWords, rowFits};
 ghost use Rattle.leaves.specs.Calls.{askedTimes, prepared, preparedBy, prepareTimes, unitedBy, unionTimes, deduceTimes};
 ghost use Rattle.leaves.specs.Calls.{prepareCall, includesCall, subsumesCall, unionCall, deductionCall, nextCall, decideCall};
 ghost use Rattle.leaves.specs.Calls.{foundCall};
@@ -211,7 +212,7 @@ fn store(atoms: u64, conditions: &[u64], outputs: &[u64], slot: &mut [u64]) -> b
 fn lay(atoms: u64, conditions: &[u64], outputs: &[u64], stored: bool, ws: &mut [u64]) -> bool
     requires { ⌜ length (now ws) ≡ slotWords ⌝ }
     ensures { λ r. ⌜ (r ≡ rowFits atoms (rowOf (now (conditions .entry)) (now (outputs .entry))))
-        × (r ≡ true → LaidOut (rowOf (now (conditions .entry)) (now (outputs .entry))) (now (ws .exit))) ⌝ }
+        × (r ≡ true → LaidAs (rowOf (now (conditions .entry)) (now (outputs .entry))) (now (ws .exit))) ⌝ }
 {
     if stored {
         return store(atoms, conditions, outputs, ws);
@@ -367,7 +368,7 @@ pub extern "C" fn leaf_prepare(
     slot: &mut [u64],
     answer: &mut [u64; 4],
 ) -> u64
-    ensures { λ r. ⌜ given r (now (slot .exit) ∷ now (answer .exit) ∷ [])
+    ensures { λ r. ⌜ left r (now (slot .exit) ∷ now (answer .exit) ∷ [])
         ≡ prepareCall atoms (now (conditions .entry)) (now (outputs .entry)) (now (paying .entry)) times
         (now (slot .entry)) (now (answer .entry)) ⌝ }
 {
@@ -394,7 +395,7 @@ pub extern "C" fn leaf_includes(
     times: u64,
     answer: &mut [u64; 4],
 ) -> u64
-    ensures { λ r. ⌜ given r (now (answer .exit) ∷ []) ≡ includesCall atoms (now (candidates .entry)) (now (wanted .entry)) forms
+    ensures { λ r. ⌜ left r (now (answer .exit) ∷ []) ≡ includesCall atoms (now (candidates .entry)) (now (wanted .entry)) forms
         (now (paying .entry)) times (now (answer .entry)) ⌝ }
 {
     let mut a = [0u64; SLOT_WORDS];
@@ -426,7 +427,7 @@ pub extern "C" fn leaf_subsumes(
     times: u64,
     answer: &mut [u64; 4],
 ) -> u64
-    ensures { λ r. ⌜ given r (now (answer .exit) ∷ []) ≡ subsumesCall atoms (rowOf (now (conditions .entry)) (now (outputs .entry)))
+    ensures { λ r. ⌜ left r (now (answer .exit) ∷ []) ≡ subsumesCall atoms (rowOf (now (conditions .entry)) (now (outputs .entry)))
         (rowOf (now («other_conditions» .entry)) (now («other_outputs» .entry))) turned (now (paying .entry)) times
         (now (answer .entry)) ⌝ }
 {
@@ -462,7 +463,7 @@ pub extern "C" fn leaf_union_outputs(
     slot: &mut [u64],
     answer: &mut [u64; 4],
 ) -> u64
-    ensures { λ v. ⌜ given v (now (slot .exit) ∷ now (answer .exit) ∷ [])
+    ensures { λ v. ⌜ left v (now (slot .exit) ∷ now (answer .exit) ∷ [])
         ≡ unionCall atoms (rowOf (now (conditions .entry)) (now (outputs .entry)))
         (rowOf (now («other_conditions» .entry)) (now («other_outputs» .entry))) maximum (now (paying .entry)) times
         (now (slot .entry)) (now (answer .entry)) ⌝ }
@@ -506,7 +507,7 @@ pub extern "C" fn leaf_deduction(
     times: u64,
     answer: &mut [u64; 4],
 ) -> u64
-    ensures { λ r. ⌜ given r (now (answer .exit) ∷ [])
+    ensures { λ r. ⌜ left r (now (answer .exit) ∷ [])
         ≡ deductionCall atoms (rowOf (now (conditions .entry)) (now (outputs .entry))) (now (held .entry)) (now (cut .entry))
         (now (paying .entry)) times (now (answer .entry)) ⌝ }
 {
@@ -534,7 +535,7 @@ pub extern "C" fn leaf_next_output(
     paying: &[u64; 4],
     answer: &mut [u64; 4],
 ) -> u64
-    ensures { λ r. ⌜ given r (now (cursor .exit) ∷ now (answer .exit) ∷ [])
+    ensures { λ r. ⌜ left r (now (cursor .exit) ∷ now (answer .exit) ∷ [])
         ≡ nextCall atoms (rowOf (now (conditions .entry)) (now (outputs .entry))) (now (held .entry)) (now (cut .entry))
         (now (cursor .entry)) (now (paying .entry)) (now (answer .entry)) ⌝ }
 {
@@ -566,7 +567,7 @@ pub extern "C" fn leaf_decide(
     value: u64,
     answer: &mut [u64; 4],
 ) -> u64
-    ensures { λ r. ⌜ given r (now (held .exit) ∷ now (cut .exit) ∷ now (answer .exit) ∷ [])
+    ensures { λ r. ⌜ left r (now (held .exit) ∷ now (cut .exit) ∷ now (answer .exit) ∷ [])
         ≡ decideCall atoms (now (held .entry)) (now (cut .entry)) atom value (now (answer .entry)) ⌝ }
 {
     if !words::is_region(atoms, held, cut) {
@@ -580,7 +581,7 @@ pub extern "C" fn leaf_decide(
 // 1 and the first position, or 0.
 #[no_mangle]
 pub extern "C" fn leaf_next_from(words: &[u64], from: u64, answer: &mut [u64; 4]) -> u64
-    ensures { λ r. ⌜ given r (now (answer .exit) ∷ []) ≡ foundCall (now (words .entry)) from ⌝ }
+    ensures { λ r. ⌜ left r (now (answer .exit) ∷ []) ≡ foundCall (now (words .entry)) from ⌝ }
 {
     match words::next_from(MAX_WORD, words, from) {
         Found::At(atom) => {

@@ -1,4 +1,4 @@
--- The number and the value of an answer (model's `..Reply`) as words, beside its ticks. Assumes nothing.
+-- The number and the value of an answer (model's `..Reply`) as words, beside its ticks; and what a function for C leaves. Assumes nothing.
 use mathlib.Core.List.{List, [], _∷_}
 use mathlib.Core.Option.{Option, none, some}
 use Prim.Native.Nat.{ℕ}
@@ -19,3 +19,11 @@ answerWords t ticks = t .case ∷ t .value ∷ ticks ∷ []
 abbrev pub madeWords : Option Header → List ℕ → List ℕ
 madeWords none old = old
 madeWords (some h) old = headerWords h
+
+-- the result, and the words of each slice that the call may write
+pub record Left : Type 0 where
+  pub result : ℕ
+  pub words : List (List ℕ)
+
+abbrev pub left : ℕ → List (List ℕ) → Left
+left r ws = record { result = r; words = ws }
