@@ -282,6 +282,33 @@ fn porter(lines: &mut Lines) {
     offered("protected", &full, (&[9], &[150]));
 }
 
+/// Rows whose groups are 0, 255, 256 and 511: two on either side, 256 apart, and all four on both; scalar with a literal in each, packed
+/// with four. A row is written in its form, and has each literal read again if it is packed.
+fn groups(lines: &mut Lines) {
+    let given = Given {
+        limits: limits(32_768, 2, 64, 0),
+        header: header(7, 0),
+        rows: Vec::new(),
+    };
+    let sides: [(&str, Codes<'_>); 2] = [
+        ("apart", (&[0, 256], &[255, 511])),
+        ("all", (&[0, 255, 256, 511], &[0, 255, 256, 511])),
+    ];
+    for (about, (conditions, outputs)) in sides {
+        for literals in [1, 4] {
+            let codes = |groups: &[u64]| -> Vec<u64> {
+                let codes = |group| (0..literals).map(move |place| 128 * group + 3 * place);
+                groups.iter().flat_map(|&group| codes(group)).collect()
+            };
+            lines.call(
+                &format!("groups:{about}:{literals}"),
+                &offer((&codes(conditions), &codes(outputs)), ENDLESS),
+                &mut alone(&given),
+            );
+        }
+    }
+}
+
 /// Transfers to a ledger whose rows are all protected.
 fn floors(lines: &mut Lines) {
     let held = Given {
@@ -317,5 +344,6 @@ pub fn write(lines: &mut Lines) {
     deliveries(lines);
     looks(lines);
     porter(lines);
+    groups(lines);
     floors(lines);
 }

@@ -4,14 +4,16 @@ use mathlib.Core.Bool.{Bool, true, false}
 use mathlib.Core.List.{List, [], _∷_}
 use Prim.Native.Nat.{ℕ, suc, _+_, _*_, _/_, _≤_, _<_}
 use native.Mathlib.Omega.{arith}
-use lib.Dec.{eqb, ltb}
+use lib.Dec.{eqb}
 use lib.ListN.{length, getD, drop, drop-of-length-le}
-use borrow.Author.Tests.{eq-eqb, ne-eqb, eqb-true, eqb-false, ltb-true}
-use Rattle.lists.specs.Lists.{all, below}
-use Rattle.lists.proofs.Bools.{and-both}
+use borrow.Author.Tests.{eq-eqb, ne-eqb, eqb-true, eqb-false}
+use Rattle.lists.specs.Lists.{below}
 use Rattle.lists.proofs.Concats.{drop-next}
+use Rattle.lists.proofs.Counts.{each-at}
+use Rattle.lists.proofs.Tests.{below-each}
+use Rattle.words.specs.Bit.{wordBits}
 use Rattle.words.specs.Literal.{atom, wordOf}
-use Rattle.words.specs.Region.{maxAtoms, maxWords}
+use Rattle.words.specs.Region.{maxAtoms}
 use Rattle.model.specs.Rows.{enter, groups}
 use Rattle.model.proofs.Packing.{groups-head}
 use Rattle.row_write.specs.Counts.{newWords}
@@ -52,23 +54,30 @@ new-groups c (d ∷ ds) =
         ap suc (new-other (wordOf (atom c)) d ds f ∙ e)
         ∙ sym (ap (λ (b : Bool). joined b es gs) (ne-eqb (wordOf (atom c)) (wordOf (atom d)) (λ s. f (sym s))))
 
--- before it: no code is of the word past the last
-not-past : (c : ℕ) → c < 2 * maxAtoms → wordOf (atom c) ≡ maxWords → ⊥
+-- the group of a proposal's code is a word of the most atoms, so it fits the 16 bits that the count holds it in
+pub group-under : (cs : List ℕ) (i : ℕ) → below (2 * maxAtoms) cs ≡ true → i < length cs → getD cs i 0 / 2 / 64 < maxAtoms / wordBits
+group-under cs i h l =
+    let b : getD cs i 0 < 2 * maxAtoms = each-at (λ v. v < 2 * maxAtoms) cs i (below-each (2 * maxAtoms) cs h) l in
+    omega arith
+
+-- no code, and the first one
+pub count-none : (cs : List ℕ) → length cs ≡ 0 → 0 ≡ length (groups cs)
+unfolding groups
+count-none [] e = refl
+count-none (c ∷ cs) e = absurd (omega arith)
+
+pub count-start : (cs : List ℕ) → (length cs ≡ 0 → ⊥) → suc (newWords (getD cs 0 0 / 2 / 64) (drop 1 cs)) ≡ length (groups cs)
 unfolding wordOf atom
-not-past c l e = omega arith
+count-start [] f = absurd (f refl)
+count-start (c ∷ cs) f = new-groups c cs
 
-pub count-start : (cs : List ℕ) → below (2 * maxAtoms) cs ≡ true → newWords maxWords cs ≡ length (groups cs)
-unfolding newWords groups below all
-count-start [] h = refl
-count-start (c ∷ cs) h =
-    let l = ltb-true c (2 * maxAtoms) (and-both (ltb c (2 * maxAtoms)) _ h .0) in
-    new-other maxWords c cs (not-past c l) ∙ new-groups c cs
-
--- a turn of the loop
+-- a turn of the loop, which moves on to the word of the code at i
 module _ (cs : List ℕ) (i x : ℕ) (l : i < length cs) where
-  pub count-same : getD cs i 0 / 2 / 64 ≡ x → newWords x (drop i cs) ≡ newWords x (drop (i + 1) cs)
+  pub count-same : getD cs i 0 / 2 / 64 ≡ x → newWords x (drop i cs) ≡ newWords (getD cs i 0 / 2 / 64) (drop (i + 1) cs)
   unfolding wordOf atom
-  count-same e = ap (newWords x) (drop-next cs i l) ∙ new-same x (getD cs i 0) (drop (i + 1) cs) e
+  count-same e =
+      ap (newWords x) (drop-next cs i l) ∙ new-same x (getD cs i 0) (drop (i + 1) cs) e
+      ∙ ap (λ (y : ℕ). newWords y (drop (i + 1) cs)) (sym e)
 
   pub count-new : (getD cs i 0 / 2 / 64 ≡ x → ⊥) → newWords x (drop i cs) ≡ suc (newWords (getD cs i 0 / 2 / 64) (drop (i + 1) cs))
   unfolding wordOf atom

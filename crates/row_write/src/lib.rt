@@ -30,12 +30,8 @@ use model::OUTPUTS_AT;
 use model::SLOT_WORDS;
 use model::TOTAL_GROUPS_AT;
 use model::UNSHARED_AT;
-use words::MAX_WORDS;
 use words::WORD_BITS;
 use words::locate;
-
-// The group of no code: above every group.
-const NO_GROUP: u64 = MAX_WORDS;
 
 // How a row stands in its slot: all its groups, and those of its conditions. Both 0: scalar.
 pub struct Form {
@@ -49,20 +45,27 @@ pub struct Prepared {
     pub form: Form,
 }
 
-// The groups of codes of a proposal: how many of them are of another word than the code before.
+// The groups of codes of a proposal: as many as the codes, but for those of the same word as the code before.
 fn count_words(codes: &[u64]) -> usize
     requires { ⌜ below (2 * maxAtoms) (now codes) ≡ true ⌝ }
     ensures { λ r. ⌜ r ≡ length (groups (now (codes .entry))) ⌝ }
 {
-    let mut count: usize = 0;
-    let mut previous = NO_GROUP;
-    let mut i: usize = 0;
+    if codes.len() == 0 {
+        return 0;
+    }
+    let mut count = codes.len();
+    // The group of the last literal. A proposal's codes are below 2 * MAX_ATOMS, so it is at most MAX_ATOMS / WORD_BITS - 1, which is 511
+    // over 32,768 atoms: 16 bits hold it.
+    let mut previous = (codes[0] / 2 / WORD_BITS) as u16;
+    let mut i: usize = 1;
     while i < codes.len() {
+        // Compared as whole words, which is faster.
+        let last = previous as u64;
         let group = codes[i] / 2 / WORD_BITS;
-        if group != previous {
-            count += 1;
-            previous = group;
+        if group == last {
+            count -= 1;
         }
+        previous = group as u16;
         i += 1;
     }
     count

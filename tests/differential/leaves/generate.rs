@@ -285,6 +285,24 @@ pub fn largest(words: u64) -> Row {
     }
 }
 
+/// The groups on both sides of the end of 8 bits.
+pub const GROUPS: [u64; 4] = [0, 255, 256, 511];
+
+/// Rows whose groups are these, each group with so many literals: two on either side, 256 apart; all four on both.
+pub fn far_groups(literals: u64) -> [Row; 2] {
+    let codes = |groups: &[u64]| -> Vec<u64> {
+        let atoms = groups
+            .iter()
+            .flat_map(|group| (0..literals).map(move |place| 64 * group + place));
+        atoms.map(|atom| 2 * atom + atom % 2).collect()
+    };
+    let row = |conditions: &[u64], outputs: &[u64]| Row {
+        conditions: codes(conditions),
+        outputs: codes(outputs),
+    };
+    [row(&[0, 256], &[255, 511]), row(&GROUPS, &GROUPS)]
+}
+
 /// Breaks one thing of a case, where there is something to break: what it is called with may then be unfit.
 pub fn damage(random: &mut Random, case: &mut Case) {
     let odd = [case.atoms * 2, u64::MAX, random.word(), 1];

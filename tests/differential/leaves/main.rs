@@ -124,14 +124,13 @@ impl Comparison {
         }
     }
 
-    /// What random rows seldom have: the largest row, the empty one, and unions at the greatest maximum and one over it.
+    /// What random rows seldom have: the largest row, the empty one, groups on both sides of the end of 8 bits, and unions at the
+    /// greatest maximum and one over it.
     fn boundary(&mut self, random: &mut Random) {
-        let largest = [
-            generate::largest(1),
-            generate::largest(2),
-            generate::largest(40),
-        ];
-        for row in largest.iter().chain(&[Row::default()]) {
+        let largest = [1, 2, 40].map(generate::largest);
+        let far = [1, 2, 4].map(generate::far_groups);
+        let rows = largest.iter().chain(far.as_flattened());
+        for row in rows.chain(&[Row::default()]) {
             for function in Function::ALL {
                 let mut case = Case::new(function, 32_768);
                 case.row = row.clone();

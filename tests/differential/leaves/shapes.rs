@@ -1,6 +1,7 @@
 //! What occurred in the calls, counted; and what must occur.
 
 use crate::case::{Answer, Case, End, Function, Row};
+use crate::generate::GROUPS;
 use crate::rust;
 
 /// How a call ended. Inside: after its first tick.
@@ -61,7 +62,7 @@ fn endings(function: Function) -> &'static [&'static str] {
 }
 
 /// The shapes of input that must occur, in a fit call.
-const SHAPES: [&str; 17] = [
+const SHAPES: [&str; 19] = [
     "a scalar row",
     "a packed row",
     "both signs of an atom among outputs",
@@ -72,6 +73,8 @@ const SHAPES: [&str; 17] = [
     "no outputs",
     "atoms below 64 alone",
     "an atom of 32,000 or more",
+    "groups 0, 255, 256 and 511",
+    "a group after one 256 below it",
     "a union at the maximum",
     "a union one over the maximum",
     "a union that grows the proposal",
@@ -82,7 +85,7 @@ const SHAPES: [&str; 17] = [
 ];
 
 /// The shapes of a row, in the order of `SHAPES`.
-fn of_row(row: &Row) -> [bool; 10] {
+fn of_row(row: &Row) -> [bool; 12] {
     let atoms = || {
         row.conditions
             .iter()
@@ -90,6 +93,12 @@ fn of_row(row: &Row) -> [bool; 10] {
             .map(|code| code / 2)
     };
     let packed = !rust::form(row).groups.is_empty();
+    let groups: Vec<u64> = atoms().map(|atom| atom / 64).collect();
+    let far = |codes: &[u64]| {
+        codes
+            .windows(2)
+            .any(|pair| pair[0] / 128 + 256 == pair[1] / 128)
+    };
     [
         !packed,
         packed,
@@ -105,6 +114,8 @@ fn of_row(row: &Row) -> [bool; 10] {
         row.outputs.is_empty(),
         atoms().next().is_some() && atoms().all(|atom| atom < 64),
         atoms().any(|atom| atom >= 32_000),
+        GROUPS.iter().all(|group| groups.contains(group)),
+        far(&row.conditions) || far(&row.outputs),
     ]
 }
 
