@@ -162,7 +162,8 @@ uint64_t ledger_candidates(uint64_t head[LEDGER_HEAD_WORDS], uint64_t answer[LED
  * atoms.
  * Back: `held` and `cut` with all that the rows force or require. `answer` is 0 Closed; 1 Conflict, a row decides against the region; 2
  * Stopped. Conflict and Stopped keep what was decided so far. Every word of `rows` and `atoms` is 0; what they held before does not matter.
- * `head`, `slots` (hits) and `postings` are the ledger after it, `meter` has the ticks charged.
+ * `head`, `slots` and `postings` are the ledger after it: a row has one hit more, and one more that is not shared yet, for each time that
+ * reading it decided at least one atom or ended in Conflict. `meter` has the ticks charged.
  * Refused: 1, 2, 3, 6.
  */
 uint64_t ledger_close(uint64_t head[LEDGER_HEAD_WORDS], uint64_t answer[LEDGER_ANSWER_WORDS], uint64_t meter[LEDGER_METER_WORDS],

@@ -47,24 +47,34 @@ impl Tier {
     }
 }
 
-/// Deduces one row and decides what follows. False is Conflict.
+/// Reads one row, and counts one hit if that decided an atom or ended in Conflict. False is Conflict.
 fn read(
     ledger: &mut Ledger,
     position: usize,
     region: &mut Region,
     work: &mut Work<'_>,
 ) -> Metered<bool> {
+    let mut decided = false;
+    let end = follow(ledger, position, region, &mut decided, work);
+    if decided || matches!(end, Ok(false)) {
+        ledger.hit(position);
+    }
+    end
+}
+
+/// Deduces one row and decides what follows. False is Conflict.
+fn follow(
+    ledger: &Ledger,
+    position: usize,
+    region: &mut Region,
+    decided: &mut bool,
+    work: &mut Work<'_>,
+) -> Metered<bool> {
     let (held, cut) = region.decision_words();
     match ledger.deduction(position, held, cut, work)? {
         Deduction::None => Ok(true),
-        Deduction::Require { atom, value } => {
-            ledger.hit(position);
-            Ok(mark(region, (atom, value)))
-        }
-        Deduction::ForceOutputs => {
-            ledger.hit(position);
-            publish(ledger, position, region, work)
-        }
+        Deduction::Require { atom, value } => Ok(mark(region, (atom, value), decided)),
+        Deduction::ForceOutputs => publish(ledger, position, region, decided, work),
     }
 }
 
@@ -73,6 +83,7 @@ fn publish(
     ledger: &Ledger,
     position: usize,
     region: &mut Region,
+    decided: &mut bool,
     work: &mut Work<'_>,
 ) -> Metered<bool> {
     let mut cursor = OutputCursor::default();
@@ -80,13 +91,15 @@ fn publish(
         let (held, cut) = region.decision_words();
         match ledger.next_publication_output(position, &mut cursor, held, cut, work)? {
             None => return Ok(true),
-            Some(literal) if !mark(region, literal) => return Ok(false),
+            Some(literal) if !mark(region, literal, decided) => return Ok(false),
             Some(_) => {}
         }
     }
 }
 
-fn mark(region: &mut Region, (atom, value): Literal) -> bool {
+/// Decides a literal, and says so if its atom was open.
+fn mark(region: &mut Region, (atom, value): Literal, decided: &mut bool) -> bool {
+    *decided |= region.decision(atom).is_none();
     if value {
         region.hold(atom)
     } else {

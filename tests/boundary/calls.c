@@ -313,8 +313,17 @@ static void closings(void)
     l.meter[LEDGER_CHARGED] = k.meter[LEDGER_CHARGED] = 1000;
     answer(&k, LEDGER_CLOSED, 0, 10); /* two rounds: 2 to deduce each row, 1 for the output of the first */
     k.cut[1] = 1 << 6;
-    k.slots[4] = k.slots[5] = 2;
+    k.slots[4] = k.slots[5] = 1; /* in the first round; the second decides nothing */
     same("close", 0, close(&l, 128), &l, &k);
+    l.meter[LEDGER_CHARGED] = k.meter[LEDGER_CHARGED] = 1000;
+    answer(&k, LEDGER_CLOSED, 0, 5); /* a round that decides nothing, and no hit */
+    same("close, closed before", 0, close(&l, 128), &l, &k);
+    l.meter[LEDGER_CHARGED] = k.meter[LEDGER_CHARGED] = 1000;
+    l.cut[1] = k.cut[1] = 0;
+    l.held[1] = k.held[1] = 1 << 6;
+    answer(&k, LEDGER_CONFLICT, 0, 3); /* 2 to deduce the first row, 1 for its output */
+    k.slots[4] = k.slots[5] = 2;
+    same("close, against the region", 0, close(&l, 128), &l, &k);
 }
 
 /* A store, number 4, and a tier, number 9, one with the two rows, the first hit five times, and one with none. */

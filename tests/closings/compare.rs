@@ -160,7 +160,10 @@ impl Run {
         let late = u64::from(self.spoil == Spoil::Stopped);
         let mut least = given;
         for limit in 0..=whole.ticks {
-            let closing = ledger.clone().close(given, limit, limit);
+            let mut after = ledger.clone();
+            let closing = after.close(given, limit, limit);
+            let decided = closing.region.without(given).codes().len() as u64;
+            let hits = after.hits() - ledger.hits();
             let stopped = Closing {
                 case: Case::Stopped,
                 ticks: limit + late,
@@ -170,9 +173,15 @@ impl Run {
             let between = closing.region.contains(least) && whole.region.contains(closing.region);
             let ended = limit == whole.ticks;
             let right = closing == if ended { *whole } else { stopped };
+            // Each hit of a closing that goes on so far is of a reading that decided an atom, and one reading decides an atom.
+            let earned = ended || hits <= decided && (hits > 0) == (decided > 0);
             let fault = first_fault(&[
                 (right, "a limit does not stop a closing"),
                 (between, "stopped with another region"),
+                (
+                    earned,
+                    "stopped with other hits than the atoms decided earn",
+                ),
             ]);
             self.expect(fault, rows, given);
             self.occurs(
@@ -238,6 +247,12 @@ fn after(before: &Ledger, told: &Told) -> Ledger {
 }
 
 impl Ledger {
+    /// The hits of all rows.
+    fn hits(&self) -> u64 {
+        let slots = self.book.slots.chunks(SLOT_WORDS);
+        slots.map(|slot| slot[HITS]).sum()
+    }
+
     /// Equal but for the postings and whether they are built: the rows say what they would be.
     fn same(&self, other: &Ledger) -> bool {
         let mut head = self.book.head;

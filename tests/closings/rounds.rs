@@ -1,4 +1,4 @@
-//! Document 01's rounds, for what brute force does not tell: the hits of each row, and what a Conflict keeps.
+//! Document 01's rounds with 02's hits, for what brute force does not tell: the hits of each row, and what a Conflict keeps.
 
 use crate::rows::{Deduction, Ending, Literals, Row};
 
@@ -29,15 +29,19 @@ impl Told {
         true
     }
 
-    /// A row's turn: false at a Conflict.
+    /// A row's turn: false at a Conflict. Document 02, Two: one hit if an atom was decided, or at a Conflict.
     fn act(&mut self, position: usize, row: Row) -> bool {
         let literals = match row.deduction(self.region) {
             Deduction::Nothing => return true,
             Deduction::Force => row.outputs,
             Deduction::Require(literal) => literal,
         };
-        self.hits[position] += 1;
-        self.decide(literals)
+        let before = self.region;
+        let goes_on = self.decide(literals);
+        if !goes_on || self.region != before {
+            self.hits[position] += 1;
+        }
+        goes_on
     }
 
     /// A round over the rows that the atoms decided before it touch.

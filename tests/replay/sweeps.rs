@@ -241,6 +241,42 @@ fn looks(lines: &mut Lines) {
     });
 }
 
+/// Closings in which a reading decides two atoms, one of two, one and then against the region, none; and two rows that say the same. Which
+/// of them counts a hit is document 02's Two.
+fn earned(lines: &mut Lines) {
+    let both: Codes<'_> = (&[1], &[140, 142]);
+    let cases: [(&str, &[Codes<'_>], Codes<'_>); 7] = [
+        ("packed", &[(&[], &[140, 142])], (&[], &[])),
+        ("two", &[both], (&[0], &[])),
+        ("one", &[both], (&[0], &[70])),
+        ("one_then_against", &[both], (&[0, 71], &[])),
+        ("against", &[both], (&[0, 70], &[])),
+        ("none", &[both], (&[0], &[70, 71])),
+        ("alike", &[(&[1], &[140]), (&[3], &[140])], (&[0, 1], &[])),
+    ];
+    for (about, rows, (held, cut)) in cases {
+        let rows = rows.iter().enumerate();
+        let given = Given {
+            limits: limits(128, 2, 8, 0),
+            header: header(7, 9),
+            rows: rows
+                .map(|(born, row)| entry(row.0, row.1, (3, 1, born as u64 + 1, false)))
+                .collect(),
+        };
+        let region = Region {
+            held: held.to_vec(),
+            cut: cut.to_vec(),
+        };
+        meters(lines, &format!("earned:{about}"), &alone(&given), |meter| {
+            Call::Close {
+                place: 0,
+                meter,
+                region: region.clone(),
+            }
+        });
+    }
+}
+
 /// The errors that a porter would make, and the choice of a victim.
 fn porter(lines: &mut Lines) {
     let given = Given {
@@ -343,6 +379,7 @@ pub fn write(lines: &mut Lines) {
     seedings(lines);
     deliveries(lines);
     looks(lines);
+    earned(lines);
     porter(lines);
     groups(lines);
     floors(lines);

@@ -209,8 +209,8 @@ impl Ledger {
         Ok(Charged::new(NextOutput::of(answer), answer))
     }
 
-    /// Closes a region under the rows: all that they force or require is marked in it. Refused by 6 for a region over another
-    /// number of atoms.
+    /// Closes a region under the rows: all that they force or require is marked in it. Each reading of a row that marks an atom or
+    /// ends in Conflict counts one hit for it. Refused by 6 for a region over another number of atoms.
     pub fn close(
         &mut self,
         meter: &mut Meter,

@@ -353,7 +353,13 @@ fn regions_are_closed() {
         charged(Closing::Closed, 10)
     );
     assert!(plan.literals().eq([Literal::held(3), Literal::cut(70)]));
-    assert_eq!(ledger.slots()[4], 2);
+    // The first round decides an atom, the second none; nor does a closing of what is closed.
+    assert_eq!(ledger.slots()[4], 1);
+    assert_eq!(
+        ledger.close(&mut Meter::new(1000), &mut plan),
+        charged(Closing::Closed, 5)
+    );
+    assert_eq!(ledger.slots()[4], 1);
     let mut against = region(&[Literal::held(3), Literal::held(70)]);
     assert_eq!(
         ledger
@@ -361,6 +367,8 @@ fn regions_are_closed() {
             .map(|c| c.answer),
         Ok(Closing::Conflict)
     );
+    // A Conflict counts, though nothing was decided.
+    assert_eq!(ledger.slots()[4], 2);
     assert_eq!(
         ledger.close(&mut Meter::new(0), &mut plan),
         charged(Closing::Stopped, 0)

@@ -1,16 +1,22 @@
--- A decision in a closing: the code's answer as a turn, and the region after it. Assumes nothing.
-use mathlib.Core.Path.{_≡_, refl, sym, ap₂, _∙_, subst}
-use mathlib.Core.Bool.{Bool, true, false}
+-- A decision in a closing: the code's answer as a turn, the region after it, and whether an atom was decided. Assumes nothing.
+use mathlib.Core.Path.{_≡_, refl, sym, ap, ap₂, _∙_, subst}
+use mathlib.Core.Bool.{Bool, true, false, _||_}
 use mathlib.Core.List.{List}
+use mathlib.Core.Option.{some}
 use Prim.Native.Nat.{ℕ}
-use lib.Dec.{T}
+use lib.Dec.{T, eqb}
 use Rattle.lists.proofs.Bools.{and-both, T-true, T-of}
-use Rattle.words.specs.Region.{Region, region, isRegion, atomsOk, decisionOn, decisionWith}
+use Rattle.words.specs.Region.{Region, region, isRegion, atomsOk, holds, decide, decisionOn, decisionWith, marking}
+use Rattle.words.specs.Region.{answerIn}
+use Rattle.words.specs.declared.Marking.{Marking}
+use Rattle.words.specs.declared.Marking.the-variants.{Anew, Already}
 use Rattle.words.proofs.Regions.{Sound, sound-of, region-test}
-use Rattle.words.proofs.Deciding.{sound-decide, answer-none, answer-some}
+use Rattle.words.proofs.Deciding.{sound-decide, answer-none, answer-some, decide-some, holds-mark, marked-anew, marked-already}
 use Rattle.meter.specs.declared.Meter.{Meter}
 use Rattle.model.specs.Records.{Ledger}
-use Rattle.model.specs.Closing.{going, conflict, decideOn}
+use Rattle.model.specs.Closing.{State, going, conflict, decideOn, decides, earns}
+use Rattle.model.specs.Priority.{Contains}
+use Rattle.model.proofs.Priority.Earning.{decides-none, decides-anew}
 use Rattle.close_publish.specs.Turns.{state}
 
 -- words that are sound where there was a region are one
@@ -42,3 +48,40 @@ module _ (n : ℕ) (held cut : List ℕ) (c : ℕ) (b : Bool) (held′ cut′ : 
       go false q =
           let a = answer-none n held cut c false held′ cut′ q refl in
           subst (λ (r : Region). T (isRegion n r)) (ap₂ (λ (x y : List ℕ). region x y) (sym (a .1)) (sym (a .2))) t
+
+-- ---- whether an atom was decided
+module _ (n : ℕ) (r q : Region) (c : ℕ) (e : decide n r c ≡ some q) (s : Sound n r) where
+  pub decided-grown : Contains q r
+  decided-grown x t =
+      let d = decide-some n r c q e in
+      T-of (ap (λ (y : Region). holds y x) (d .2) ∙ holds-mark n r c x s (d .0) ∙ ap (λ (b : Bool). b || eqb x c) (T-true (holds r x) t))
+
+  -- the literal held already: no atom
+  pub decided-already : marking n r c ≡ Already → false ≡ decides n r q
+  decided-already m = sym (ap (decides n r) (marked-already n r c q e m) ∙ decides-none n r)
+
+  -- it did not: its atom
+  pub decided-anew : marking n r c ≡ Anew → true ≡ decides n r q
+  decided-anew m = sym (decides-anew n r q c e s (marked-anew n r c q e m))
+
+-- ---- what the code's answer says of it
+module _ (n : ℕ) (held cut : List ℕ) (c : ℕ) (k : Marking) (held′ cut′ : List ℕ) (q : k ≡ marking n (region held cut) c)
+    (e : decisionWith (answerIn k) held′ cut′ ≡ decisionOn n held cut c) (t : T (isRegion n (region held cut))) where
+  abbrev before : Region
+  before = region held cut
+
+  made : answerIn k ≡ true → decide n (region held cut) c ≡ some (region held′ cut′)
+  made a = answer-some n held cut c (answerIn k) held′ cut′ e a
+
+  pub anew-earns : k ≡ Anew → (m : Meter) (l : Ledger) → true ≡ earns n (region held cut) (going (state l held′ cut′ m))
+  unfolding earns
+  anew-earns a m l = decided-anew n before (region held′ cut′) c (made (ap answerIn a)) (sound-of n before t) (sym q ∙ a)
+
+  pub already-earns : k ≡ Already → (m : Meter) (l : Ledger) → false ≡ earns n (region held cut) (going (state l held′ cut′ m))
+  unfolding earns
+  already-earns a m l = decided-already n before (region held′ cut′) c (made (ap answerIn a)) (sound-of n before t) (sym q ∙ a)
+
+-- a Conflict, whatever was decided
+pub conflict-earns : (n : ℕ) (old : Region) (s : State) → true ≡ earns n old (conflict s)
+unfolding earns
+conflict-earns n old s = refl

@@ -1,3 +1,4 @@
+pub mod Ending
 pub mod Deciding
 pub mod Publishing
 pub mod Standing

@@ -1,36 +1,36 @@
 -- One row read in a closing, by the ways that it ends. Assumes nothing.
-use mathlib.Core.Path.{_≡_, refl, sym, ap, ap₂, _∙_, subst}
+use mathlib.Core.Path.{_≡_, refl, sym, ap, _∙_, subst}
 use mathlib.Core.Logic.{inl, inr}
-use mathlib.Core.Bool.{true, false}
-use mathlib.Core.List.{List, [], _∷_}
+use mathlib.Core.Bool.{Bool, true, false}
+use mathlib.Core.List.{List}
 use Prim.Native.Nat.{ℕ, suc, _+_, _-_, _*_, _<_}
-use native.Mathlib.Omega.{arith}
-use types.Run.{OneOf}
-use denote.Enum.Declared.{tagOf}
 use lib.Dec.{T}
-use lib.ListN.{length, getD, take, drop}
+use lib.ListN.{length, take, drop}
 use Rattle.words.specs.Region.{region}
 use Rattle.meter.specs.declared.Meter.{Meter}
 use Rattle.meter.specs.declared.Tick.{Tick}
-use Rattle.meter.specs.declared.Tick.the-variants.{Ticked, Stopped}
+use Rattle.meter.specs.declared.Tick.the-variants as tick
 use Rattle.meter.specs.Meter.{ticks}
 use Rattle.model.specs.declared.Header.{Header}
 use Rattle.model.specs.declared.Deduction.{Deduction}
 use Rattle.model.specs.declared.Deduction.the-variants.{Nothing, Force, Require}
-use Rattle.model.specs.Records.{Row, Entry, Ledger, rowAt, slotWords}
-use Rattle.model.specs.Slots.{rowIn}
-use Rattle.model.specs.Deduction.{deduction, deductionTicks, startCursor}
-use Rattle.model.specs.Closing.{State, Turn, going, halted, withMeter, hitAt, counted, decideOn, publish, obey, act}
 use Rattle.model.specs.declared.Literal.{Literal}
-use Rattle.model.proofs.Deduction.{the-type}
+use Rattle.model.specs.Records.{Row, Entry, Ledger, rowAt, slotWords}
+use Rattle.model.specs.Slots.{entriesIn, rowIn}
+use Rattle.model.specs.Deduction.{deduction, deductionTicks, startCursor}
+use Rattle.model.specs.Closing.{State, Turn, going, conflict, halted, withMeter, withHit, hitAt, counted, decideOn, publish, follow}
+use Rattle.model.specs.Closing.{reading, earns, act}
+use Rattle.model.proofs.Priority.Earning.{decides-none}
 use Rattle.row_deduce.specs.declared.Deduced.{Deduced}
 use Rattle.row_deduce.specs.Walks.{deduced}
 use Rattle.slots.specs.Layout.{Held}
 use Rattle.tier.specs.Tier.{hitWords}
-use Rattle.slots.proofs.Rows.{rows-at, slot-code}
-use Rattle.close_publish.specs.Turns.{ledgerOf, state, turned, follow}
-use Rattle.close_publish.specs.declared.Ended.{Ended}
-use Rattle.close_publish.proofs.Standing.{row-is, hit-entries, hit-rows}
+use Rattle.slots.proofs.Rows.{slot-code}
+use Rattle.close_publish.specs.Turns.{ledgerOf, state, endedAs, turned, Earned}
+use Rattle.close_publish.specs.declared.Flow.{Flow}
+use Rattle.close_publish.specs.declared.Flow.the-variants.{Continues, Conflict, Stopped}
+use Rattle.close_publish.specs.declared.Reading.{Reading}
+use Rattle.close_publish.proofs.Standing.{Hits, row-is, hit-entries}
 
 -- ---- what is decided, by what was deduced
 module _ (n : ℕ) (r : Row) (d : Deduction) (s : State) where
@@ -46,61 +46,73 @@ module _ (n : ℕ) (r : Row) (d : Deduction) (s : State) where
   unfolding follow
   follow-require c e = sym (ap (λ (d : Deduction). follow n r d s) e)
 
--- where something follows, the hit is counted first
-obey-follow : (n p : ℕ) (r : Row) (d : Deduction) (s : State) → OneOf (1 ∷ 2 ∷ []) (tagOf the-type d)
-    → follow n r d (counted p s) ≡ obey n p r d s
-unfolding follow obey
-obey-follow n p r Nothing s (inl e) = absurd (omega arith)
-obey-follow n p r Nothing s (inr e) = absurd (omega arith)
-obey-follow n p r Force s t = refl
-obey-follow n p r (Require c) s t = refl
+-- ---- the reading, and whether it earns a hit
+-- none where the region is as it was, and there is no Conflict
+pub going-unearned : (n : ℕ) (l : Ledger) (held cut : List ℕ) (m : Meter) → false ≡ earns n (region held cut) (going (state l held cut m))
+unfolding earns
+going-unearned n l held cut m = sym (decides-none n (region held cut))
 
-obey-nothing : (n p : ℕ) (r : Row) (d : Deduction) (s : State) → d ≡ Nothing → going s ≡ obey n p r d s
-unfolding obey
-obey-nothing n p r d s e = sym (ap (λ (d : Deduction). obey n p r d s) e)
+module _ (n p : ℕ) (s : State) (t : Turn) (e : reading n (rowAt p (s .ledger)) s ≡ t) where
+  abbrev by : Bool → Turn → Turn
+  by b u = elim b [ true ↦ withHit p u | false ↦ u ]
 
--- ---- the deduction
+  act-is : act n p s ≡ by (earns n (s .region) t) t
+  unfolding act
+  act-is = ap (λ (u : Turn). by (earns n (s .region) u) u) e
+
+  pub act-earned : earns n (s .region) t ≡ true → withHit p t ≡ act n p s
+  act-earned q = sym (act-is ∙ ap (λ (b : Bool). by b t) q)
+
+  pub act-unearned : earns n (s .region) t ≡ false → t ≡ act n p s
+  act-unearned q = sym (act-is ∙ ap (λ (b : Bool). by b t) q)
+
 module _ (n p : ℕ) (l : Ledger) (held cut : List ℕ) (m : Meter) (r : Row) (e : rowAt p l ≡ r) (f : Deduced) where
   abbrev told : Deduction
   told = deduction (region held cut) r
 
-  abbrev tick : Tick
-  tick = ticks (deductionTicks (region held cut) r) m
+  abbrev ticked : Tick
+  ticked = ticks (deductionTicks (region held cut) r) m
 
   by-tick : Tick → Turn
-  by-tick t = elim t [ Stopped k ↦ halted (state l held cut k) | Ticked k ↦ obey n p r told (state l held cut k) ]
+  by-tick t = elim t [ tick.Stopped k ↦ halted (state l held cut k) | tick.Ticked k ↦ follow n r told (state l held cut k) ]
 
-  act-is : act n p (state l held cut m) ≡ by-tick tick
-  unfolding act withMeter by-tick
-  act-is =
+  reading-is : reading n (rowAt p l) (state l held cut m) ≡ by-tick ticked
+  unfolding reading withMeter by-tick
+  reading-is =
       ap (λ (r : Row). elim (ticks (deductionTicks (region held cut) r) m) as (λ t. Turn) [
-        | Stopped k ↦ halted (state l held cut k)
-        | Ticked k ↦ obey n p r (deduction (region held cut) r) (state l held cut k)
+        | tick.Stopped k ↦ halted (state l held cut k)
+        | tick.Ticked k ↦ follow n r (deduction (region held cut) r) (state l held cut k)
       ]) e
 
-  pub act-stopped : f ≡ deduced told m tick → f .stopped ≡ true → halted (state l held cut (f .meter)) ≡ act n p (state l held cut m)
-  unfolding by-tick
-  act-stopped q o = go tick refl q
+  -- nothing is decided where the ticks were not all made
+  pub act-stopped : f ≡ deduced told m ticked → f .stopped ≡ true → halted (state l held cut (f .meter)) ≡ act n p (state l held cut m)
+  unfolding by-tick earns
+  act-stopped q o = act-unearned n p (state l held cut m) (halted (state l held cut (f .meter))) (go ticked refl q)
+      (decides-none n (region held cut))
     where
-      go : (t : Tick) → tick ≡ t → f ≡ deduced told m t → halted (state l held cut (f .meter)) ≡ act n p (state l held cut m)
-      go (Stopped k) u v = ap (λ (x : Deduced). halted (state l held cut (x .meter))) v ∙ sym (act-is ∙ ap by-tick u)
-      go (Ticked k) u v = let z : true ≡ false = sym o ∙ ap (λ (x : Deduced). x .stopped) v in absurd (subst T z tt)
+      go : (t : Tick) → ticked ≡ t → f ≡ deduced told m t
+          → reading n (rowAt p l) (state l held cut m) ≡ halted (state l held cut (f .meter))
+      go (tick.Stopped k) u v = reading-is ∙ ap by-tick u ∙ sym (ap (λ (x : Deduced). halted (state l held cut (x .meter))) v)
+      go (tick.Ticked k) u v = let z : true ≡ false = sym o ∙ ap (λ (x : Deduced). x .stopped) v in absurd (subst T z tt)
 
-  act-said : f ≡ deduced told m tick → f .stopped ≡ false
-      → obey n p r (f .deduction) (state l held cut (f .meter)) ≡ act n p (state l held cut m)
+  reading-said : f ≡ deduced told m ticked → f .stopped ≡ false
+      → reading n (rowAt p l) (state l held cut m) ≡ follow n r (f .deduction) (state l held cut (f .meter))
   unfolding by-tick
-  act-said q o = go tick refl q
+  reading-said q o = go ticked refl q
     where
-      go : (t : Tick) → tick ≡ t → f ≡ deduced told m t
-          → obey n p r (f .deduction) (state l held cut (f .meter)) ≡ act n p (state l held cut m)
-      go (Stopped k) u v = let z : true ≡ false = sym (ap (λ (x : Deduced). x .stopped) v) ∙ o in absurd (subst T z tt)
-      go (Ticked k) u v =
-          ap (λ (x : Deduced). obey n p r (x .deduction) (state l held cut (x .meter))) v
-          ∙ sym (act-is ∙ ap by-tick u)
+      go : (t : Tick) → ticked ≡ t → f ≡ deduced told m t
+          → reading n (rowAt p l) (state l held cut m) ≡ follow n r (f .deduction) (state l held cut (f .meter))
+      go (tick.Stopped k) u v = let z : true ≡ false = sym (ap (λ (x : Deduced). x .stopped) v) ∙ o in absurd (subst T z tt)
+      go (tick.Ticked k) u v =
+          reading-is ∙ ap by-tick u
+          ∙ sym (ap (λ (x : Deduced). follow n r (x .deduction) (state l held cut (x .meter))) v)
 
-  pub act-nothing : f ≡ deduced told m tick → f .stopped ≡ false → f .deduction ≡ Nothing
+  pub act-nothing : f ≡ deduced told m ticked → f .stopped ≡ false → f .deduction ≡ Nothing
       → going (state l held cut (f .meter)) ≡ act n p (state l held cut m)
-  act-nothing q o z = obey-nothing n p r (f .deduction) (state l held cut (f .meter)) z ∙ act-said q o
+  act-nothing q o z =
+      act-unearned n p (state l held cut m) (going (state l held cut (f .meter)))
+      (reading-said q o ∙ sym (follow-nothing n r (f .deduction) (state l held cut (f .meter)) z))
+      (sym (going-unearned n l held cut (f .meter)))
 
 -- ---- by the words
 module _ (n rows p : ℕ) (slots held cut : List ℕ) (m : Meter) (k : Held n rows slots) (i : p < rows) where
@@ -113,28 +125,40 @@ module _ (n rows p : ℕ) (slots held cut : List ℕ) (m : Meter) (k : Held n ro
   pub part-row : (h : Header) → rowAt p (ledgerOf h rows slots) ≡ row
   part-row h = row-is h rows slots p i ∙ sym (ap rowIn (slot-code slots p))
 
-  -- a hit changes no row
-  hit-part : rowIn (partOf (hitWords p slots)) ≡ row
-  hit-part =
-      let d : Row = record { conditions = []; outputs = [] } in
-      ap rowIn (slot-code (hitWords p slots) p) ∙ sym (rows-at rows (hitWords p slots) p d i)
-      ∙ ap (λ (rs : List Row). getD rs p d) (hit-rows rows p slots k i) ∙ rows-at rows slots p d i ∙ sym (ap rowIn (slot-code slots p))
+  module _ (f : Deduced) (q : f ≡ deduced (deduction (region held cut) row) m (ticks (deductionTicks (region held cut) row) m))
+      (a : f .stopped ≡ false) (g : Reading) (held′ cut′ : List ℕ)
+      (w : (l : Ledger) → turned (g .ended) l held′ cut′ ≡ follow n row (f .deduction) (state l held cut (f .meter)))
+      (o : Earned n g held cut held′ cut′) (h : Header) where
+    abbrev ledger : Ledger
+    ledger = ledgerOf h rows slots
 
-  hit-counted : (h : Header) (x : Meter)
-      → state (ledgerOf h rows (hitWords p slots)) held cut x ≡ counted p (state (ledgerOf h rows slots) held cut x)
-  unfolding counted hitAt
-  hit-counted h x = ap (λ (es : List Entry). state (record { header = h; entries = es }) held cut x) (hit-entries rows p slots k i)
+    was-read : reading n (rowAt p (ledgerOf h rows slots)) (state (ledgerOf h rows slots) held cut m)
+        ≡ turned (g .ended) (ledgerOf h rows slots) held′ cut′
+    was-read = reading-said n p ledger held cut m row (part-row h) f q a ∙ sym (w ledger)
 
-  -- the hit first, then what the row says
-  pub act-follows : (f : Deduced) → f ≡ deduced (deduction (region held cut) row) m (ticks (deductionTicks (region held cut) row) m)
-      → f .stopped ≡ false → OneOf (1 ∷ 2 ∷ []) (tagOf the-type (f .deduction))
-      → (slots′ : List ℕ) → slots′ ≡ hitWords p slots → (g : Ended) (held′ cut′ : List ℕ)
-      → ((l : Ledger) → turned g l held′ cut′ ≡ follow n (rowIn (partOf slots′)) (f .deduction) (state l held cut (f .meter)))
-      → (h : Header) → turned g (ledgerOf h rows slots′) held′ cut′ ≡ act n p (state (ledgerOf h rows slots) held cut m)
-  act-follows f q a o slots′ e g held′ cut′ w h =
-      w (ledgerOf h rows slots′)
-      ∙ ap₂ (λ (x : Row) (y : List ℕ). follow n x (f .deduction) (state (ledgerOf h rows y) held cut (f .meter)))
-      (ap (λ (ws : List ℕ). rowIn (partOf ws)) e ∙ hit-part) e
-      ∙ ap (follow n row (f .deduction)) (hit-counted h (f .meter))
-      ∙ obey-follow n p row (f .deduction) (state (ledgerOf h rows slots) held cut (f .meter)) o
-      ∙ act-said n p (ledgerOf h rows slots) held cut m row (part-row h) f q a
+    -- no hit
+    act-read : g .earned ≡ false → turned (g .ended) (ledgerOf h rows slots) held′ cut′ ≡ act n p (state (ledgerOf h rows slots) held cut m)
+    act-read e = act-unearned n p (state ledger held cut m) (turned (g .ended) ledger held′ cut′) was-read (sym (o ledger) ∙ e)
+
+    -- the hit after it
+    act-hit : g .earned ≡ true → (slots′ : List ℕ) → slots′ ≡ hitWords p slots
+        → turned (g .ended) (ledgerOf h rows slots′) held′ cut′ ≡ act n p (state (ledgerOf h rows slots) held cut m)
+    unfolding withHit counted hitAt
+    act-hit e slots′ i′ =
+        go (g .ended .flow)
+        ∙ act-earned n p (state ledger held cut m) (turned (g .ended) ledger held′ cut′) was-read (sym (o ledger) ∙ e)
+      where
+        hits : ledgerOf h rows slots′ ≡ hitAt p ledger
+        hits = ap (λ (es : List Entry). record { header = h; entries = es }) (ap (entriesIn rows) i′ ∙ hit-entries rows p slots k i)
+
+        go : (w : Flow) → endedAs w (state (ledgerOf h rows slots′) held′ cut′ (g .ended .meter))
+            ≡ withHit p (endedAs w (state ledger held′ cut′ (g .ended .meter)))
+        go Continues = ap (λ (l : Ledger). going (state l held′ cut′ (g .ended .meter))) hits
+        go Conflict = ap (λ (l : Ledger). conflict (state l held′ cut′ (g .ended .meter))) hits
+        go Stopped = ap (λ (l : Ledger). halted (state l held′ cut′ (g .ended .meter))) hits
+
+    -- one of the two
+    pub act-reads : (slots′ : List ℕ) → Hits (g .earned) p slots slots′
+        → turned (g .ended) (ledgerOf h rows slots′) held′ cut′ ≡ act n p (state (ledgerOf h rows slots) held cut m)
+    act-reads slots′ (inl w) = act-hit (w .0) slots′ (w .1)
+    act-reads slots′ (inr w) = ap (λ (ws : List ℕ). turned (g .ended) (ledgerOf h rows ws) held′ cut′) (w .1) ∙ act-read (w .0)

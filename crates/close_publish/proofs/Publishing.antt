@@ -1,7 +1,7 @@
 -- Publishing in a closing: each output decided in turn, up to the end, a false decision or a stop. Assumes nothing.
 use mathlib.Core.Path.{_≡_, refl, sym, ap, ap₂, _∙_, subst}
 use mathlib.Core.Logic.{inl, inr}
-use mathlib.Core.Bool.{Bool, true, false}
+use mathlib.Core.Bool.{Bool, true, false, _||_}
 use mathlib.Core.List.{List, [], _∷_}
 use mathlib.Core.Option.{Option, none, some}
 use Prim.Native.Nat.{ℕ, zero, suc, _<_, _≤_}
@@ -12,7 +12,7 @@ use lib.Dec.{T}
 use lib.ListN.{length}
 use Rattle.lists.specs.Lists.{ascending}
 use Rattle.lists.proofs.Bools.{T-true, T-of}
-use Rattle.words.specs.Region.{Region, region, isRegion, decide, decisionOn, decisionWith}
+use Rattle.words.specs.Region.{Region, region, isRegion, decide}
 use Rattle.words.proofs.Regions.{sound-of}
 use Rattle.meter.specs.declared.Meter.{Meter}
 use Rattle.model.specs.declared.Literal.{Literal}
@@ -24,18 +24,25 @@ use Rattle.model.specs.Records.{Row, Ledger, isRow, fresh, limitsOf}
 use Rattle.model.specs.Slots.{rowIn}
 use Rattle.model.specs.Deduction.{Next, stopped, end, output, Published, nextOutput, startCursor}
 use Rattle.model.specs.Operations.{nextAnswer}
-use Rattle.model.specs.Closing.{State, Turn, going, conflict, halted, onGoing, withMeter, decideOn, publish}
+use Rattle.model.specs.Closing.{State, Turn, going, conflict, halted, onGoing, withMeter, decideOn, publish, decides, earns}
+use Rattle.model.specs.Priority.{Contains}
 use Rattle.model.proofs.NextAnswer.{the-type}
 use Rattle.model.proofs.Slots.{ascending-asc}
 use Rattle.model.proofs.Priority.Cursors.{Good, start-good, next-gives}
 use Rattle.model.proofs.Priority.Reaching.{After, Resting, resting}
+use Rattle.model.proofs.Priority.Earning.{decides-none, decides-both}
 use Rattle.model.proofs.Priority.Fuel.{publish-fuel}
 use Rattle.model.proofs.Rows.{row-parts}
 use Rattle.slots.specs.Layout.{Stored}
 use Rattle.row_deduce.specs.Publication.{Pointed, nextEnd}
 use Rattle.row_deduce.proofs.Cursors.{pointed-start, pointed-next}
-use Rattle.close_publish.specs.Turns.{state}
-use Rattle.close_publish.proofs.Deciding.{decided-going, decided-conflict, decided-region}
+use Rattle.close_publish.specs.Turns.{state, endedAs, turned, Earned}
+use Rattle.close_publish.specs.declared.Flow.{Flow}
+use Rattle.close_publish.specs.declared.Flow.the-variants.{Continues, Conflict, Stopped}
+use Rattle.close_publish.specs.declared.Reading.{Reading}
+use Rattle.close_publish.proofs.Flow.{the-type as flow-type}
+use Rattle.close_publish.proofs.Ending.{ended-goes, ended-stays}
+use Rattle.close_publish.proofs.Deciding.{decided-grown}
 
 -- ---- a publishing reads and writes nothing of the ledger
 abbrev withLedger : Ledger → State → State
@@ -181,16 +188,48 @@ stopped-next end (inr e) = absurd (omega arith)
 stopped-next (output d) (inl e) = absurd (omega arith)
 stopped-next (output d) (inr e) = absurd (omega arith)
 
+-- ---- one decision, by how it ended
+-- it never stops: where it does not go on it is a Conflict, which earns a hit
+clashes : (w : Flow) (n : ℕ) (old older : Region) (s : State) (c : ℕ) (t : State) → OneOf (1 ∷ 2 ∷ []) (tagOf flow-type w)
+    → endedAs w s ≡ decideOn n c t → earns n old (endedAs w s) ≡ earns n older (endedAs w s)
+unfolding earns decideOn
+clashes Continues n old older s c t (inl o) e = absurd (omega arith)
+clashes Continues n old older s c t (inr o) e = absurd (omega arith)
+clashes Conflict n old older s c t o e = refl
+clashes Stopped n old older s c t o e = go (decide n (t .region) c) e
+  where
+    go : (d : Option Region) → halted s ≡ (elim d as (λ k. Turn) [
+      | none ↦ conflict t
+      | some r ↦ going (record { ledger = t .ledger; region = r; meter = t .meter })
+    ]) → decides n old (s .region) ≡ decides n older (s .region)
+    go none e = absurd (let q : _≡_ {A = ℕ} 0 1 = cc in omega arith)
+    go (some r) e = absurd (let q : _≡_ {A = ℕ} 0 1 = cc in omega arith)
+
+-- where it goes on, the literal is decided, and the meter is as it was
+decide-gives : (n c : ℕ) (t s : State) → going s ≡ decideOn n c t → (decide n (t .region) c ≡ some (s .region)) × (s .meter ≡ t .meter)
+unfolding decideOn
+decide-gives n c t s e = go (decide n (t .region) c) e
+  where
+    go : (d : Option Region) → going s ≡ (elim d as (λ k. Turn) [
+      | none ↦ conflict t
+      | some r ↦ going (record { ledger = t .ledger; region = r; meter = t .meter })
+    ]) → (d ≡ some (s .region)) × (s .meter ≡ t .meter)
+    go none e = absurd (let q : _≡_ {A = ℕ} 0 1 = cc in omega arith)
+    go (some r) e = (cc, cc)
+
 -- ---- the walk
 bare : Ledger
 bare = record { header = fresh (limitsOf 0 0 0) 0; entries = [] }
 
-pub record Publishes (n : ℕ) (slot held₀ cut₀ : List ℕ) (m₀ : Meter) (held cut : List ℕ) (m : Meter) (k : OutputCursor) : Type 0 where
+pub record Publishes (n : ℕ) (slot held₀ cut₀ : List ℕ) (m₀ : Meter) (held cut : List ℕ) (m : Meter) (earned : Bool) (k : OutputCursor)
+    : Type 0 where
   pub pointed : Pointed (rowIn slot) k
   pub good : Good (rowIn slot) k
   pub whole : T (isRegion n (region held cut))
   pub heldLong : length held ≡ length held₀
   pub cutLong : length cut ≡ length cut₀
+  pub grown : Contains (region held cut) (region held₀ cut₀)
+  pub earns : earned ≡ decides n (region held₀ cut₀) (region held cut)
   pub rest : (l : Ledger) → publish (suc (left (rowIn slot) k)) n (rowIn slot) k (state l held cut m)
       ≡ publish (suc (length (rowIn slot .outputs))) n (rowIn slot) startCursor (state l held₀ cut₀ m₀)
 
@@ -219,9 +258,9 @@ module _ (n : ℕ) (slot : List ℕ) (st : Stored n slot) where
   start-short : left row startCursor ≤ length (row .outputs)
   start-short = let w = rests row rising in subst (λ (a : ℕ). a ≤ length (row .outputs)) (sym (w .is startCursor)) (w .by .short)
 
-  pub publish-start : (held cut : List ℕ) (m : Meter) → T (isRegion n (region held cut))
-      → Publishes n slot held cut m held cut m startCursor
-  publish-start held cut m t =
+  pub publish-start : (held cut : List ℕ) (m : Meter) (b : Bool) → b ≡ false → T (isRegion n (region held cut))
+      → Publishes n slot held cut m held cut m b startCursor
+  publish-start held cut m b e t =
       let h = start-short in
       record {
         pointed = pointed-start row;
@@ -229,12 +268,14 @@ module _ (n : ℕ) (slot : List ℕ) (st : Stored n slot) where
         whole = t;
         heldLong = refl;
         cutLong = refl;
+        grown = λ x t. t;
+        earns = e ∙ sym (decides-none n (region held cut));
         rest = λ l. fuel-any (suc (left row startCursor)) (suc (length (row .outputs))) startCursor held cut m l (start-good row) t
             (omega arith) (omega arith);
       }
 
-  module _ (held₀ cut₀ : List ℕ) (m₀ : Meter) (held cut : List ℕ) (m : Meter) (k : OutputCursor)
-      (w : Publishes n slot held₀ cut₀ m₀ held cut m k) (f : NextResult) (q : f ≡ nextEnd m (nextOutput (region held cut) row k m)) where
+  module _ (held₀ cut₀ : List ℕ) (m₀ : Meter) (held cut : List ℕ) (m : Meter) (b : Bool) (k : OutputCursor)
+      (w : Publishes n slot held₀ cut₀ m₀ held cut m b k) (f : NextResult) (q : f ≡ nextEnd m (nextOutput (region held cut) row k m)) where
     abbrev wholly : Ledger → Turn
     wholly l = publish (suc (length (row .outputs))) n row startCursor (state l held₀ cut₀ m₀)
 
@@ -263,8 +304,8 @@ module _ (n : ℕ) (slot : List ℕ) (st : Stored n slot) where
         ∙ sym (publish-ends (left row k) n row k (state l held cut m) (end-next next (answer-is ∙ e)))
         ∙ w .rest l
 
-    module _ (c : Literal) (e : f .answer ≡ next-answer.Output c) (b : Bool) (held′ cut′ : List ℕ)
-        (d : decisionWith b held′ cut′ ≡ decisionOn n held cut (c .0)) where
+    module _ (c : Literal) (e : f .answer ≡ next-answer.Output c) (one : Reading) (held′ cut′ : List ℕ)
+        (d : (l : Ledger) → turned (one .ended) l held′ cut′ ≡ decideOn n (c .0) (state l held cut (f .meter))) where
       is-output : next ≡ output (c .0)
       is-output = output-next next c (answer-is ∙ e)
 
@@ -276,11 +317,19 @@ module _ (n : ℕ) (slot : List ℕ) (st : Stored n slot) where
           ∙ sym (publish-outputs (left row k) n row k (state l held cut m) (c .0) is-output)
           ∙ w .rest l
 
-      pub publish-conflict : b ≡ false → (l : Ledger) → conflict (state l held′ cut′ (f .meter)) ≡ wholly l
-      unfolding onGoing
-      publish-conflict t l =
-          ap (λ (y : Turn). onGoing y (publish (left row k) n row (f .cursor)))
-          (decided-conflict n held cut (c .0) b held′ cut′ d t (f .meter) l) ∙ here l
+      -- a decision that does not go on is a Conflict, and ends the walk
+      pub publish-conflict : OneOf (1 ∷ 2 ∷ []) (tagOf flow-type (one .ended .flow)) → (l : Ledger)
+          → turned (one .ended) l held′ cut′ ≡ wholly l
+      publish-conflict o l =
+          ended-stays (one .ended .flow) (state l held′ cut′ (one .ended .meter)) (publish (left row k) n row (f .cursor)) o
+          ∙ ap (λ (y : Turn). onGoing y (publish (left row k) n row (f .cursor))) (d l) ∙ here l
+
+      pub ended-earns : OneOf (1 ∷ 2 ∷ []) (tagOf flow-type (one .ended .flow)) → Earned n one held cut held′ cut′
+          → Earned n one held₀ cut₀ held′ cut′
+      ended-earns o g l =
+          g l
+          ∙ clashes (one .ended .flow) n (region held cut) (region held₀ cut₀) (state l held′ cut′ (one .ended .meter)) (c .0)
+          (state l held cut (f .meter)) o (d l)
 
       pub publish-less : left row (f .cursor) < left row k
       publish-less =
@@ -293,23 +342,36 @@ module _ (n : ℕ) (slot : List ℕ) (st : Stored n slot) where
           subst (λ (y : ℕ). y < left row k) (sym (ap (left row) cursor-is ∙ v .is (nextOutput (region held cut) row k m .cursor)))
           (subst (λ (y : ℕ). length (v .by .rest (nextOutput (region held cut) row k m .cursor)) < y) (sym (v .is k)) z)
 
-      pub publish-on : b ≡ true → length held′ ≡ length held → length cut′ ≡ length cut
-          → Publishes n slot held₀ cut₀ m₀ held′ cut′ (f .meter) (f .cursor)
-      unfolding onGoing
-      publish-on t x y =
-          let whole : T (isRegion n (region held′ cut′)) = decided-region n held cut (c .0) b held′ cut′ d (w .whole) in
-          let good : Good row (f .cursor) =
-          subst (Good row) (sym cursor-is) (next-gives (region held cut) row k m (ascending-asc (row .outputs) rising) (w .good) .cursor) in
-          let less = publish-less in
-          record {
-            pointed = subst (Pointed row) (sym cursor-is) (pointed-next n row (st .row) (st .atoms) (region held cut) k m (w .pointed));
-            good = good;
-            whole = whole;
-            heldLong = x ∙ w .heldLong;
-            cutLong = y ∙ w .cutLong;
-            rest = λ l.
-                fuel-any (suc (left row (f .cursor))) (left row k) (f .cursor) held′ cut′ (f .meter) l good whole (omega arith) less
-                ∙ ap (λ (z : Turn). onGoing z (publish (left row k) n row (f .cursor)))
-                (decided-going n held cut (c .0) b held′ cut′ d t (f .meter) l)
-                ∙ here l;
-          }
+      module _ (t : one .ended .flow ≡ Continues) where
+        on : (l : Ledger) → going (state l held′ cut′ (one .ended .meter)) ≡ decideOn n (c .0) (state l held cut (f .meter))
+        on l = sym (ended-goes (one .ended .flow) (state l held′ cut′ (one .ended .meter)) t) ∙ d l
+
+        pub publish-on : Earned n one held cut held′ cut′ → T (isRegion n (region held′ cut′))
+            → length held′ ≡ length held → length cut′ ≡ length cut → (b′ : Bool) → b′ ≡ (b || one .earned)
+            → Publishes n slot held₀ cut₀ m₀ held′ cut′ (f .meter) b′ (f .cursor)
+        unfolding onGoing bare earns
+        publish-on g whole x y b′ o =
+            let good : Good row (f .cursor) =
+            subst (Good row) (sym cursor-is)
+            (next-gives (region held cut) row k m (ascending-asc (row .outputs) rising) (w .good) .cursor) in
+            let less = publish-less in
+            let some-is = decide-gives n (c .0) (state bare held cut (f .meter)) (state bare held′ cut′ (one .ended .meter)) (on bare) in
+            let more = decided-grown n (region held cut) (region held′ cut′) (c .0) (some-is .0)
+            (sound-of n (region held cut) (w .whole)) in
+            let new : one .earned ≡ decides n (region held cut) (region held′ cut′) =
+            g bare ∙ ap (earns n (region held cut)) (ended-goes (one .ended .flow) (state bare held′ cut′ (one .ended .meter)) t) in
+            record {
+              pointed = subst (Pointed row) (sym cursor-is) (pointed-next n row (st .row) (st .atoms) (region held cut) k m (w .pointed));
+              good = good;
+              whole = whole;
+              heldLong = x ∙ w .heldLong;
+              cutLong = y ∙ w .cutLong;
+              grown = λ z h. more z (w .grown z h);
+              earns = o ∙ ap₂ _||_ (w .earns) new
+                  ∙ sym (decides-both n (region held₀ cut₀) (region held cut) (region held′ cut′) (w .grown) more);
+              rest = λ l.
+                  fuel-any (suc (left row (f .cursor))) (left row k) (f .cursor) held′ cut′ (f .meter) l good whole (omega arith) less
+                  ∙ ap (λ (z : Turn). onGoing z (publish (left row k) n row (f .cursor)))
+                  (ap (λ (y : Meter). going (state l held′ cut′ y)) (sym (some-is .1)) ∙ on l)
+                  ∙ here l;
+            }

@@ -1,25 +1,37 @@
 -- What a closing knows of its words: the slot of a row, and what a hit or a decision keeps. Assumes nothing.
 use mathlib.Core.Path.{_≡_, sym, ap, _∙_, subst}
+use mathlib.Core.Logic.{_⊎_, inl, inr}
+use mathlib.Core.Bool.{Bool, true, false}
 use mathlib.Core.List.{List, [], map}
 use Prim.Native.Nat.{ℕ, _+_, _-_, _*_, _≤_, _<_}
 use native.Mathlib.Omega.{arith}
 use lib.Dec.{T}
-use lib.ListN.{length, take, drop}
+use lib.ListN.{length, take, drop, set, length-set}
 use Rattle.lists.specs.Lists.{adjust}
 use Rattle.lists.proofs.Selects.{length-adjust, map-adjust}
 use Rattle.words.specs.Region.{region, isRegion}
 use Rattle.model.specs.declared.Header.{Header}
-use Rattle.model.specs.Records.{Row, Entry, isRow, rowsOf, rowAt, hitEntry, slotWords}
+use Rattle.model.specs.Records.{Row, Entry, isRow, rowsOf, rowAt, hitEntry, slotWords, hitsAt, unsharedAt}
 use Rattle.model.specs.Slots.{entriesIn, rowIn}
 use Rattle.model.proofs.Slots.{entries-length}
 use Rattle.model.proofs.Entries.{hit-row}
 use Rattle.slots.specs.Layout.{Stored, slotAt, rowsIn, tierOf, Held}
 use Rattle.slots.proofs.Holding.{AllRows, entries-laid, held-laid, held-few, held-rows}
-use Rattle.tier.specs.Tier.{hitWords}
+use Rattle.tier.specs.Tier.{wordAt, hitWords}
 use Rattle.tier.proofs.Buffer.{all-adjust, hit-held}
 use Rattle.slots.proofs.Rows.{rows-at, slot-code}
 use Rattle.close_publish.specs.Turns.{ledgerOf}
 use Rattle.close_publish.specs.Standing.{Standing}
+
+-- the slots after a reading: with a hit if one was earned
+abbrev pub Hits : Bool → ℕ → List ℕ → List ℕ → Type 0
+Hits b p slots slots′ = ((b ≡ true) × (slots′ ≡ hitWords p slots)) ⊎ ((b ≡ false) × (slots′ ≡ slots))
+
+pub hits-length : (b : Bool) (p : ℕ) (slots slots′ : List ℕ) → Hits b p slots slots′ → length slots′ ≡ length slots
+unfolding hitWords
+hits-length b p slots slots′ (inl w) =
+    ap length (w .1) ∙ length-set (set slots (wordAt p hitsAt) _) (wordAt p unsharedAt) _ ∙ length-set slots (wordAt p hitsAt) _
+hits-length b p slots slots′ (inr w) = ap length (w .1)
 
 -- the row of a ledger is that of its slot
 pub row-is : (h : Header) (rows : ℕ) (slots : List ℕ) (p : ℕ) → p < rows → rowAt p (ledgerOf h rows slots) ≡ rowIn (slotAt slots p)
@@ -63,10 +75,15 @@ module _ (n rows : ℕ) (rs : List Row) (slots held cut : List ℕ) (s : Standin
   pub stored-part : (p : ℕ) → p < rows → Stored n (take ((slotWords * p + slotWords) - slotWords * p) (drop (slotWords * p) slots))
   stored-part p l = subst (Stored n) (sym (slot-code slots p)) (s .holds .over .stored p l)
 
-  pub hit-stands : (p : ℕ) → p < rows → (slots′ : List ℕ) → slots′ ≡ hitWords p slots → Standing n rows rs slots′ held cut
+  hit-stands : (p : ℕ) → p < rows → (slots′ : List ℕ) → slots′ ≡ hitWords p slots → Standing n rows rs slots′ held cut
   hit-stands p l slots′ e =
       subst (λ (ws : List ℕ). Standing n rows rs ws held cut) (sym e)
       (record { holds = hit-holds rows p slots (s .holds) l; same = hit-rows rows p slots (s .holds) l ∙ s .same; region = s .region })
+
+  -- with the hit that was earned, or without
+  pub hits-stand : (b : Bool) (p : ℕ) → p < rows → (slots′ : List ℕ) → Hits b p slots slots′ → Standing n rows rs slots′ held cut
+  hits-stand b p l slots′ (inl w) = hit-stands p l slots′ (w .1)
+  hits-stand b p l slots′ (inr w) = subst (λ (ws : List ℕ). Standing n rows rs ws held cut) (sym (w .1)) s
 
   pub decided-stands : (held′ cut′ : List ℕ) → T (isRegion n (region held′ cut′)) → Standing n rows rs slots held′ cut′
   decided-stands held′ cut′ t = record { holds = s .holds; same = s .same; region = t }

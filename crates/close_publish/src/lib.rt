@@ -1,4 +1,4 @@
-// One row read in a closing: its deduction, its hit, and what is decided by it.
+// One row read in a closing: its deduction, what is decided by it, and its hit.
 ghost use mathlib.Core.Path.{_≡_};
 ghost use Prim.Native.Nat.{suc, _<_};
 ghost use lib.Dec.{T};
@@ -8,9 +8,9 @@ ghost use Rattle.model.specs.declared.Header.{Header};
 ghost use Rattle.model.specs.Records.{Ledger};
 ghost use Rattle.model.specs.Slots.{rowIn};
 ghost use Rattle.model.specs.Deduction.{startCursor};
-ghost use Rattle.model.specs.Closing.{decideOn, publish, act};
+ghost use Rattle.model.specs.Closing.{decideOn, publish, follow, act};
 ghost use Rattle.slots.specs.Layout.{Stored, rowsIn};
-ghost use Rattle.close_publish.specs.Turns.{state, turned, ledgerOf, follow};
+ghost use Rattle.close_publish.specs.Turns.{state, turned, Earned, ledgerOf};
 ghost use Rattle.close_publish.specs.Standing.{Standing};
 use meter::Meter;
 use model::Deduction;
@@ -20,7 +20,16 @@ use model::SLOT_WORDS;
 use row_deduce::deduction;
 use row_deduce::next_publication_output;
 use tier::hit;
+use words::Marking;
 use words::decide_literal;
+
+// The cursor before the first output of a row.
+const START: OutputCursor = OutputCursor {
+    next: 0,
+    word: 0,
+    present: 0,
+    absent: 0,
+};
 
 // How far a closing came: it goes on, a decision was false, or a tick was not made.
 pub enum Flow {
@@ -35,42 +44,59 @@ pub struct Ended {
     pub meter: Meter,
 }
 
+// How the reading of a row ended, and whether it earned a hit: it decided an atom, or ended in Conflict.
+struct Reading {
+    ended: Ended,
+    earned: bool,
+}
+
 // Decides a literal. Conflict, and nothing changed, if it is out of range or its opposite is marked.
-fn decide_on(atoms: u64, held: &mut [u64], cut: &mut [u64], literal: u64, work: Meter) -> Ended
+fn decide_on(atoms: u64, held: &mut [u64], cut: &mut [u64], literal: u64, work: Meter) -> Reading
     requires { ⌜ T (isRegion atoms (region (now held) (now cut))) ⌝ }
-    ensures turn { λ r. ⌜ ((l : Ledger) → turned r l (now (held .exit)) (now (cut .exit))
+    ensures turn { λ r. ⌜ ((l : Ledger) → turned (r .ended) l (now (held .exit)) (now (cut .exit))
         ≡ decideOn atoms literal (state l (now (held .entry)) (now (cut .entry)) work)) ⌝ }
+    ensures earned { λ r. ⌜ Earned atoms r (now (held .entry)) (now (cut .entry)) (now (held .exit)) (now (cut .exit)) ⌝ }
     ensures whole { λ _. ⌜ T (isRegion atoms (region (now (held .exit)) (now (cut .exit)))) ⌝ }
 {
-    if decide_literal(atoms, held, cut, literal) {
-        Ended {
-            flow: Flow::Continues,
-            meter: work,
-        }
-    } else {
-        Ended {
-            flow: Flow::Conflict,
-            meter: work,
-        }
+    let marking = decide_literal(atoms, held, cut, literal);
+    match marking {
+        Marking::Anew => Reading {
+            ended: Ended {
+                flow: Flow::Continues,
+                meter: work,
+            },
+            earned: true,
+        },
+        Marking::Already => Reading {
+            ended: Ended {
+                flow: Flow::Continues,
+                meter: work,
+            },
+            earned: false,
+        },
+        Marking::False => Reading {
+            ended: Ended {
+                flow: Flow::Conflict,
+                meter: work,
+            },
+            earned: true, // also if nothing was decided
+        },
     }
 }
 
 // Decides each output that a row publishes. Conflict at the first false decision, Stopped at the first tick that was not made; what was
 // decided before stays.
-fn publish(slot: &[u64], atoms: u64, held: &mut [u64], cut: &mut [u64], work: Meter) -> Ended
+fn publish(slot: &[u64], atoms: u64, held: &mut [u64], cut: &mut [u64], work: Meter) -> Reading
     requires { ⌜ Stored atoms (now slot) ⌝ ∗ ⌜ T (isRegion atoms (region (now held) (now cut))) ⌝ }
-    ensures turn { λ r. ⌜ ((l : Ledger) → turned r l (now (held .exit)) (now (cut .exit))
+    ensures turn { λ r. ⌜ ((l : Ledger) → turned (r .ended) l (now (held .exit)) (now (cut .exit))
         ≡ publish (suc (length (rowIn (now (slot .entry)) .outputs))) atoms (rowIn (now (slot .entry))) startCursor
         (state l (now (held .entry)) (now (cut .entry)) work)) ⌝ }
+    ensures earned { λ r. ⌜ Earned atoms r (now (held .entry)) (now (cut .entry)) (now (held .exit)) (now (cut .exit)) ⌝ }
     ensures whole { λ _. ⌜ T (isRegion atoms (region (now (held .exit)) (now (cut .exit)))) ⌝ }
 {
     let mut meter = work;
-    let mut cursor = OutputCursor {
-        next: 0,
-        word: 0,
-        present: 0,
-        absent: 0,
-    };
+    let mut earned = false;
+    let mut cursor = START;
     loop {
         let found = next_publication_output(slot, cursor, held, cut, meter);
         cursor = found.cursor;
@@ -78,23 +104,30 @@ fn publish(slot: &[u64], atoms: u64, held: &mut [u64], cut: &mut [u64], work: Me
         let answer = found.answer;
         match answer {
             NextAnswer::Output(literal) => {
-                if !decide_literal(atoms, held, cut, literal.0 as u64) {
-                    return Ended {
-                        flow: Flow::Conflict,
-                        meter: meter,
-                    };
-                }
+                let one = decide_on(atoms, held, cut, literal.0 as u64, meter);
+                let ended = one.ended;
+                let flow = ended.flow;
+                let Flow::Continues = flow else {
+                    return one;
+                };
+                earned = earned | one.earned;
             }
             NextAnswer::End => {
-                return Ended {
-                    flow: Flow::Continues,
-                    meter: meter,
+                return Reading {
+                    ended: Ended {
+                        flow: Flow::Continues,
+                        meter: meter,
+                    },
+                    earned: earned,
                 };
             }
             _ => {
-                return Ended {
-                    flow: Flow::Stopped,
-                    meter: meter,
+                return Reading {
+                    ended: Ended {
+                        flow: Flow::Stopped,
+                        meter: meter,
+                    },
+                    earned: earned, // what was decided before the stop
                 };
             }
         }
@@ -109,24 +142,28 @@ fn follow(
     held: &mut [u64],
     cut: &mut [u64],
     work: Meter,
-) -> Ended
+) -> Reading
     requires { ⌜ Stored atoms (now slot) ⌝ ∗ ⌜ T (isRegion atoms (region (now held) (now cut))) ⌝ }
-    ensures turn { λ r. ⌜ ((l : Ledger) → turned r l (now (held .exit)) (now (cut .exit))
+    ensures turn { λ r. ⌜ ((l : Ledger) → turned (r .ended) l (now (held .exit)) (now (cut .exit))
         ≡ follow atoms (rowIn (now (slot .entry))) said (state l (now (held .entry)) (now (cut .entry)) work)) ⌝ }
+    ensures earned { λ r. ⌜ Earned atoms r (now (held .entry)) (now (cut .entry)) (now (held .exit)) (now (cut .exit)) ⌝ }
     ensures whole { λ _. ⌜ T (isRegion atoms (region (now (held .exit)) (now (cut .exit)))) ⌝ }
 {
     match said {
-        Deduction::Nothing => Ended {
-            flow: Flow::Continues,
-            meter: work,
+        Deduction::Nothing => Reading {
+            ended: Ended {
+                flow: Flow::Continues,
+                meter: work,
+            },
+            earned: false,
         },
         Deduction::Force => publish(slot, atoms, held, cut, work),
         Deduction::Require(literal) => decide_on(atoms, held, cut, literal.0 as u64, work),
     }
 }
 
-// Reads the row at a position. Going, and nothing changed, if nothing follows; else one hit is counted before anything is decided, and what
-// the row says is decided. Stopped, and nothing changed, if the deduction's ticks were not all made.
+// Reads the row at a position. Going, and nothing changed, if nothing follows; else what the row says is decided, and then one hit is
+// counted if that decided an atom or ended in Conflict. Stopped, and nothing changed, if the deduction's ticks were not all made.
 pub fn act(
     atoms: u64,
     rows: u64,
@@ -159,6 +196,9 @@ pub fn act(
             meter: meter,
         };
     }
-    hit(slots, position);
-    follow(&slots[a..e], atoms, said, held, cut, meter)
+    let read = follow(&slots[a..e], atoms, said, held, cut, meter);
+    if read.earned {
+        hit(slots, position);
+    }
+    read.ended
 }

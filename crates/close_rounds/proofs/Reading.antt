@@ -1,6 +1,5 @@
 -- The rows read in a round, in turn. Assumes nothing.
 use mathlib.Core.Path.{_≡_, refl, sym, ap, _∙_}
-use mathlib.Core.Logic.{inl, inr}
 use mathlib.Core.List.{List, [], _∷_}
 use Prim.Native.Nat.{ℕ, _+_, _≤_, _<_}
 use native.Mathlib.Numerals.{add-one}
@@ -14,23 +13,12 @@ use Rattle.model.specs.declared.Header.{Header}
 use Rattle.model.specs.Records.{Row}
 use Rattle.model.specs.Closing.{State, Turn, going, onGoing, act, round}
 use Rattle.slots.specs.Layout.{rowsIn}
-use Rattle.close_publish.specs.declared.Flow.{Flow}
-use Rattle.close_publish.specs.declared.Flow.the-variants.{Continues, Conflict, Stopped}
+use Rattle.close_publish.specs.declared.Flow.the-variants.{Continues}
 use Rattle.close_publish.specs.declared.Ended.{Ended}
-use Rattle.close_publish.specs.Turns.{ledgerOf, state, endedAs, turned}
+use Rattle.close_publish.specs.Turns.{ledgerOf, state, turned}
 use Rattle.close_publish.specs.Standing.{Standing}
 use Rattle.close_publish.proofs.Flow.{the-type}
-
--- ---- a turn that goes on, and one that does not
-pub ended-goes : (e : Flow) (s : State) → e ≡ Continues → endedAs e s ≡ going s
-ended-goes e s q = ap (λ (e : Flow). endedAs e s) q
-
-pub ended-stays : (e : Flow) (s : State) (k : State → Turn) → OneOf (1 ∷ 2 ∷ []) (tagOf the-type e) → endedAs e s ≡ onGoing (endedAs e s) k
-unfolding onGoing
-ended-stays Continues s k (inl e) = absurd (omega arith)
-ended-stays Continues s k (inr e) = absurd (omega arith)
-ended-stays Conflict s k t = refl
-ended-stays Stopped s k t = refl
+use Rattle.close_publish.proofs.Ending.{ended-goes, ended-stays}
 
 round-none : (n : ℕ) (ps : List ℕ) (i : ℕ) (s : State) → length ps ≤ i → going s ≡ round n (drop i ps) s
 unfolding round

@@ -35,7 +35,7 @@ use Rattle.close_publish.specs.Turns.{ledgerOf, state}
 use Rattle.close_rounds.specs.Running.{Running}
 use Rattle.close_rounds.specs.Rounds.{stateIn, roundTurn, oneRound, Under, New}
 use Rattle.close_publish.proofs.Flow.{the-type}
-use Rattle.close_rounds.proofs.Reading.{ended-goes, ended-stays}
+use Rattle.close_publish.proofs.Ending.{ended-goes, ended-stays}
 
 -- ---- the rows of a running ledger are valid
 fine-of : (n : ℕ) (es : List Entry) → T (all (λ e. isRow n (e .row)) es) → Fine (rowsE es)

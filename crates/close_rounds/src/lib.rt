@@ -54,7 +54,11 @@ fn round(
         let one = act(atoms, rows, slots, positions[i] as usize, held, cut, meter);
         let flow = one.flow;
         if let Flow::Continues = flow {
-            meter = one.meter;
+            // field by field: the next row's deduction reads it so, from memory, and need not wait for a longer store
+            meter = Meter {
+                charged: one.meter.charged,
+                limit: one.meter.limit,
+            };
             i += 1;
         } else {
             return one;

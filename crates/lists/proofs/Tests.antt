@@ -1,7 +1,7 @@
 -- The laws of the tests on lists: `all`, `any`, `same`, `below`, `ascending`. Assumes nothing.
-use mathlib.Core.Bool.{Bool, true, false, _&&_, _||_, false≢true}
+use mathlib.Core.Bool.{Bool, true, false, _&&_, _||_, false≢true, or-true}
 use mathlib.Core.List.{List, [], _∷_, _++_}
-use mathlib.Core.Path.{_≡_, refl, sym, ap, _∙_}
+use mathlib.Core.Path.{_≡_, refl, sym, ap, ap₂, _∙_}
 use Prim.Native.Nat.{ℕ, zero, suc, _+_, _≤_, _<_}
 use native.Mathlib.Numerals.{add-one}
 use native.Mathlib.Omega.{arith}
@@ -55,6 +55,29 @@ module _ {A : Type 0} (f : A → Bool) where
   unfolding any
   any-drop xs i d l =
       ap (any f) (drop-cons xs i d l) ∙ ap (λ (k : ℕ). f (getD xs i d) || any f (drop k xs)) (sym (add-one i))
+
+  pub any-at : (xs : List A) (i : ℕ) (d : A) → i < length xs → f (getD xs i d) ≡ true → any f xs ≡ true
+  unfolding any
+  any-at [] i d l e = absurd (omega arith)
+  any-at (x ∷ xs) zero d l e = rw (e, any)
+  any-at (x ∷ xs) (suc i) d l e = ap (λ (b : Bool). f x || b) (any-at xs i d (omega arith) e) ∙ or-true (f x)
+
+  pub any-none : (xs : List A) → ((x : A) → f x ≡ false) → any f xs ≡ false
+  unfolding any
+  any-none [] h = refl
+  any-none (x ∷ xs) h = ap (λ (b : Bool). b || any f xs) (h x) ∙ any-none xs h
+
+  -- one of two tests
+  pub any-either : (g h : A → Bool) → ((x : A) → h x ≡ (f x || g x)) → (xs : List A) → any h xs ≡ (any f xs || any g xs)
+  unfolding any
+  any-either g h e [] = refl
+  any-either g h e (x ∷ xs) = ap₂ _||_ (e x) (any-either g h e xs) ∙ swap (f x) (g x) (any f xs) (any g xs)
+    where
+      swap : (a b c d : Bool) → ((a || b) || (c || d)) ≡ ((a || c) || (b || d))
+      swap true b c d = refl
+      swap false true true d = refl
+      swap false true false d = refl
+      swap false false c d = refl
 
 -- ---- `same`
 pub same-refl : (xs : List ℕ) → same xs xs ≡ true

@@ -14,9 +14,11 @@ use Rattle.lists.proofs.Bools.{and-both, or-left, false-of}
 use Rattle.words.specs.Bit.{testBit}
 use Rattle.words.specs.Literal.{atom, isPresent, code, opposite, wordOf}
 use Rattle.words.specs.Region.{has, mark, Region, region, holds, contradicts, markLiteral, decide, Decision, decision, decisionOn}
-use Rattle.words.specs.Region.{decisionWith, wordsFor}
+use Rattle.words.specs.Region.{decisionWith, marking, wordsFor}
+use Rattle.words.specs.declared.Marking.{Marking}
+use Rattle.words.specs.declared.Marking.the-variants.{Anew, Already, False}
 use Rattle.words.proofs.Literals.{atom-code, present-code, same-sign, other-sign, opposite-code, atom-opposite, present-opposite}
-use Rattle.words.proofs.Regions.{Set, Sound, has-mark, length-mark, words-mark, at-place}
+use Rattle.words.proofs.Regions.{Set, Sound, has-mark, length-mark, words-mark, mark-again, at-place}
 
 -- ---- the side that a literal asks
 module _ (r : Region) (c : ℕ) where
@@ -237,6 +239,68 @@ module _ (n : ℕ) (held cut : List ℕ) (c : ℕ) (b : Bool) (held′ cut′ : 
       go : (d : Option Region) → decide n before c ≡ d → decide n before c ≡ some (region held′ cut′)
       go none q = absurd (true≢false (sym f ∙ ap (λ (x : Decision). x .answer) (e ∙ ap (decision before) q)))
       go (some s) q = q ∙ ap some (sym (ap (λ (x : Decision). x .after) (e ∙ ap (decision before) q)))
+
+-- ---- what it did
+already-anew : Already ≡ Anew → ⊥
+already-anew e = let z : _≡_ {A = ℕ} 0 1 = cc in omega arith
+
+module _ (n : ℕ) (r : Region) (c : ℕ) where
+  -- a literal that holds, marked again
+  pub held-again : holds r c ≡ true → markLiteral r c ≡ r
+  held-again t = go (isPresent c) refl
+    where
+      go : (p : Bool) → isPresent c ≡ p → markLiteral r c ≡ r
+      go true e =
+          mark-present r c e
+          ∙ ap (λ (ws : List ℕ). region ws (r .cut)) (mark-again (r .held) (atom c) (sym (holds-present r c e) ∙ t))
+      go false e =
+          mark-absent r c e
+          ∙ ap (λ (ws : List ℕ). region (r .held) ws) (mark-again (r .cut) (atom c) (sym (holds-absent r c e) ∙ t))
+
+  marking-some : (s : Region) → decide n r c ≡ some s
+      → marking n r c ≡ (elim (holds r c) as (λ k. Marking) [ true ↦ Already | false ↦ Anew ])
+  unfolding marking
+  marking-some s e = rw (e, marking)
+
+  marking-none : decide n r c ≡ none → marking n r c ≡ False
+  unfolding marking
+  marking-none e = rw (e, marking)
+
+  -- marked already: the region is as it was; marked anew: the literal did not hold
+  pub marked-already : (s : Region) → decide n r c ≡ some s → marking n r c ≡ Already → s ≡ r
+  marked-already s e m = go (holds r c) refl
+    where
+      go : (b : Bool) → holds r c ≡ b → s ≡ r
+      go true t = decide-some n r c s e .2 ∙ held-again t
+      go false t = absurd (already-anew (sym m ∙ marking-some s e ∙ rw t refl))
+
+  pub marked-anew : (s : Region) → decide n r c ≡ some s → marking n r c ≡ Anew → holds r c ≡ false
+  marked-anew s e m = false-of (holds r c) (λ t. already-anew (sym (sym m ∙ marking-some s e ∙ rw t refl)))
+
+-- ---- the code's ways through `decide_literal`
+module _ (n : ℕ) (held cut : List ℕ) (c : ℕ) where
+  abbrev given : Region
+  given = region held cut
+
+  pub said-out : n ≤ c / 2 → (False ≡ marking n (region held cut) c) × (decisionWith false held cut ≡ decisionOn n held cut c)
+  unfolding atom
+  said-out h = let o = decide-out n given c h in (sym (marking-none n given c o), sym (ap (decision given) o))
+
+  pub said-against : contradicts (region held cut) c ≡ true
+      → (False ≡ marking n (region held cut) c) × (decisionWith false held cut ≡ decisionOn n held cut c)
+  said-against e = let o = decide-against n given c e in (sym (marking-none n given c o), sym (ap (decision given) o))
+
+  pub said-marked : (held′ cut′ : List ℕ) (t : Bool) → c / 2 < n → contradicts (region held cut) c ≡ false
+      → holds (region held cut) c ≡ t → region held′ cut′ ≡ markLiteral (region held cut) c
+      → ((elim t as (λ k. Marking) [ true ↦ Already | false ↦ Anew ]) ≡ marking n (region held cut) c)
+      × (decisionWith true held′ cut′ ≡ decisionOn n held cut c)
+  unfolding atom
+  said-marked held′ cut′ t l e f q =
+      let o = decide-marks n given c l e in (
+        sym (marking-some n given c (markLiteral given c) o
+            ∙ ap (λ (b : Bool). elim b as (λ k. Marking) [ true ↦ Already | false ↦ Anew ]) f),
+        ap {B = Decision} (λ (r : Region). record { answer = true; after = r }) q ∙ sym (ap (decision given) o),
+      )
 
 -- ---- the code's ways through `decide`
 module _ (n : ℕ) (held cut : List ℕ) (a : ℕ) (p : Bool) where

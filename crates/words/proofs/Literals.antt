@@ -102,3 +102,12 @@ atom-opposite c = ap atom (opposite-parts c) ∙ atom-code (atom c) (not (isPres
 
 pub present-opposite : (c : ℕ) → isPresent (opposite c) ≡ not (isPresent c)
 present-opposite c = ap isPresent (opposite-parts c) ∙ present-code (atom c) (not (isPresent c))
+
+pub opposite-twice : (c : ℕ) → opposite (opposite c) ≡ c
+opposite-twice c =
+    literal-ext (opposite (opposite c)) c (atom-opposite (opposite c) ∙ atom-opposite c)
+    (present-opposite (opposite c) ∙ ap not (present-opposite c) ∙ twice (isPresent c))
+  where
+    twice : (p : Bool) → not (not p) ≡ p
+    twice true = refl
+    twice false = refl

@@ -34,6 +34,8 @@ pub struct Made {
     pub store: Change,
     /// The atoms that it marked.
     pub decided: u32,
+    /// The hits that a closing counted.
+    pub hits: u64,
     /// What differs, in words.
     pub difference: Option<String>,
 }
@@ -82,7 +84,7 @@ impl World {
         let places = call.places();
         let before = (self.header(places.0), self.header(places.1));
         let given = End::lent(call, &self.ledgers);
-        let marked = given.marked();
+        let (marked, hits) = (given.marked(), self.hits(call));
         let Ended { answer, end } = rust::run(call, &mut self.ledgers)?;
         let mut lent = host::lend(call, &mut self.books, given)?;
         let head = lent.tier.head;
@@ -99,8 +101,21 @@ impl World {
             tier: before.0.zip(after.0),
             store: before.1.zip(after.1),
             decided: end.marked() - marked,
+            hits: self.hits(call).wrapping_sub(hits),
             difference,
         })
+    }
+
+    /// All hits of the ledger that is closed.
+    fn hits(&self, call: &Call) -> u64 {
+        let Call::Close { place, .. } = call else {
+            return 0;
+        };
+        let Some(ledger) = &self.ledgers[*place] else {
+            return 0;
+        };
+        let hits = (0..ledger.rows()).map(|position| ledger.row(position).hits);
+        hits.fold(0, u64::wrapping_add)
     }
 
     fn header(&self, place: Option<usize>) -> Option<Header> {

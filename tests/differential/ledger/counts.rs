@@ -97,7 +97,7 @@ fn ending(answer: Answer, charge: u64) -> String {
 }
 
 /// The shapes that must occur.
-const SHAPES: [&str; 48] = [
+const SHAPES: [&str; 51] = [
     "1 atom",
     "2 to 130 atoms",
     "4,096 atoms or more",
@@ -133,6 +133,9 @@ const SHAPES: [&str; 48] = [
     "a closing that builds the postings",
     "a closing by postings that were built",
     "a closing that decides 3 atoms or more",
+    "a closing that counts fewer hits than it decides atoms",
+    "a closing stopped after it counted a hit",
+    "a Conflict with nothing decided, and its hit",
     "a deduction of a packed row",
     "a deduction of a scalar row",
     "a cursor inside a group",
@@ -238,6 +241,16 @@ impl Shapes {
         self.note(builds, "a closing that builds the postings");
         self.note(!before.stale, "a closing by postings that were built");
         self.note(made.decided >= 3, "a closing that decides 3 atoms or more");
+        let decided = u64::from(made.decided);
+        let fewer = made.hits > 0 && made.hits < decided;
+        self.note(
+            fewer,
+            "a closing that counts fewer hits than it decides atoms",
+        );
+        let stopped = made.answer == Answer::Stopped && made.hits > 0;
+        self.note(stopped, "a closing stopped after it counted a hit");
+        let against = made.answer == Answer::Conflict && decided == 0 && made.hits == 1;
+        self.note(against, "a Conflict with nothing decided, and its hit");
     }
 
     fn of_seeding(&mut self, made: &Made, tier: (Header, Header), store: (Header, Header)) {

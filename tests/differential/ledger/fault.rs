@@ -31,6 +31,8 @@ pub enum Fault {
     Region,
     /// A closing leaves a word in its scratch.
     Scratch,
+    /// A stopped closing counts a hit that no reading earned.
+    Earned,
     /// A refused call writes its answer.
     Refused,
     /// A stopped seeding moves the mark.
@@ -42,7 +44,7 @@ pub enum Fault {
 }
 
 impl Fault {
-    pub const ALL: [Self; 16] = [
+    pub const ALL: [Self; 17] = [
         Self::Ticks,
         Self::Meter,
         Self::Sign,
@@ -55,6 +57,7 @@ impl Fault {
         Self::Cursor,
         Self::Region,
         Self::Scratch,
+        Self::Earned,
         Self::Refused,
         Self::Mark,
         Self::Unshared,
@@ -114,6 +117,9 @@ impl Fault {
         match (self, end.answer[0], held) {
             (Self::Region, 1, Some(word)) => *word &= *word - 1,
             (Self::Scratch, 0, _) => end.scratch = Scratch::Else,
+            (Self::Earned, 2, _) if lent.tier.head[11] > 0 => {
+                lent.tier.slots[4] = lent.tier.slots[4].wrapping_add(1);
+            }
             _ => {}
         }
     }

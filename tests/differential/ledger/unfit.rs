@@ -48,6 +48,7 @@ pub fn step(world: &World, call: &Call, wounds: &[Wound]) -> Option<Made> {
         tier: None,
         store: None,
         decided: 0,
+        hits: 0,
         difference,
     })
 }

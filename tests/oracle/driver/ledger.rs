@@ -485,15 +485,21 @@ fn transfer_refusal(tier: &Ledger, store: &Ledger) -> Option<u64> {
     (tier.atoms != store.atoms).then_some(7)
 }
 
-/// Closing, which the Rust does not have: document 01, module 8. True is Closed, false is Conflict.
+/// Closing, which the Rust does not have: document 01, module 8, with 02's rule of hits. True is Closed, false is Conflict.
 fn rounds(tier: &mut Tier, region: &mut Region, work: &mut Work<'_>) -> Metered<bool> {
     tier.begin_narrowing();
     let mut decided: Vec<usize> = Vec::new();
+    let (mut before, mut unread) = (vec![0; region.mask_words()], vec![0; region.mask_words()]);
     loop {
-        let mut before = vec![0; region.mask_words()];
         region.snapshot_decided(&mut before);
         for position in tier.candidates(&decided, work)? {
-            if !apply(tier, position, region, work)? {
+            region.snapshot_decided(&mut unread);
+            let end = apply(tier, position, region, work);
+            // Document 02, Two: a hit for a reading that decided an atom, also before a stop, or ended in Conflict.
+            if matches!(end, Ok(false)) || region.decided_since(&unread).next().is_some() {
+                tier.hit(position);
+            }
+            if !end? {
                 return Ok(false);
             }
         }
@@ -509,7 +515,7 @@ fn rounds(tier: &mut Tier, region: &mut Region, work: &mut Work<'_>) -> Metered<
 
 /// Deduce one row on the region as it is, and decide what follows. False is Conflict.
 fn apply(
-    tier: &mut Tier,
+    tier: &Tier,
     position: usize,
     region: &mut Region,
     work: &mut Work<'_>,
@@ -517,14 +523,8 @@ fn apply(
     let (held, cut) = region.decision_words();
     match tier.deduction(position, held, cut, work)? {
         Deduced::Nothing => Ok(true),
-        Deduced::Require(literal) => {
-            tier.hit(position);
-            Ok(mark(region, literal))
-        }
-        Deduced::Force => {
-            tier.hit(position);
-            publish(tier, position, region, work)
-        }
+        Deduced::Require(literal) => Ok(mark(region, literal)),
+        Deduced::Force => publish(tier, position, region, work),
     }
 }
 

@@ -1,8 +1,10 @@
 -- `close_publish::act`. One law for each way out. Assumes nothing.
+use mathlib.Core.Path.{_∙_}
+use mathlib.Core.Logic.{⊎-map}
 use borrow.Author.Needs.{needs}
 use Rattle.close_publish.specs.Turns.{ledgerOf}
-use Rattle.close_publish.proofs.Standing.{slot-fits, stored-part, hit-stands, decided-stands}
-use Rattle.close_publish.proofs.Obeying.{act-stopped, act-nothing, part-row, act-follows}
+use Rattle.close_publish.proofs.Standing.{Hits, hits-length, slot-fits, stored-part, hits-stand, decided-stands}
+use Rattle.close_publish.proofs.Obeying.{act-stopped, act-nothing, part-row, act-reads}
 use Rattle.close_publish.proofs.act.Statement.{statement}
 use Rattle.close_publish.proofs.act.Tie as tie
 
@@ -22,20 +24,11 @@ at-deduction c = c .before .before .before
 abbrev at-deduction-from-enum-told : tie.After-enum-told → tie.After-deduction
 at-deduction-from-enum-told c = c .before .before .before .before
 
-abbrev at-match-keys2 : tie.After-hit → tie.At-match-keys2
-at-match-keys2 c = c .before .before
+abbrev at-match-keys2 : tie.After-follow-arg3 → tie.At-match-keys2
+at-match-keys2 c = c .before .before .before .before
 
-abbrev at-hit-from-slots3 : tie.After-slots3 → tie.After-hit
-at-hit-from-slots3 c = c .before .before .before
-
-abbrev at-hit : tie.After-follow-arg3 → tie.After-hit
-at-hit c = at-hit-from-slots3 (c .before .before .before)
-
-abbrev at-hit-from-cut : tie.After-cut → tie.After-hit
-at-hit-from-cut c = at-hit (c .before .before .before .before)
-
-abbrev at-hit-from-slice-known6 : tie.After-slice-known6 → tie.After-hit
-at-hit-from-slice-known6 c = at-hit-from-cut (c .before)
+abbrev at-follow : tie.After-slice-known5 → tie.After-follow
+at-follow c = c .before .before .before .before
 
 mul-a : tie.Need-mul-a
 mul-a c =
@@ -125,16 +118,9 @@ returns-2 c =
       t .pre .0,
     )
 
-hit-requires : tie.Need-hit-requires
-hit-requires c κs =
-    let t = at-start (at-deduction (c .before)) in
-    let a = t .args in
-    let f = slot-fits (a .atoms) (a .rows) _ (a .slots .now) (a .held .now) (a .cut .now) (t .pre .0) (a .position) (t .pre .1) in
-    search needs
-
 mul-follow : tie.Need-mul-follow
 mul-follow c =
-    let t = at-start (at-deduction (at-match-keys2 (c .before .before))) in
+    let t = at-start (at-deduction c) in
     let a = t .args in
     let f = slot-fits (a .atoms) (a .rows) _ (a .slots .now) (a .held .now) (a .cut .now) (t .pre .0) (a .position) (t .pre .1) in
     search needs
@@ -147,22 +133,41 @@ part-follow-start c = search needs
 
 part-follow-end : tie.Need-part-follow-end
 part-follow-end c =
-    let t = at-start (at-deduction (at-match-keys2 (c .before .before .before))) in
+    let t = at-start (at-deduction (c .before)) in
     let a = t .args in
     let f = slot-fits (a .atoms) (a .rows) _ (a .slots .now) (a .held .now) (a .cut .now) (t .pre .0) (a .position) (t .pre .1) in
     search needs
 
 follow-requires : tie.Need-follow-requires
 follow-requires c κs =
-    let hit = at-hit c in
-    let t = at-start (at-deduction (at-match-keys2 hit)) in
+    let t = at-start (at-deduction (at-match-keys2 c)) in
+    let a = t .args in (
+      stored-part (a .atoms) (a .rows) _ (a .slots .now) (a .held .now) (a .cut .now) (t .pre .0) (a .position) (t .pre .1),
+      t .pre .0 .region,
+    )
+
+hit-requires : tie.Need-hit-requires
+hit-requires c κs =
+    let t = at-start (at-deduction (at-match-keys2 (at-follow (c .before .before) .before))) in
     let a = t .args in
-    let s = hit-stands (a .atoms) (a .rows) _ (a .slots .now) (a .held .now) (a .cut .now) (t .pre .0) (a .position) (t .pre .1) _
-    (hit .hit .ensures) in
-    (stored-part (a .atoms) (a .rows) _ _ (a .held .now) (a .cut .now) s (a .position) (t .pre .1), t .pre .0 .region)
+    let f = slot-fits (a .atoms) (a .rows) _ (a .slots .now) (a .held .now) (a .cut .now) (t .pre .0) (a .position) (t .pre .1) in
+    search needs
+
+-- the slots at the end: with the hit that was earned, or as they were
+module _ (c : tie.Joined2) where
+  abbrev follow-place : tie.After-follow
+  follow-place = at-follow (c .before)
+
+  abbrev start : tie.Start
+  start = at-start (at-deduction (at-match-keys2 (follow-place .before)))
+
+  hits : Hits (at-follow (c .before) .follow .result .earned)
+      (at-start (at-deduction (at-match-keys2 (at-follow (c .before) .before))) .args .position)
+      (at-start (at-deduction (at-match-keys2 (at-follow (c .before) .before))) .args .slots .now) (c .if2 .slots)
+  hits = ⊎-map (λ w. (w .0 .taken, w .5 ∙ w .2 .ensures)) (λ w. (w .0 .left, w .1)) (c .if2 .came)
 
 same-length-7 : tie.Need-same-length-7
-same-length-7 c = search needs
+same-length-7 c = hits-length _ _ _ _ (hits (c .before))
 
 same-length-8 : tie.Need-same-length-8
 same-length-8 c = search needs
@@ -172,20 +177,19 @@ same-length-9 c = search needs
 
 returns-3 : tie.Need-returns-3
 returns-3 c =
-    let hit-place = at-hit-from-slice-known6 c in
-    let match-keys2 = at-match-keys2 hit-place in
+    let joined2 = c .before in
+    let place = at-follow (joined2 .before) in
+    let match-keys2 = at-match-keys2 (place .before) in
     let deduction = at-deduction match-keys2 in
     let t = at-start deduction in
     let a = t .args in
     let d = deduction .deduction in
-    let hit = hit-place .hit in
-    let g = c .before .before .before .before .follow in
-    let s = hit-stands (a .atoms) (a .rows) _ (a .slots .now) (a .held .now) (a .cut .now) (t .pre .0) (a .position) (t .pre .1) _
-    (hit .ensures) in (
-      act-follows (a .atoms) (a .rows) (a .position) (a .slots .now) (a .held .now) (a .cut .now) (a .work) (t .pre .0 .holds) (t .pre .1)
-          (d .result) (d .ensures) (match-keys2 .before .if1 .left) (match-keys2 .match .keys2) _
-          (hit .ensures) (g .result) _ _ (g .ensures .0),
-      decided-stands (a .atoms) (a .rows) _ _ (a .held .now) (a .cut .now) s _ _ (g .ensures .1),
+    let g = place .follow in
+    let z = hits joined2 in
+    let s = hits-stand (a .atoms) (a .rows) _ (a .slots .now) (a .held .now) (a .cut .now) (t .pre .0) _ (a .position) (t .pre .1) _ z in (
+      λ h. act-reads (a .atoms) (a .rows) (a .position) (a .slots .now) (a .held .now) (a .cut .now) (a .work) (t .pre .0 .holds)
+          (t .pre .1) (d .result) (d .ensures) (match-keys2 .before .if1 .left) (g .result) _ _ (g .ensures .0) (g .ensures .1 .0) h _ z,
+      decided-stands (a .atoms) (a .rows) _ _ (a .held .now) (a .cut .now) s _ _ (g .ensures .1 .1),
     )
 
 pub act-spec : {M : Type 1} → statement M
@@ -208,12 +212,12 @@ act-spec =
     same-length-5
     same-length-6
     returns-2
-    hit-requires
     mul-follow
     sub-follow
     part-follow-start
     part-follow-end
     follow-requires
+    hit-requires
     same-length-7
     same-length-8
     same-length-9

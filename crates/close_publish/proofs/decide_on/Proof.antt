@@ -1,6 +1,9 @@
 -- `close_publish::decide_on`. The decision, or a Conflict with the region as it was. Assumes nothing.
+use mathlib.Core.Path.{ap}
 use borrow.Author.Needs.{needs}
-use Rattle.close_publish.proofs.Deciding.{decided-going, decided-conflict, decided-region}
+use Rattle.words.specs.Region.{region, answerIn}
+use Rattle.close_publish.specs.Turns.{state}
+use Rattle.close_publish.proofs.Deciding.{decided-going, decided-conflict, decided-region, anew-earns, already-earns, conflict-earns}
 use Rattle.close_publish.proofs.decide_on.Statement.{statement}
 use Rattle.close_publish.proofs.decide_on.Tie as tie
 
@@ -11,17 +14,20 @@ at-start-from-decide-literal-arg2 c = c .before .before .before .before
 abbrev at-start : tie.After-decide-literal → tie.Start
 at-start c = at-start-from-decide-literal-arg2 (c .before)
 
-abbrev at-decide-literal-from-slice-known4 : tie.After-slice-known4 → tie.After-decide-literal
-at-decide-literal-from-slice-known4 c = c .before .before .before .before
-
-abbrev at-decide-literal : tie.Then1 → tie.After-decide-literal
-at-decide-literal c = at-decide-literal-from-slice-known4 (c .before)
-
-abbrev at-decide-literal-from-else1 : tie.Else1 → tie.After-decide-literal
-at-decide-literal-from-else1 c = at-decide-literal-from-slice-known4 (c .before)
+abbrev at-decide-literal : tie.After-slice-known4 → tie.After-decide-literal
+at-decide-literal c = c .before .before .before .before
 
 decide-literal-requires : tie.Need-decide-literal-requires
 decide-literal-requires c κs = search needs
+
+enum-told : tie.Need-enum-told
+enum-told c = search needs
+
+enum-told-2 : tie.Need-enum-told-2
+enum-told-2 c = search needs
+
+enum-told-3 : tie.Need-enum-told-3
+enum-told-3 c = search needs
 
 same-length : tie.Need-same-length
 same-length c = search needs
@@ -31,11 +37,16 @@ same-length-2 c = search needs
 
 returns : tie.Need-returns
 returns c =
-    let k = at-decide-literal c in
-    let t = at-start k in
-    let a = t .args in (
-      decided-going (a .atoms) (a .held .now) (a .cut .now) (a .literal) _ _ _ (k .decide-literal .ensures) (c .if1 .taken) (a .work),
-      decided-region (a .atoms) (a .held .now) (a .cut .now) (a .literal) _ _ _ (k .decide-literal .ensures) (t .pre),
+    let place = at-decide-literal (c .before .before) in
+    let t = at-start place in
+    let a = t .args in
+    let d = place .decide-literal .ensures in
+    let anew = c .enum-told .given .1 in (
+      decided-going (a .atoms) (a .held .now) (a .cut .now) (a .literal) _ _ _ (d .1) (ap answerIn anew) (a .work),
+      (
+        anew-earns (a .atoms) (a .held .now) (a .cut .now) (a .literal) _ _ _ (d .0) (d .1) (t .pre) anew (a .work),
+        decided-region (a .atoms) (a .held .now) (a .cut .now) (a .literal) _ _ _ (d .1) (t .pre),
+      ),
     )
 
 same-length-3 : tie.Need-same-length-3
@@ -46,11 +57,35 @@ same-length-4 c = search needs
 
 returns-2 : tie.Need-returns-2
 returns-2 c =
-    let k = at-decide-literal-from-else1 c in
-    let t = at-start k in
-    let a = t .args in (
-      decided-conflict (a .atoms) (a .held .now) (a .cut .now) (a .literal) _ _ _ (k .decide-literal .ensures) (c .if1 .left) (a .work),
-      decided-region (a .atoms) (a .held .now) (a .cut .now) (a .literal) _ _ _ (k .decide-literal .ensures) (t .pre),
+    let place = at-decide-literal (c .before .before) in
+    let t = at-start place in
+    let a = t .args in
+    let d = place .decide-literal .ensures in
+    let already = c .enum-told2 .given .1 in (
+      decided-going (a .atoms) (a .held .now) (a .cut .now) (a .literal) _ _ _ (d .1) (ap answerIn already) (a .work),
+      (
+        already-earns (a .atoms) (a .held .now) (a .cut .now) (a .literal) _ _ _ (d .0) (d .1) (t .pre) already (a .work),
+        decided-region (a .atoms) (a .held .now) (a .cut .now) (a .literal) _ _ _ (d .1) (t .pre),
+      ),
+    )
+
+same-length-5 : tie.Need-same-length-5
+same-length-5 c = search needs
+
+same-length-6 : tie.Need-same-length-6
+same-length-6 c = search needs
+
+returns-3 : tie.Need-returns-3
+returns-3 c =
+    let place = at-decide-literal (c .before .before) in
+    let t = at-start place in
+    let a = t .args in
+    let d = place .decide-literal .ensures in (
+      decided-conflict (a .atoms) (a .held .now) (a .cut .now) (a .literal) _ _ _ (d .1) (ap answerIn (c .enum-told3 .given .1)) (a .work),
+      (
+        λ l. conflict-earns (a .atoms) (region (a .held .now) (a .cut .now)) (state l _ _ (a .work)),
+        decided-region (a .atoms) (a .held .now) (a .cut .now) (a .literal) _ _ _ (d .1) (t .pre),
+      ),
     )
 
 pub decide-on-spec : {M : Type 1} → statement M
@@ -58,9 +93,15 @@ decide-on-spec =
     tie.close
     (tie.spec
     decide-literal-requires
+    enum-told
+    enum-told-2
+    enum-told-3
     same-length
     same-length-2
     returns
     same-length-3
     same-length-4
-    returns-2)
+    returns-2
+    same-length-5
+    same-length-6
+    returns-3)

@@ -3,7 +3,7 @@ use mathlib.Core.Path.{_∙_}
 use borrow.Author.Needs.{needs}
 use Rattle.model.specs.Slots.{rowIn}
 use Rattle.close_publish.specs.Turns.{state}
-use Rattle.close_publish.proofs.Obeying.{follow-nothing, follow-force, follow-require}
+use Rattle.close_publish.proofs.Obeying.{follow-nothing, follow-force, follow-require, going-unearned}
 use Rattle.close_publish.proofs.follow.Statement.{statement}
 use Rattle.close_publish.proofs.follow.Tie as tie
 
@@ -56,7 +56,7 @@ returns c =
     let a = t .args in (
       λ l. follow-nothing (a .atoms) (rowIn (a .slot .now)) (a .said) (state l (a .held .now) (a .cut .now) (a .work))
           (c .enum-told .given .1),
-      t .pre .1,
+      (λ l. going-unearned (a .atoms) l (a .held .now) (a .cut .now) (a .work), t .pre .1),
     )
 
 same-length : tie.Need-same-length

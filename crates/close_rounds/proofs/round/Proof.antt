@@ -36,11 +36,8 @@ at-act-from-slice-known5 c = c .before .before .before .before
 abbrev at-act-from-match-keys2 : tie.At-match-keys2 Inv-loop μ-loop → tie.After-act Inv-loop μ-loop
 at-act-from-match-keys2 c = at-act-from-slice-known5 (c .before .before .before)
 
-abbrev at-act-from-enum-told : tie.After-enum-told Inv-loop μ-loop → tie.After-act Inv-loop μ-loop
-at-act-from-enum-told c = at-act-from-slice-known5 (c .before .before .before .before)
-
-abbrev at-act : tie.After-meter Inv-loop μ-loop → tie.After-act Inv-loop μ-loop
-at-act c = at-act-from-enum-told (c .before)
+abbrev at-act : tie.After-enum-told Inv-loop μ-loop → tie.After-act Inv-loop μ-loop
+at-act c = at-act-from-slice-known5 (c .before .before .before .before)
 
 loop-holds : tie.Need-loop-holds Inv-loop μ-loop
 loop-holds c =
@@ -85,7 +82,7 @@ loop-again c =
     let x = in-loop .loop-test .taken in
     read-on (t .args .atoms) (t .args .rows) (t .args .positions .now) (t .args .slots .now) (t .args .held .now) (t .args .cut .now)
     (t .args .work) (l .slots) (l .held) (l .cut) (l .meter) (l .i) (l .inv) x (g .result) _ _ _ (g .ensures .0) (g .ensures .1)
-    (c .before .enum-told .given .1) (g .kept .1 .1 .0) (g .kept .1 .1 .1 .1 .0) (g .kept .1 .1 .1 .1 .1 .0)
+    (c .enum-told .given .1) (g .kept .1 .1 .0) (g .kept .1 .1 .1 .1 .0) (g .kept .1 .1 .1 .1 .1 .0)
 
 same-length : tie.Need-same-length Inv-loop μ-loop
 same-length c = search needs

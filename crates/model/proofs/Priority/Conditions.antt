@@ -124,6 +124,11 @@ clean-of n k (c ∷ cs) t a = (
     no-way : (a b : ℕ) → a ≡ b → suc b ≤ a → ⊥
     no-way a b e h = omega arith
 
+pub clean-in : (n : ℕ) (cs : List ℕ) → Clean n cs → (x : ℕ) → In x cs → atom x < n
+clean-in n [] k x i = absurd i
+clean-in n (c ∷ cs) k x (inl e) = subst (λ (y : ℕ). atom y < n) (sym e) (half-lt n c (k .0))
+clean-in n (c ∷ cs) k x (inr i) = clean-in n cs (k .2) x i
+
 pub row-clean : (n : ℕ) (r : Row) → T (isRowOver n r) → Clean n (r .conditions)
 unfolding isRowOver
 row-clean n r t =

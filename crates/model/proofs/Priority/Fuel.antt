@@ -30,7 +30,7 @@ use Rattle.model.specs.Deduction.{deductionTicks, startCursor}
 use Rattle.model.specs.Deduction as deducing
 use Rattle.model.specs.Postings.{Search, searched, rebuilt, searchTicks, postingsOf, candidates as search}
 use Rattle.model.specs.Closing.{State, Turn, going, conflict, halted, onGoing, withMeter, withHeader, counted, decideOn, publish}
-use Rattle.model.specs.Closing.{obey, act, round, decidedSince, rounds, closing}
+use Rattle.model.specs.Closing.{withHit, follow, reading, act, round, decidedSince, rounds, closing}
 use Rattle.model.specs.Refusals.{Lent, ledgerIn, refusal, accepts}
 use Rattle.model.specs.Answers.{Reply, refused, answered, closeReply}
 use Rattle.model.specs.Operations.{CloseEnd, closeEnd, close, regionOk}
@@ -39,6 +39,7 @@ use Rattle.model.proofs.Packing.{Asc}
 use Rattle.model.proofs.Priority.Covering.{rowsE}
 use Rattle.model.proofs.Priority.Fine.{Fine}
 use Rattle.model.proofs.Priority.Steps.{opt-elim, accepted, refusal-cons, fine-in}
+use Rattle.model.proofs.Priority.Quiet.{act-by}
 use Rattle.model.proofs.Priority.Cursors.{Good, Gives as Given, next-gives}
 use Rattle.model.proofs.Priority.Reaching.{After, Left, Resting}
 use Rattle.model.proofs.Priority.Ends.{region-ok, atoms-in}
@@ -308,27 +309,32 @@ publish-halts (suc fuel) n r k s =
             halts-on Any (decideOn n c t) (publish fuel n r (x .cursor)) (decide-halts n c t) (on-any (decideOn n c t))
             (λ u w. ih (x .cursor) u)
 
-obey-halts : (n p : ℕ) (r : Row) (d : Deduction) (s : State) → Halts (obey n p r d s)
-unfolding obey
-obey-halts n p r Nothing s = tt
-obey-halts n p r Force s = publish-halts (suc (length (r .outputs))) n r startCursor (counted p s)
-obey-halts n p r (Require c) s = decide-halts n (c .0) (counted p s)
+follow-halts : (n : ℕ) (r : Row) (d : Deduction) (s : State) → Halts (follow n r d s)
+unfolding follow
+follow-halts n r Nothing s = tt
+follow-halts n r Force s = publish-halts (suc (length (r .outputs))) n r startCursor s
+follow-halts n r (Require c) s = decide-halts n (c .0) s
+
+reading-halts : (n : ℕ) (r : Row) (s : State) → Halts (reading n r s)
+unfolding reading withMeter
+reading-halts n r s = go (ticks (deductionTicks (s .region) r) (s .meter)) (ticks-spent (deductionTicks (s .region) r) (s .meter))
+  where
+    at : Meter → State
+    at m = record { ledger = s .ledger; region = s .region; meter = m }
+
+    go : (t : Tick) → TickOk t
+        → Halts (elim t as (λ k. Turn) [ Stopped m ↦ halted (at m) | Ticked m ↦ follow n r (deduction (s .region) r) (at m) ])
+    go (Stopped m) o = o
+    go (Ticked m) o = follow-halts n r (deduction (s .region) r) (at m)
+
+hit-halts : (p : ℕ) (t : Turn) → Halts t → Halts (withHit p t)
+unfolding withHit counted
+hit-halts p (going s) h = tt
+hit-halts p (conflict s) h = tt
+hit-halts p (halted s) h = h
 
 act-halts : (n p : ℕ) (s : State) → Halts (act n p s)
-unfolding act withMeter
-act-halts n p s =
-    go (ticks (deductionTicks (s .region) (rowAt p (s .ledger))) (s .meter))
-    (ticks-spent (deductionTicks (s .region) (rowAt p (s .ledger))) (s .meter))
-  where
-    go : (t : Tick) → TickOk t → Halts (elim t as (λ k. Turn) [
-      | Stopped m ↦ halted (record { ledger = s .ledger; region = s .region; meter = m })
-      | Ticked m ↦ obey n p (rowAt p (s .ledger)) (deduction (s .region) (rowAt p (s .ledger)))
-          (record { ledger = s .ledger; region = s .region; meter = m })
-    ])
-    go (Stopped m) o = o
-    go (Ticked m) o =
-        obey-halts n p (rowAt p (s .ledger)) (deduction (s .region) (rowAt p (s .ledger)))
-        (record { ledger = s .ledger; region = s .region; meter = m })
+act-halts n p s = let h = reading-halts n (rowAt p (s .ledger)) s in act-by Halts n p s h (hit-halts p _ h)
 
 round-halts : (n : ℕ) (ps : List ℕ) (s : State) → Halts (round n ps s)
 unfolding round

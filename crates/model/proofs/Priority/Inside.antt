@@ -1,78 +1,49 @@
 -- A closing stays inside every closed region above the given one; a Conflict leaves none. Assumes nothing.
-use mathlib.Core.Path.{_≡_, refl, sym, _∙_, ap, ap₂, subst}
+use mathlib.Core.Path.{_≡_, refl, sym, _∙_, ap, subst}
 use mathlib.Core.Logic.{_⊎_, inl, inr}
 use mathlib.Core.Bool.{Bool, true, false, _&&_, _||_, not}
-use mathlib.Core.List.{List, [], _∷_, _++_, map}
-use mathlib.Core.Option.{Option, none, some, IsSome}
-use Prim.Native.Nat.{ℕ, zero, suc, _+_, _*_, _/_, _≤_, _<_, max}
-use native.Mathlib.Nat.{le-trans}
+use mathlib.Core.List.{List, [], _∷_}
+use mathlib.Core.Option.{Option, none, some}
+use Prim.Native.Nat.{ℕ, zero, suc, _*_, _<_}
 use native.Mathlib.Omega.{arith}
-use lib.Dec.{T, eqb, leb, ltb, le→leb, leb→le, eqb→eq, ltb→lt}
-use lib.ListN.{length}
-use Rattle.lists.specs.Lists.{all, adjust, ascending, above, below, same}
+use lib.Dec.{T, eqb, ltb, eqb→eq, ltb→lt}
+use Rattle.lists.specs.Lists.{above, same}
 use Rattle.lists.proofs.Bools.{T-true, T-of}
 use Rattle.words.specs.Literal.{atom}
-use Rattle.words.specs.Region.{Region, decide, atomsOk}
+use Rattle.words.specs.Region.{Region, decide}
 use Rattle.meter.specs.declared.Meter.{Meter}
-use Rattle.meter.specs.declared.Tick.{Tick}
-use Rattle.meter.specs.declared.Tick.the-variants.{Ticked, Stopped}
-use Rattle.meter.specs.Meter.{tickOf, ticks, pay, made}
-use Rattle.model.specs.declared.LearningLimits.{LearningLimits}
-use Rattle.model.specs.declared.Header.{Header}
-use Rattle.model.specs.Records.{Row, Entry, Ledger, rowsOf, rowAt, isRow, isRowOver, within, limitsOk, literals, saturatingAdd}
-use Rattle.model.specs.Records.{withRows}
-use Rattle.model.specs.Records.{withStale, withFull, attempted, withAccount, withMark, withDeliveries, withSeeded, withHits, hitEntry}
-use Rattle.model.specs.Records.{withDelivered}
-use Rattle.model.specs.Slots.{slotsOf, entriesIn}
-use Rattle.model.specs.Retention.{Retention, Outcome, Stops, Declines, Subsumes, Adds, retain, canCapture}
-use Rattle.model.specs.Transfers.{Transfer, Delivery, Progress, starting, ticked, receive, received, changeAt, seedRows, markFor}
-use Rattle.model.specs.Transfers.{seeding, marked, seededTier, seededStore, passesOver, front, deliverRows, delivering, deliveredTier}
-use Rattle.model.specs.Transfers.{deliveredStore}
-use Rattle.model.specs.Transfers as transfers
-use Rattle.model.specs.Refusals.{Lent, refusal, ledgerIn, lentOf, lengthsOk, entryOk, countsOk, wordsOk, contentsOk, accepts}
-use Rattle.model.specs.Operations.{Offered, unoffered, capture, fitsOffer, offer, positionOk, hit, begin, Transferred}
-use Rattle.model.specs.Operations.{transferRefusal, untransferred, transferred, seed, deliver}
+use Rattle.meter.specs.Meter.{ticks}
+use Rattle.model.specs.Records.{Row, Ledger, rowsOf, rowAt, within}
+use Rattle.model.specs.Records.{withFull, hitEntry}
 use Rattle.model.specs.Closing.{State, Turn, going, conflict, halted, onGoing, withMeter, withHeader, hitAt, counted, decideOn}
-use Rattle.model.specs.Closing.{publish, obey, act, round, decidedSince, rounds, closing}
-use Rattle.model.specs.Priority.{In, Gives, Covers}
+use Rattle.model.specs.Closing.{withHit, publish, follow, reading, act, round, decidedSince, rounds, closing}
+use Rattle.model.specs.Priority.{In}
 use Rattle.model.proofs.Cover.{and-left, and-right}
 use Rattle.model.proofs.Packing.{Asc}
-use Rattle.model.proofs.Slots.{Valid, valid-of, AllValid, decode-encode}
-use Rattle.model.proofs.Priority.Covering.{rowsE, Cov}
-use Rattle.model.proofs.Priority.Retaining.{Alike, alike-refl, alike-trans, RetainedOk, retain-ok}
-use Rattle.model.proofs.Priority.Fine.{Fine, RetainedFine, retain-fine}
-use Rattle.model.proofs.Priority.Steps.{if-elim, opt-elim, tick-elim, out-elim, alike-app, app-assoc, nor-left, nor-right, Over}
-use Rattle.model.proofs.Priority.Steps.{over-app, Accepted, refusal-cons, accepted, rows-ok, fine-in, row-over, most-ok, rows-back}
-use Rattle.model.proofs.Priority.Steps.{StepOk, still, to-lent, quiet, offer-ok}
-use Rattle.model.specs.declared.CloseAnswer.the-variants as close-answer
+use Rattle.model.proofs.Priority.Covering.{rowsE}
+use Rattle.model.proofs.Priority.Fine.{Fine}
+use Rattle.model.proofs.Priority.Steps.{opt-elim, tick-elim, Over}
 use Rattle.model.specs.declared.Deduction.{Deduction}
 use Rattle.model.specs.declared.Deduction.the-variants.{Nothing, Force, Require}
 use Rattle.model.specs.declared.OutputCursor.{OutputCursor}
 use Rattle.model.specs.Deduction.{Next, Published, nextOutput, deduction, deductionTicks}
 use Rattle.model.specs.Deduction as deducing
-use Rattle.model.specs.Postings.{Search, searched, rebuilt, candidates as search, postingsOf, searchTicks}
-use Rattle.model.specs.Operations.{HitEnd, BeginEnd, CandidatesEnd, CloseEnd, closeEnd, candidates, close}
-use mathlib.Core.Bool.{true≢false, false≢true}
-use lib.ListN.{getD, drop}
-use native.Mathlib.Nat.{le-refl}
+use Rattle.model.specs.Postings.{candidates as search}
+use mathlib.Core.Bool.{true≢false}
+use lib.ListN.{getD}
 use lib.Dec.{T-not, lt→ltb}
-use Prim.Native.Nat.{zero-le}
-use Rattle.lists.specs.Lists.{any, select, concat}
-use Rattle.words.specs.Literal.{isPresent, opposite, wordOf}
-use Rattle.words.specs.Region.{has, holds, contradicts, markLiteral, isRegion}
-use Rattle.words.proofs.Regions.{Set, Sound, sound-of, region-test}
+use Rattle.lists.specs.Lists.{select}
+use Rattle.words.specs.Literal.{opposite}
+use Rattle.words.specs.Region.{holds, contradicts, markLiteral}
+use Rattle.words.proofs.Regions.{Sound}
 use Rattle.words.proofs.Deciding.{sound-apart, sound-inside}
-use Rattle.model.specs.Rows.{groups, packed}
-use Rattle.model.specs.Slots.{indexOf, bitsOf, codesOf}
-use Rattle.model.specs.Deduction.{failing, contradicted, deduceFrom, published, startCursor, scalarNext, pending, loaded, givenOut}
-use Rattle.model.specs.Deduction.{give, packedNext}
+use Rattle.model.specs.Deduction.{failing, contradicted, deduceFrom}
 use Rattle.model.specs.Priority.{Contains, ClosedFor, Says}
 use Rattle.model.proofs.Cover.{or-split}
-use Rattle.model.proofs.Packing.{OneWord, asc-less, codes-group, groups-fit, concat-groups}
-use Rattle.model.proofs.Priority.Conditions.{Clean, row-clean, mark-sound, holds-mark, opposite-present, opposite-absent, half-lt}
+use Rattle.model.proofs.Priority.Conditions.{row-clean, mark-sound, holds-mark}
 use Rattle.model.proofs.Priority.Cursors.{Good, Gives as Given, start-good, next-gives}
-use Rattle.model.proofs.Priority.Quiet.{adjust-rows, search-ok, TurnSame}
-use Rattle.model.proofs.Priority.Closed.{Requires, Saying, says, failing-in, failing-has, contradicted-in, in-contradicted}
+use Rattle.model.proofs.Priority.Quiet.{adjust-rows, act-by}
+use Rattle.model.proofs.Priority.Closed.{Saying, says, failing-in, failing-has, contradicted-in, in-contradicted}
 use Rattle.model.proofs.Priority.Closed.{unfold-con, force-all, require-one, single}
 use Rattle.model.proofs.Entries.{hit-row}
 
@@ -288,25 +259,13 @@ module _ (n : ℕ) (rows : List Row) (over : Over n rows) (fine : Fine rows) (r�
               on-in (decideOn n c t) (publish fuel n r (x .cursor)) (decide-in c t it (f c (y .out c e)))
               (λ u j. ih (x .cursor) u (y .cursor) j)
 
-  counted-in : (p : ℕ) (s : State) → Inside s → Inside (counted p s)
-  unfolding counted hitAt
-  counted-in p s i =
-      record {
-        sound = i .sound;
-        grown = i .grown;
-        within = i .within;
-        same = adjust-rows hitEntry hit-row p (s .ledger .entries) ∙ i .same;
-      }
-
-  obey-in : (p : ℕ) (r : Row) (d : Deduction) (s : State) → deduction (s .region) r ≡ d → Asc 0 (r .outputs) → Heard s r → Inside s
-      → TurnIn (obey n p r d s)
-  unfolding obey
-  obey-in p r Nothing s e a h i = i
-  obey-in p r Force s e a h i =
-      publish-in _ r _ (counted p s) a (λ c j. h c (inl (force-holds (s .region) r e, j))) (start-good r) (counted-in p s i)
-  obey-in p r (Require c) s e a h i =
-      decide-in (c .0) (counted p s) (counted-in p s i)
-      (h (c .0) (says (s .region) r (c .0) (subst (λ (k : Deduction). Says k r (c .0)) (sym e) refl)))
+  follow-in : (r : Row) (d : Deduction) (s : State) → deduction (s .region) r ≡ d → Asc 0 (r .outputs) → Heard s r → Inside s
+      → TurnIn (follow n r d s)
+  unfolding follow
+  follow-in r Nothing s e a h i = i
+  follow-in r Force s e a h i = publish-in _ r _ s a (λ c j. h c (inl (force-holds (s .region) r e, j))) (start-good r) i
+  follow-in r (Require c) s e a h i =
+      decide-in (c .0) s i (h (c .0) (says (s .region) r (c .0) (subst (λ (k : Deduction). Says k r (c .0)) (sym e) refl)))
 
   heard-at : (s : State) → Inside s → (r : Row) → In r rows ⊎ (r ≡ empty-row) → Heard s r
   heard-at s i r (inl m) = heard s i r m
@@ -318,15 +277,35 @@ module _ (n : ℕ) (rows : List Row) (over : Over n rows) (fine : Fine rows) (r�
       subst (λ (l : List Row). In (getD (rowsE (s .ledger .entries)) p empty-row) l
       ⊎ (getD (rowsE (s .ledger .entries)) p empty-row ≡ empty-row)) (i .same) (row-in (rowsE (s .ledger .entries)) p empty-row)
 
-  act-in : (p : ℕ) (s : State) → Inside s → TurnIn (act n p s)
-  unfolding act withMeter
-  act-in p s i =
-      tick-elim TurnIn (ticks (deductionTicks (s .region) (rowAt p (s .ledger))) (s .meter)) _ _ (λ m. it m)
-      (λ m. obey-in p (rowAt p (s .ledger)) (deduction (s .region) (rowAt p (s .ledger))) _ refl (asc-row rows fine _ (at-row p s i))
-      (heard-at _ (it m) _ (at-row p s i)) (it m))
+  reading-in : (r : Row) (s : State) → In r rows ⊎ (r ≡ empty-row) → Inside s → TurnIn (reading n r s)
+  unfolding reading withMeter
+  reading-in r s w i =
+      tick-elim TurnIn (ticks (deductionTicks (s .region) r) (s .meter)) _ _ (λ m. it m)
+      (λ m. follow-in r (deduction (s .region) r) _ refl (asc-row rows fine r w) (heard-at _ (it m) r w) (it m))
     where
       it : (m : Meter) → Inside (record { ledger = s .ledger; region = s .region; meter = m })
       it m = record { sound = i .sound; grown = i .grown; within = i .within; same = i .same }
+
+  hit-in : (p : ℕ) (t : Turn) → TurnIn t → TurnIn (withHit p t)
+  unfolding withHit counted hitAt
+  hit-in p t i = go t i
+    where
+      more : (s : State) → Inside s → Inside (counted p s)
+      more s i =
+          record {
+            sound = i .sound;
+            grown = i .grown;
+            within = i .within;
+            same = adjust-rows hitEntry hit-row p (s .ledger .entries) ∙ i .same;
+          }
+
+      go : (t : Turn) → TurnIn t → TurnIn (withHit p t)
+      go (going s) i = more s i
+      go (conflict s) i = i
+      go (halted s) i = more s i
+
+  act-in : (p : ℕ) (s : State) → Inside s → TurnIn (act n p s)
+  act-in p s i = let t = reading-in (rowAt p (s .ledger)) s (at-row p s i) i in act-by TurnIn n p s t (hit-in p _ t)
 
   round-in : (ps : List ℕ) (s : State) → Inside s → TurnIn (round n ps s)
   unfolding round

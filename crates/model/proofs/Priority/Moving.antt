@@ -1,59 +1,38 @@
 -- Transfers are steps of both ledgers. Assumes nothing.
-use mathlib.Core.Path.{_≡_, refl, sym, _∙_, ap, ap₂, subst}
-use mathlib.Core.Logic.{_⊎_, inl, inr}
-use mathlib.Core.Bool.{Bool, true, false, _&&_, _||_, not}
-use mathlib.Core.List.{List, [], _∷_, _++_, map}
-use mathlib.Core.Option.{Option, none, some, IsSome}
-use Prim.Native.Nat.{ℕ, zero, suc, _+_, _*_, _/_, _≤_, _<_, max}
-use native.Mathlib.Nat.{le-trans}
+use mathlib.Core.Path.{_≡_, refl, sym, _∙_, ap₂, subst}
+use mathlib.Core.Logic.{inl, inr}
+use mathlib.Core.Bool.{Bool, true, false, _||_, not}
+use mathlib.Core.List.{List, [], _∷_, _++_}
+use mathlib.Core.Option.{none}
+use Prim.Native.Nat.{ℕ, suc, _+_, _≤_, max}
 use native.Mathlib.Omega.{arith}
-use lib.Dec.{T, eqb, leb, ltb, le→leb, leb→le, eqb→eq, ltb→lt}
+use lib.Dec.{T, eqb, leb, eqb→eq}
 use lib.ListN.{length}
-use Rattle.lists.specs.Lists.{all, adjust, ascending, above, below, same}
-use Rattle.words.specs.Literal.{atom}
-use Rattle.words.specs.Region.{Region, decide, atomsOk}
 use Rattle.meter.specs.declared.Meter.{Meter}
 use Rattle.meter.specs.declared.Account.{Account}
-use Rattle.meter.specs.declared.Tick.{Tick}
-use Rattle.meter.specs.declared.Tick.the-variants.{Ticked, Stopped}
-use Rattle.meter.specs.Meter.{tickOf, ticks, pay, made}
+use Rattle.meter.specs.Meter.{tickOf, pay}
 use Rattle.model.specs.declared.LearningLimits.{LearningLimits}
 use Rattle.model.specs.declared.Header.{Header}
-use Rattle.model.specs.Records.{Row, Entry, Ledger, rowsOf, rowAt, isRow, isRowOver, within, limitsOk, literals, saturatingAdd}
-use Rattle.model.specs.Records.{withRows}
-use Rattle.model.specs.Records.{withStale, withFull, attempted, withAccount, withMark, withDeliveries, withSeeded, withHits, hitEntry}
+use Rattle.model.specs.Records.{Row, Entry, Ledger, isRow, isRowOver, literals, saturatingAdd}
+use Rattle.model.specs.Records.{withAccount, withMark, withDeliveries, withSeeded, withHits}
 use Rattle.model.specs.Records.{withDelivered, maxOutputs}
-use Rattle.model.specs.Slots.{slotsOf, entriesIn}
-use Rattle.model.specs.Retention.{Retention, Outcome, Stops, Declines, Subsumes, Adds, retain, canCapture}
-use Rattle.model.specs.Transfers.{Transfer, Delivery, Progress, starting, ticked, receive, received, changeAt, seedRows, markFor}
+use Rattle.model.specs.Retention.{Retention}
+use Rattle.model.specs.Transfers.{Transfer, Delivery, Progress, starting, ticked, receive, received, changeAt, seedRows}
 use Rattle.model.specs.Transfers.{seeding, marked, seededTier, seededStore, passesOver, front, deliverRows, delivering, deliveredTier}
 use Rattle.model.specs.Transfers.{deliveredStore}
 use Rattle.model.specs.Transfers as transfers
-use Rattle.model.specs.Refusals.{Lent, refusal, ledgerIn, lentOf, lengthsOk, entryOk, countsOk, wordsOk, contentsOk, accepts}
-use Rattle.model.specs.Operations.{Offered, unoffered, capture, fitsOffer, offer, positionOk, hit, begin, Transferred}
+use Rattle.model.specs.Refusals.{Lent, ledgerIn, lentOf, accepts}
+use Rattle.model.specs.Operations.{Transferred}
 use Rattle.model.specs.Operations.{transferRefusal, untransferred, transferred, seed, deliver}
-use Rattle.model.specs.Closing.{State, Turn, going, conflict, halted, onGoing, withMeter, withHeader, hitAt, counted, decideOn}
-use Rattle.model.specs.Closing.{publish, obey, act, round, decidedSince, rounds, closing}
-use Rattle.model.specs.Priority.{In, Gives, Covers}
-use Rattle.model.proofs.Cover.{and-left, and-right}
-use Rattle.model.proofs.Packing.{Asc}
-use Rattle.model.proofs.Slots.{Valid, valid-of, AllValid, decode-encode}
-use Rattle.model.proofs.Priority.Covering.{rowsE, Cov, covers-refl, covers-trans}
+use Rattle.model.specs.Priority.{In, Covers}
+use Rattle.model.proofs.Slots.{valid-of}
+use Rattle.model.proofs.Priority.Covering.{rowsE, covers-refl, covers-trans}
 use Rattle.model.proofs.Priority.Retaining.{Alike, alike-refl, alike-trans, RetainedOk, retain-ok}
-use Rattle.model.proofs.Priority.Fine.{Fine, RetainedFine, retain-fine, Counted, none-counted, both-counted}
+use Rattle.model.proofs.Priority.Fine.{Fine, retain-fine, Counted, none-counted, both-counted}
 use Rattle.model.proofs.Priority.Steps.{if-elim, opt-elim, tick-elim, out-elim, alike-app, covers-app, app-assoc, nor-left}
 use Rattle.model.proofs.Priority.Steps.{nor-right, Over, over-app, Accepted, refusal-cons, accepted, rows-ok, fine-in, row-over}
-use Rattle.model.proofs.Priority.Steps.{most-ok, rows-back, StepOk, still, to-lent, quiet, offer-ok}
-use Rattle.model.specs.declared.CloseAnswer.the-variants as close-answer
-use Rattle.model.specs.declared.Deduction.{Deduction}
-use Rattle.model.specs.declared.Deduction.the-variants.{Nothing, Force, Require}
-use Rattle.model.specs.declared.OutputCursor.{OutputCursor}
-use Rattle.model.specs.Deduction.{Next, Published, nextOutput, deduction, deductionTicks}
-use Rattle.model.specs.Deduction as deducing
-use Rattle.model.specs.Postings.{Search, searched, rebuilt, candidates as search, postingsOf, searchTicks}
-use Rattle.model.specs.Operations.{HitEnd, BeginEnd, CandidatesEnd, CloseEnd, closeEnd, candidates, close}
-use Rattle.model.proofs.Priority.Quiet.{adjust-rows, Same, same-step, hit-ok, begin-ok, candidates-ok, close-ok, same-refl}
-use Rattle.model.specs.declared.Mark.{Mark}
+use Rattle.model.proofs.Priority.Steps.{most-ok, StepOk, still, to-lent}
+use Rattle.model.proofs.Priority.Quiet.{adjust-rows, Same, same-step, same-refl}
 
 -- what the receiver l has become and taken
 pub record TransferOk (l : Ledger) (v : Transfer) : Type 0 where

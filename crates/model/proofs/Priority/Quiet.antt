@@ -1,53 +1,32 @@
 -- Each call is a step. Assumes nothing.
-use mathlib.Core.Path.{_≡_, refl, sym, _∙_, ap, ap₂, subst}
-use mathlib.Core.Logic.{_⊎_, inl, inr}
-use mathlib.Core.Bool.{Bool, true, false, _&&_, _||_, not}
-use mathlib.Core.List.{List, [], _∷_, _++_, map}
-use mathlib.Core.Option.{Option, none, some, IsSome}
-use Prim.Native.Nat.{ℕ, zero, suc, _+_, _*_, _/_, _≤_, _<_, max}
-use native.Mathlib.Nat.{le-trans}
-use native.Mathlib.Omega.{arith}
-use lib.Dec.{T, eqb, leb, ltb, le→leb, leb→le, eqb→eq, ltb→lt}
+use mathlib.Core.Path.{_≡_, refl, _∙_, ap}
+use mathlib.Core.Bool.{Bool, true, false, _||_}
+use mathlib.Core.List.{List, [], _∷_}
+use Prim.Native.Nat.{ℕ, zero, suc}
+use lib.Dec.{eqb, leb}
 use lib.ListN.{length}
-use Rattle.lists.specs.Lists.{all, adjust, ascending, above, below, same}
-use Rattle.words.specs.Literal.{atom}
-use Rattle.words.specs.Region.{Region, decide, atomsOk}
+use Rattle.lists.specs.Lists.{adjust}
+use Rattle.words.specs.Region.{Region, decide}
 use Rattle.meter.specs.declared.Meter.{Meter}
 use Rattle.meter.specs.declared.Tick.{Tick}
 use Rattle.meter.specs.declared.Tick.the-variants.{Ticked, Stopped}
-use Rattle.meter.specs.Meter.{tickOf, ticks, pay, made}
-use Rattle.model.specs.declared.LearningLimits.{LearningLimits}
+use Rattle.meter.specs.Meter.{ticks}
 use Rattle.model.specs.declared.Header.{Header}
-use Rattle.model.specs.Records.{Row, Entry, Ledger, rowsOf, rowAt, isRow, isRowOver, within, limitsOk, literals, saturatingAdd}
-use Rattle.model.specs.Records.{withRows}
-use Rattle.model.specs.Records.{withStale, withFull, attempted, withAccount, withMark, withDeliveries, withSeeded, withHits, hitEntry}
-use Rattle.model.specs.Records.{withDelivered}
-use Rattle.model.specs.Slots.{slotsOf, entriesIn}
-use Rattle.model.specs.Retention.{Retention, Outcome, Stops, Declines, Subsumes, Adds, retain, canCapture}
-use Rattle.model.specs.Transfers.{Transfer, Delivery, Progress, starting, ticked, receive, received, changeAt, seedRows, markFor}
-use Rattle.model.specs.Transfers.{seeding, marked, seededTier, seededStore, passesOver, front, deliverRows, delivering, deliveredTier}
-use Rattle.model.specs.Transfers.{deliveredStore}
-use Rattle.model.specs.Transfers as transfers
-use Rattle.model.specs.Refusals.{Lent, refusal, ledgerIn, lentOf, lengthsOk, entryOk, countsOk, wordsOk, contentsOk, accepts}
-use Rattle.model.specs.Operations.{Offered, unoffered, capture, fitsOffer, offer, positionOk, hit, begin, Transferred}
-use Rattle.model.specs.Operations.{transferRefusal, untransferred, transferred, seed, deliver}
+use Rattle.model.specs.Records.{Row, Entry, Ledger, rowsOf, rowAt}
+use Rattle.model.specs.Records.{withStale, withFull, hitEntry}
+use Rattle.model.specs.Refusals.{Lent, refusal, ledgerIn, lentOf, accepts}
+use Rattle.model.specs.Operations.{positionOk, hit, begin}
 use Rattle.model.specs.Closing.{State, Turn, going, conflict, halted, onGoing, withMeter, withHeader, hitAt, counted, decideOn}
-use Rattle.model.specs.Closing.{publish, obey, act, round, decidedSince, rounds, closing}
-use Rattle.model.specs.Priority.{In, Gives, Covers}
-use Rattle.model.proofs.Cover.{and-left, and-right}
-use Rattle.model.proofs.Packing.{Asc}
-use Rattle.model.proofs.Slots.{Valid, valid-of, AllValid, decode-encode}
-use Rattle.model.proofs.Priority.Covering.{rowsE, Cov}
-use Rattle.model.proofs.Priority.Retaining.{Alike, alike-refl, alike-trans, RetainedOk, retain-ok}
-use Rattle.model.proofs.Priority.Fine.{Fine, RetainedFine, retain-fine}
-use Rattle.model.proofs.Priority.Steps.{if-elim, opt-elim, tick-elim, out-elim, alike-app, app-assoc, nor-left, nor-right, Over}
-use Rattle.model.proofs.Priority.Steps.{over-app, Accepted, refusal-cons, accepted, rows-ok, fine-in, row-over, most-ok, rows-back}
-use Rattle.model.proofs.Priority.Steps.{StepOk, still, to-lent, quiet, offer-ok}
+use Rattle.model.specs.Closing.{withHit, publish, follow, reading, earns, act, round, decidedSince, rounds, closing}
+use Rattle.model.proofs.Priority.Covering.{rowsE}
+use Rattle.model.proofs.Priority.Steps.{if-elim, opt-elim, tick-elim}
+use Rattle.model.proofs.Priority.Steps.{Accepted, accepted}
+use Rattle.model.proofs.Priority.Steps.{StepOk, still, quiet}
 use Rattle.model.specs.declared.CloseAnswer.the-variants as close-answer
 use Rattle.model.specs.declared.Deduction.{Deduction}
 use Rattle.model.specs.declared.Deduction.the-variants.{Nothing, Force, Require}
 use Rattle.model.specs.declared.OutputCursor.{OutputCursor}
-use Rattle.model.specs.Deduction.{Next, Published, nextOutput, deduction, deductionTicks}
+use Rattle.model.specs.Deduction.{Next, nextOutput, deduction, deductionTicks}
 use Rattle.model.specs.Deduction as deducing
 use Rattle.model.specs.Postings.{Search, searched, rebuilt, candidates as search, postingsOf, searchTicks}
 use Rattle.model.specs.Operations.{HitEnd, BeginEnd, CandidatesEnd, CloseEnd, closeEnd, candidates, close}
@@ -159,17 +138,38 @@ publish-same l (suc fuel) n r k s p =
     next-elim (TurnSame l) (nextOutput (s .region) r k (s .meter) .next) _ _ _ p p
     (λ c. on-same l (decideOn n c _) _ (decide-same l n c _ p) (λ t q. publish-same l fuel n r _ t q))
 
-obey-same : (l : Ledger) (n p : ℕ) (r : Row) (d : Deduction) (s : State) → Same l (s .ledger) → TurnSame l (obey n p r d s)
-unfolding obey counted
-obey-same l n p r Nothing s q = q
-obey-same l n p r Force s q = publish-same l _ n r _ _ (same-trans l (s .ledger) (hitAt p (s .ledger)) q (hit-same p (s .ledger)))
-obey-same l n p r (Require c) s q = decide-same l n (c .0) _ (same-trans l (s .ledger) (hitAt p (s .ledger)) q (hit-same p (s .ledger)))
+follow-same : (l : Ledger) (n : ℕ) (r : Row) (d : Deduction) (s : State) → Same l (s .ledger) → TurnSame l (follow n r d s)
+unfolding follow
+follow-same l n r Nothing s q = q
+follow-same l n r Force s q = publish-same l _ n r _ s q
+follow-same l n r (Require c) s q = decide-same l n (c .0) s q
+
+reading-same : (l : Ledger) (n : ℕ) (r : Row) (s : State) → Same l (s .ledger) → TurnSame l (reading n r s)
+unfolding reading withMeter
+reading-same l n r s q =
+    tick-elim (TurnSame l) (ticks (deductionTicks (s .region) r) (s .meter)) _ _ (λ m. q)
+    (λ m. follow-same l n r (deduction (s .region) r) _ q)
+
+-- what holds of a reading with a hit and without holds of the row read
+pub act-by : (P : Turn → Type 0) (n p : ℕ) (s : State) → P (reading n (rowAt p (s .ledger)) s)
+    → P (withHit p (reading n (rowAt p (s .ledger)) s)) → P (act n p s)
+unfolding act
+act-by P n p s a b = if-elim P (earns n (s .region) (reading n (rowAt p (s .ledger)) s)) _ _ (λ t. b) a
+
+turn-hit : (l : Ledger) (p : ℕ) (t : Turn) → TurnSame l t → TurnSame l (withHit p t)
+unfolding withHit counted
+turn-hit l p t q = go t q
+  where
+    more : (k : Ledger) → Same l k → Same l (hitAt p k)
+    more k q = same-trans l k (hitAt p k) q (hit-same p k)
+
+    go : (t : Turn) → TurnSame l t → TurnSame l (withHit p t)
+    go (going s) q = more (s .ledger) q
+    go (conflict s) q = more (s .ledger) q
+    go (halted s) q = more (s .ledger) q
 
 act-same : (l : Ledger) (n p : ℕ) (s : State) → Same l (s .ledger) → TurnSame l (act n p s)
-unfolding act withMeter
-act-same l n p s q =
-    tick-elim (TurnSame l) (ticks (deductionTicks (s .region) (rowAt p (s .ledger))) (s .meter)) _ _ (λ m. q)
-    (λ m. obey-same l n p (rowAt p (s .ledger)) (deduction (s .region) (rowAt p (s .ledger))) _ q)
+act-same l n p s q = let t = reading-same l n (rowAt p (s .ledger)) s q in act-by (TurnSame l) n p s t (turn-hit l p _ t)
 
 round-same : (l : Ledger) (n : ℕ) (ps : List ℕ) (s : State) → Same l (s .ledger) → TurnSame l (round n ps s)
 unfolding round

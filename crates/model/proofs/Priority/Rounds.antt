@@ -16,7 +16,6 @@ use Rattle.words.specs.Literal.{atom, opposite}
 use Rattle.words.specs.Region.{Region, has, holds, contradicts, decided, decide, markLiteral}
 use Rattle.words.proofs.Regions.{Sound}
 use Rattle.meter.specs.declared.Meter.{Meter}
-use Rattle.meter.specs.declared.Tick.the-variants.{Ticked, Stopped}
 use Rattle.meter.specs.Meter.{ticks}
 use Rattle.model.specs.declared.Deduction.{Deduction}
 use Rattle.model.specs.declared.Deduction.the-variants.{Nothing, Force, Require}
@@ -26,7 +25,7 @@ use Rattle.model.specs.Deduction.{Next, Published, nextOutput, deduction
 use Rattle.model.specs.Deduction as deducing
 use Rattle.model.specs.Postings.{candidates as search}
 use Rattle.model.specs.Closing.{State, Turn, going, conflict, halted, onGoing, withMeter, withHeader, hitAt, counted, decideOn}
-use Rattle.model.specs.Closing.{publish, obey, act, round, decidedSince, rounds, closing}
+use Rattle.model.specs.Closing.{withHit, publish, follow, reading, act, round, decidedSince, rounds, closing}
 use Rattle.model.specs.Priority.{In, Contains, ClosedFor, Says}
 use Rattle.model.proofs.Cover.{and-left, and-right}
 use Rattle.model.proofs.Packing.{Asc}
@@ -34,7 +33,7 @@ use Rattle.model.proofs.Priority.Covering.{rowsE}
 use Rattle.model.proofs.Priority.Fine.{Fine}
 use Rattle.model.proofs.Priority.Steps.{tick-elim}
 use Rattle.model.proofs.Priority.Conditions.{mark-sound, holds-mark}
-use Rattle.model.proofs.Priority.Quiet.{adjust-rows}
+use Rattle.model.proofs.Priority.Quiet.{adjust-rows, act-by}
 use Rattle.model.proofs.Priority.Closed.{says, in-or-not}
 use Rattle.model.proofs.Priority.Cursors.{Good, Gives as Given, start-good, next-gives}
 use Rattle.model.proofs.Priority.Inside.{double, not-con, row-in, empty-row, IsForce, asc-row}
@@ -255,42 +254,56 @@ module _ (n : ℕ) (rows : List Row) (fine : Fine rows) where
   unfoldable pub rowOf : ℕ → Row
   rowOf p = getD rows p empty-row
 
-  counted-step : (p : ℕ) (s : State) → Step s s → Step s (counted p s)
-  unfolding counted hitAt
-  counted-step p s i = record { sound = i .sound; grown = λ y h. h; same = adjust-rows hitEntry hit-row p (s .ledger .entries) ∙ i .same }
-
   pub self : (s t : State) → Step s t → Step t t
   self s t i = record { sound = i .sound; grown = λ y h. h; same = i .same }
-
-  counted-region : (p : ℕ) (s : State) → counted p s .region ≡ s .region
-  unfolding counted
-  counted-region p s = refl
 
   abbrev Settles : Row → State → State → Type 0
   Settles r s t = Step s t × Settled r (t .region)
 
-  obey-step : (p : ℕ) (r : Row) (d : Deduction) (s : State) → deduction (s .region) r ≡ d → Asc 0 (r .outputs) → Step s s
-      → OnGoing (Settles r s) (obey n p r d s)
-  unfolding obey
-  obey-step p r Nothing s e a i = (i, settled-nothing r (s .region) e)
-  obey-step p r Force s e a i =
+  follow-step : (r : Row) (d : Deduction) (s : State) → deduction (s .region) r ≡ d → Asc 0 (r .outputs) → Step s s
+      → OnGoing (Settles r s) (follow n r d s)
+  unfolding follow
+  follow-step r Nothing s e a i = (i, settled-nothing r (s .region) e)
+  follow-step r Force s e a i =
       let w = resting r a in
-      let c = counted-step p s i in
-      on-map (AllOut r (counted p s)) (Settles r s) (publish (suc (length (r .outputs))) n r startCursor (counted p s))
-      (λ t z. let b = step-trans s (counted p s) t c (z .0) in (b, settled-forced r (s .region) (t .region) e (b .grown) (z .1)))
-      (publish-step (suc (length (r .outputs))) r w startCursor (counted p s) a (start-good r) (self s (counted p s) c)
-      (suc-le-suc (w .short)) (λ y j. inl (w .all y j)))
-  obey-step p r (Require c) s e a i =
-      let k = counted-step p s i in
-      on-map (Decides (c .0) (counted p s)) (Settles r s) (decideOn n (c .0) (counted p s))
-      (λ t z. let b = step-trans s (counted p s) t k (z .0) in (
-        b,
+      on-map (AllOut r s) (Settles r s) (publish (suc (length (r .outputs))) n r startCursor s)
+      (λ t z. (z .0, settled-forced r (s .region) (t .region) e (z .0 .grown) (z .1)))
+      (publish-step (suc (length (r .outputs))) r w startCursor s a (start-good r) i (suc-le-suc (w .short)) (λ y j. inl (w .all y j)))
+  follow-step r (Require c) s e a i =
+      on-map (Decides (c .0) s) (Settles r s) (decideOn n (c .0) s)
+      (λ t z. (
+        z .0,
         settled-required n r (s .region) (t .region) (c .0)
             (says (s .region) r (c .0) (subst (λ (d : Deduction). Says d r (c .0)) (sym e) refl)) (λ f. subst IsForce (sym f ∙ e) tt)
-            (b .sound)
-            (b .grown) (z .1),
+            (z .0 .sound)
+            (z .0 .grown) (z .1),
       ))
-      (decide-step (c .0) (counted p s) (self s (counted p s) k))
+      (decide-step (c .0) s i)
+
+  reading-step : (r : Row) (s : State) → Asc 0 (r .outputs) → Step s s → OnGoing (Settles r s) (reading n r s)
+  unfolding reading withMeter
+  reading-step r s a i =
+      tick-elim (OnGoing (Settles r s)) (ticks (deductionTicks (s .region) r) (s .meter)) _ _ (λ m. tt)
+      (λ m. on-map (Settles r (at m)) (Settles r s) (follow n r (deduction (s .region) r) (at m))
+      (λ t z. (record { sound = z .0 .sound; grown = z .0 .grown; same = z .0 .same }, z .1))
+      (follow-step r (deduction (s .region) r) (at m) refl a (record { sound = i .sound; grown = λ y h. h; same = i .same })))
+    where
+      at : Meter → State
+      at m = record { ledger = s .ledger; region = s .region; meter = m }
+
+  -- a hit changes no row and no region
+  hit-step : (p : ℕ) (r : Row) (s : State) (t : Turn) → OnGoing (Settles r s) t → OnGoing (Settles r s) (withHit p t)
+  unfolding withHit counted hitAt
+  hit-step p r s (going t) z = (
+    record {
+      sound = z .0 .sound;
+      grown = z .0 .grown;
+      same = adjust-rows hitEntry hit-row p (t .ledger .entries) ∙ z .0 .same;
+    },
+    z .1,
+  )
+  hit-step p r s (conflict t) z = tt
+  hit-step p r s (halted t) z = tt
 
   row-at : (p : ℕ) (s : State) → Step s s → rowAt p (s .ledger) ≡ rowOf p
   unfolding rowAt rowsOf rowOf
@@ -301,20 +314,10 @@ module _ (n : ℕ) (rows : List Row) (fine : Fine rows) where
   asc-at p = asc-row rows fine (getD rows p empty-row) (row-in rows p empty-row)
 
   act-step : (p : ℕ) (s : State) → Step s s → OnGoing (Settles (rowOf p) s) (act n p s)
-  unfolding act withMeter
   act-step p s i =
-      subst (λ (r : Row). OnGoing (Settles (rowOf p) s) (elim (ticks (deductionTicks (s .region) r) (s .meter)) as (λ k. Turn) [
-        | Stopped m ↦ halted (record { ledger = s .ledger; region = s .region; meter = m })
-        | Ticked m ↦ obey n p r (deduction (s .region) r) (record { ledger = s .ledger; region = s .region; meter = m })
-      ])) (sym (row-at p s i))
-      (tick-elim (OnGoing (Settles (rowOf p) s)) (ticks (deductionTicks (s .region) (rowOf p)) (s .meter)) _ _ (λ m. tt)
-      (λ m. on-map (Settles (rowOf p) (at m)) (Settles (rowOf p) s) (obey n p (rowOf p) (deduction (s .region) (rowOf p)) (at m))
-      (λ t z. (record { sound = z .0 .sound; grown = z .0 .grown; same = z .0 .same }, z .1))
-      (obey-step p (rowOf p) (deduction (s .region) (rowOf p)) (at m) refl (asc-at p)
-      (record { sound = i .sound; grown = λ y h. h; same = i .same }))))
-    where
-      at : Meter → State
-      at m = record { ledger = s .ledger; region = s .region; meter = m }
+      let z = subst (λ (r : Row). OnGoing (Settles (rowOf p) s) (reading n r s)) (sym (row-at p s i))
+      (reading-step (rowOf p) s (asc-at p) i) in
+      act-by (OnGoing (Settles (rowOf p) s)) n p s z (hit-step p (rowOf p) s _ z)
 
   -- ---- a round: the rows read are settled, if no atom of theirs was decided in it
   abbrev pub Rounded : List ℕ → State → State → Type 0

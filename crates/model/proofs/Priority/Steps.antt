@@ -1,45 +1,34 @@
 -- One call on a lent ledger: what is held after, and what was held with what was taken, cover each other. Assumes nothing.
-use mathlib.Core.Path.{_≡_, refl, sym, _∙_, ap, ap₂, subst}
+use mathlib.Core.Path.{_≡_, refl, sym, ap, subst}
 use mathlib.Core.Logic.{_⊎_, inl, inr}
 use mathlib.Core.Bool.{Bool, true, false, _&&_, _||_, not}
-use mathlib.Core.List.{List, [], _∷_, _++_, map}
+use mathlib.Core.List.{List, [], _∷_, _++_}
 use mathlib.Core.Option.{Option, none, some, IsSome}
-use Prim.Native.Nat.{ℕ, zero, suc, _+_, _*_, _/_, _≤_, _<_, max}
+use Prim.Native.Nat.{ℕ, _+_, _≤_}
 use native.Mathlib.Nat.{le-trans}
-use native.Mathlib.Omega.{arith}
-use lib.Dec.{T, eqb, leb, ltb, le→leb, leb→le, eqb→eq, ltb→lt}
+use lib.Dec.{T, leb, le→leb, leb→le}
 use lib.ListN.{length}
-use Rattle.lists.specs.Lists.{all, adjust, ascending, above, below, same}
+use Rattle.lists.specs.Lists.{all}
 use Rattle.lists.proofs.Bools.{and-of}
-use Rattle.words.specs.Literal.{atom}
-use Rattle.words.specs.Region.{Region, decide, atomsOk}
+use Rattle.words.specs.Region.{atomsOk}
 use Rattle.meter.specs.declared.Meter.{Meter}
 use Rattle.meter.specs.declared.Tick.{Tick}
 use Rattle.meter.specs.declared.Tick.the-variants.{Ticked, Stopped}
-use Rattle.meter.specs.Meter.{tickOf, ticks, pay, made}
 use Rattle.model.specs.declared.LearningLimits.{LearningLimits}
 use Rattle.model.specs.declared.Header.{Header}
-use Rattle.model.specs.Records.{Row, Entry, Ledger, rowsOf, rowAt, isRow, isRowOver, within, limitsOk, literals, saturatingAdd}
+use Rattle.model.specs.Records.{Row, Entry, Ledger, isRow, isRowOver, within, limitsOk}
 use Rattle.model.specs.Records.{withRows}
-use Rattle.model.specs.Records.{withStale, withFull, attempted, withAccount, withMark, withDeliveries, withSeeded, withHits, hitEntry}
-use Rattle.model.specs.Records.{withDelivered, maxRows, maxConditions, maxOutputs}
-use Rattle.model.specs.Slots.{slotsOf, entriesIn}
-use Rattle.model.specs.Retention.{Retention, Outcome, Stops, Declines, Subsumes, Adds, retain, canCapture}
-use Rattle.model.specs.Transfers.{Transfer, Delivery, Progress, starting, ticked, receive, received, changeAt, seedRows, markFor}
-use Rattle.model.specs.Transfers.{seeding, marked, seededTier, seededStore, passesOver, front, deliverRows, delivering, deliveredTier}
-use Rattle.model.specs.Transfers.{deliveredStore}
-use Rattle.model.specs.Transfers as transfers
-use Rattle.model.specs.Refusals.{Lent, refusal, ledgerIn, lentOf, lengthsOk, entryOk, countsOk, wordsOk, contentsOk, accepts}
-use Rattle.model.specs.Operations.{Offered, unoffered, capture, fitsOffer, offer, positionOk, hit, begin, Transferred}
-use Rattle.model.specs.Operations.{transferRefusal, untransferred, transferred, seed, deliver}
-use Rattle.model.specs.Closing.{hitAt}
+use Rattle.model.specs.Records.{attempted, withAccount}
+use Rattle.model.specs.Records.{maxRows, maxConditions, maxOutputs}
+use Rattle.model.specs.Retention.{Outcome, Stops, Declines, Subsumes, Adds, canCapture}
+use Rattle.model.specs.Refusals.{Lent, refusal, ledgerIn, lentOf, entryOk, countsOk, wordsOk, contentsOk, accepts}
+use Rattle.model.specs.Operations.{Offered, unoffered, capture, fitsOffer, offer}
 use Rattle.model.specs.Priority.{In, Gives, Covers}
 use Rattle.model.proofs.Cover.{and-left, and-right}
-use Rattle.model.proofs.Packing.{Asc}
-use Rattle.model.proofs.Slots.{Valid, valid-of, AllValid, decode-encode}
+use Rattle.model.proofs.Slots.{valid-of, AllValid, decode-encode}
 use Rattle.model.proofs.Priority.Covering.{rowsE, Cov, covers-refl}
-use Rattle.model.proofs.Priority.Retaining.{Alike, alike-refl, alike-trans, RetainedOk, retain-ok}
-use Rattle.model.proofs.Priority.Fine.{Fine, RetainedFine, retain-fine, Counted, none-counted, both-counted}
+use Rattle.model.proofs.Priority.Retaining.{Alike, alike-refl, retain-ok}
+use Rattle.model.proofs.Priority.Fine.{Fine, retain-fine, Counted, none-counted}
 
 -- ---- splitting tests
 pub if-elim : {A : Type 0} (P : A → Type 0) (b : Bool) (x y : A) → (T b → P x) → P y → P (elim b as (λ k. A) [ true ↦ x | false ↦ y ])
