@@ -2,4 +2,4 @@ pub mod Ending
 pub mod Deciding
 pub mod Publishing
 pub mod Standing
-pub mod Obeying
+pub mod Acting

@@ -6,19 +6,19 @@ use mathlib.Core.List.{List, [], map}
 use Prim.Native.Nat.{ℕ, _+_, _-_, _*_, _≤_, _<_}
 use native.Mathlib.Omega.{arith}
 use lib.Dec.{T}
-use lib.ListN.{length, take, drop, set, length-set}
+use lib.ListN.{length, take, drop}
 use Rattle.lists.specs.Lists.{adjust}
 use Rattle.lists.proofs.Selects.{length-adjust, map-adjust}
 use Rattle.words.specs.Region.{region, isRegion}
 use Rattle.model.specs.declared.Header.{Header}
-use Rattle.model.specs.Records.{Row, Entry, isRow, rowsOf, rowAt, hitEntry, slotWords, hitsAt, unsharedAt}
+use Rattle.model.specs.Records.{Row, Entry, isRow, rowsOf, rowAt, hitEntry, slotWords}
 use Rattle.model.specs.Slots.{entriesIn, rowIn}
 use Rattle.model.proofs.Slots.{entries-length}
 use Rattle.model.proofs.Entries.{hit-row}
 use Rattle.slots.specs.Layout.{Stored, slotAt, rowsIn, tierOf, Held}
 use Rattle.slots.proofs.Holding.{AllRows, entries-laid, held-laid, held-few, held-rows}
-use Rattle.tier.specs.Tier.{wordAt, hitWords}
-use Rattle.tier.proofs.Buffer.{all-adjust, hit-held}
+use Rattle.tier.specs.Tier.{hitWords}
+use Rattle.tier.proofs.Buffer.{all-adjust, hit-length, hit-held}
 use Rattle.slots.proofs.Rows.{rows-at, slot-code}
 use Rattle.close_publish.specs.Turns.{ledgerOf}
 use Rattle.close_publish.specs.Standing.{Standing}
@@ -28,9 +28,7 @@ abbrev pub Hits : Bool → ℕ → List ℕ → List ℕ → Type 0
 Hits b p slots slots′ = ((b ≡ true) × (slots′ ≡ hitWords p slots)) ⊎ ((b ≡ false) × (slots′ ≡ slots))
 
 pub hits-length : (b : Bool) (p : ℕ) (slots slots′ : List ℕ) → Hits b p slots slots′ → length slots′ ≡ length slots
-unfolding hitWords
-hits-length b p slots slots′ (inl w) =
-    ap length (w .1) ∙ length-set (set slots (wordAt p hitsAt) _) (wordAt p unsharedAt) _ ∙ length-set slots (wordAt p hitsAt) _
+hits-length b p slots slots′ (inl w) = ap length (w .1) ∙ hit-length p slots
 hits-length b p slots slots′ (inr w) = ap length (w .1)
 
 -- the row of a ledger is that of its slot

@@ -18,7 +18,7 @@ use model::NextAnswer;
 use model::OutputCursor;
 use model::SLOT_WORDS;
 use row_deduce::deduction;
-use row_deduce::next_publication_output;
+use row_deduce::next_of_side;
 use tier::hit;
 use words::Marking;
 use words::decide_literal;
@@ -97,8 +97,9 @@ fn publish(slot: &[u64], atoms: u64, held: &mut [u64], cut: &mut [u64], work: Me
     let mut meter = work;
     let mut earned = false;
     let mut cursor = START;
+    let side = slots::outputs(slot);
     loop {
-        let found = next_publication_output(slot, cursor, held, cut, meter);
+        let found = next_of_side(slot, side, cursor, held, cut, meter);
         cursor = found.cursor;
         meter = found.meter;
         let answer = found.answer;

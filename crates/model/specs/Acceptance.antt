@@ -1,10 +1,9 @@
 -- What a lent ledger may hold, 01's refusals 1 to 3, both ways: what is laid out is accepted, and nothing else lies in accepted words.
 -- Assumes nothing.
 use mathlib.Core.Path.{_≡_}
-use mathlib.Core.Bool.{Bool, true}
-use mathlib.Core.List.{List, []}
+use mathlib.Core.Bool.{true}
+use mathlib.Core.List.{[]}
 use mathlib.Core.Option.{none}
-use Prim.Native.Nat.{ℕ}
 use lib.Dec.{T}
 use Rattle.lists.specs.Lists.{all}
 use Rattle.model.specs.Records.{Ledger, limitsOk}

@@ -1,12 +1,11 @@
 -- Demand 3's hypotheses can be met: two orders of 01's four rows, which force alike, and two rows that do not; two ledgers of which one
 -- evicted; two of more than 64 rows, which close by postings. Assumes nothing.
 use mathlib.Core.Path.{_≡_}
-use mathlib.Core.Bool.{Bool, true, false}
+use mathlib.Core.Bool.{true, false}
 use mathlib.Core.List.{List, [], _∷_, _++_, map}
 use mathlib.Core.Option.{some}
 use Prim.Native.Nat.{ℕ, _*_}
 use lib.ListN.{replicate}
-use Rattle.meter.specs.declared.Meter.{Meter}
 use Rattle.model.specs.declared.LearningLimits.{LearningLimits}
 use Rattle.model.specs.declared.CloseAnswer.the-variants.{Closed, Conflict}
 use Rattle.model.specs.Records.{Row, Entry, rowsOf, fresh, limitsOf, tierLimits, slotWords, postingWords, withAdded}

@@ -13,7 +13,7 @@ ghost use Rattle.model.specs.Rows.{packed};
 ghost use Rattle.model.specs.Slots.{rowIn};
 ghost use Rattle.model.specs.Deduction.{deduction, deductionTicks, chunks, packedNext, nextOutput};
 ghost use Rattle.model.specs.Operations.{unloaded, cursorOk};
-ghost use Rattle.slots.specs.Layout.{Holds};
+ghost use Rattle.slots.specs.Layout.{Holds, outputSide};
 ghost use Rattle.row_deduce.specs.Chunks.{chunkAt, chunksFrom, chunksOf, groupAt, Readable, OneSigned, Publishable, SmallCodes};
 ghost use Rattle.row_deduce.specs.Chunks.{Matched};
 ghost use Rattle.row_deduce.specs.Publication.{publishedWith, nextEnd, loadedFrom, givenNext, singleNext, ofWords, Pointed};
@@ -482,8 +482,28 @@ fn scalar_next(slot: &[u64], side: Side, cursor: OutputCursor, work: Meter) -> N
     }
 }
 
-// The next output of a row whose conditions all hold, with the cursor past it. A scalar row gives every output, a packed one those
-// not yet true in the region when their group is loaded. End: none is left. Stopped: a tick was not made.
+// The next output of the side that a row's outputs are, with the cursor past it. A scalar row gives every output, a packed one those not
+// yet true in the region when their group is loaded. End: none is left. Stopped: a tick was not made.
+pub fn next_of_side(
+    slot: &[u64],
+    side: Side,
+    cursor: OutputCursor,
+    held: &[u64],
+    cut: &[u64],
+    work: Meter,
+) -> NextResult
+    requires { ⌜ Matched (now slot) (now held) (now cut) ⌝ ∗ ⌜ Pointed (rowIn (now slot)) cursor ⌝ ∗ ⌜ side ≡ outputSide (now slot) ⌝ }
+    ensures { λ r. ⌜ r
+        ≡ nextEnd work (nextOutput (region (now (held .entry)) (now (cut .entry))) (rowIn (now (slot .entry))) cursor work) ⌝ }
+{
+    if side.packed {
+        packed_next(slot, side, cursor, held, cut, work)
+    } else {
+        scalar_next(slot, side, cursor, work)
+    }
+}
+
+// The next output of a row whose conditions all hold, with the cursor past it.
 pub fn next_publication_output(
     slot: &[u64],
     cursor: OutputCursor,
@@ -496,11 +516,7 @@ pub fn next_publication_output(
         ≡ nextEnd work (nextOutput (region (now (held .entry)) (now (cut .entry))) (rowIn (now (slot .entry))) cursor work) ⌝ }
 {
     let side = slots::outputs(slot);
-    if side.packed {
-        packed_next(slot, side, cursor, held, cut, work)
-    } else {
-        scalar_next(slot, side, cursor, work)
-    }
+    next_of_side(slot, side, cursor, held, cut, work)
 }
 
 // Whether no group is loaded.

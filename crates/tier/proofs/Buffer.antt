@@ -170,6 +170,11 @@ adjust-own f g p [] d h = absurd (omega arith)
 adjust-own f g zero (e ∷ es) d h = refl
 adjust-own f g (suc p) (e ∷ es) d h = ap (λ (l : List Entry). e ∷ l) (adjust-own f g p es d (omega arith))
 
+-- a hit changes two words
+pub hit-length : (p : ℕ) (ws : List ℕ) → length (hitWords p ws) ≡ length ws
+unfolding hitWords
+hit-length p ws = length-set (set ws (wordAt p hitsAt) _) (wordAt p unsharedAt) _ ∙ length-set ws (wordAt p hitsAt) _
+
 module _ {atoms : ℕ} (rows p : ℕ) (ws : List ℕ) (k : Held atoms rows ws) (l : p < rows) where
   abbrev held : List Entry
   held = entriesIn rows ws

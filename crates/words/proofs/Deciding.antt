@@ -1,5 +1,5 @@
 -- Literals on a region: `holds`, `contradicts` and `decide`, by atom and sign. Assumes nothing.
-use mathlib.Core.Path.{_≡_, refl, sym, ap, _∙_, subst}
+use mathlib.Core.Path.{_≡_, refl, sym, ap, ap₂, _∙_, subst}
 use mathlib.Core.Logic.{_⊎_, inl, inr}
 use mathlib.Core.Bool.{Bool, true, false, not, _&&_, _||_, true≢false, false≢true, and-false, or-false}
 use mathlib.Core.List.{List}
@@ -7,17 +7,20 @@ use mathlib.Core.Option.{Option, none, some}
 use Prim.Native.Nat.{ℕ, _+_, _*_, _/_, _%_, _≤_, _<_}
 use native.Mathlib.Decide.{ℕ-discrete}
 use native.Mathlib.Omega.{arith}
-use lib.ListN.{length, getD}
+use lib.Bits.{bitAnd, bitOr}
+use lib.ListN.{length, getD, set}
 use lib.Dec.{eqb, ltb}
 use borrow.Author.Tests.{eq-eqb, ne-eqb, lt-ltb, le-ltb, ltb-true, not-true}
 use Rattle.lists.proofs.Bools.{and-both, or-left, false-of}
 use Rattle.words.specs.Bit.{testBit}
-use Rattle.words.specs.Literal.{atom, isPresent, code, opposite, wordOf}
+use Rattle.words.specs.Literal.{atom, isPresent, code, opposite, wordOf, placeOf}
 use Rattle.words.specs.Region.{has, mark, Region, region, holds, contradicts, markLiteral, decide, Decision, decision, decisionOn}
-use Rattle.words.specs.Region.{decisionWith, marking, wordsFor}
+use Rattle.words.specs.Region.{decisionWith, markedAs, marking, answerIn, wordsFor}
+use Rattle.words.specs.declared.Place.{Place}
 use Rattle.words.specs.declared.Marking.{Marking}
 use Rattle.words.specs.declared.Marking.the-variants.{Anew, Already, False}
 use Rattle.words.proofs.Literals.{atom-code, present-code, same-sign, other-sign, opposite-code, atom-opposite, present-opposite}
+use Rattle.words.proofs.Places.{contains-place, insert-place}
 use Rattle.words.proofs.Regions.{Set, Sound, has-mark, length-mark, words-mark, mark-again, at-place}
 
 -- ---- the side that a literal asks
@@ -258,7 +261,7 @@ module _ (n : ℕ) (r : Region) (c : ℕ) where
           ∙ ap (λ (ws : List ℕ). region (r .held) ws) (mark-again (r .cut) (atom c) (sym (holds-absent r c e) ∙ t))
 
   marking-some : (s : Region) → decide n r c ≡ some s
-      → marking n r c ≡ (elim (holds r c) as (λ k. Marking) [ true ↦ Already | false ↦ Anew ])
+      → marking n r c ≡ markedAs (holds r c)
   unfolding marking
   marking-some s e = rw (e, marking)
 
@@ -286,21 +289,67 @@ module _ (n : ℕ) (held cut : List ℕ) (c : ℕ) where
   unfolding atom
   said-out h = let o = decide-out n given c h in (sym (marking-none n given c o), sym (ap (decision given) o))
 
-  pub said-against : contradicts (region held cut) c ≡ true
+  said-against : contradicts (region held cut) c ≡ true
       → (False ≡ marking n (region held cut) c) × (decisionWith false held cut ≡ decisionOn n held cut c)
   said-against e = let o = decide-against n given c e in (sym (marking-none n given c o), sym (ap (decision given) o))
 
-  pub said-marked : (held′ cut′ : List ℕ) (t : Bool) → c / 2 < n → contradicts (region held cut) c ≡ false
-      → holds (region held cut) c ≡ t → region held′ cut′ ≡ markLiteral (region held cut) c
-      → ((elim t as (λ k. Marking) [ true ↦ Already | false ↦ Anew ]) ≡ marking n (region held cut) c)
-      × (decisionWith true held′ cut′ ≡ decisionOn n held cut c)
+  said-marked : (m : Marking) (b : Bool) → m ≡ markedAs b → c / 2 < n → contradicts (region held cut) c ≡ false
+      → b ≡ holds (region held cut) c → (s : Region) → s ≡ markLiteral (region held cut) c
+      → (m ≡ marking n (region held cut) c) × (_≡_ {A = Decision} (record { answer = answerIn m; after = s }) (decisionOn n held cut c))
   unfolding atom
-  said-marked held′ cut′ t l e f q =
+  said-marked m b k l e f s q =
       let o = decide-marks n given c l e in (
-        sym (marking-some n given c (markLiteral given c) o
-            ∙ ap (λ (b : Bool). elim b as (λ k. Marking) [ true ↦ Already | false ↦ Anew ]) f),
-        ap {B = Decision} (λ (r : Region). record { answer = true; after = r }) q ∙ sym (ap (decision given) o),
+        k ∙ ap markedAs f ∙ sym (marking-some n given c (markLiteral given c) o),
+        ap₂ {C = Decision} (λ (x : Bool) (r : Region). record { answer = x; after = r }) (ap answerIn k ∙ is-answer b) q
+            ∙ sym (ap (decision given) o),
       )
+    where
+      is-answer : (b : Bool) → answerIn (markedAs b) ≡ true
+      is-answer true = refl
+      is-answer false = refl
+
+  -- the words at its atom's place: it has its bit there, or none
+  module _ (p : Place) (e : p ≡ placeOf (c / 2)) where
+    abbrev bits : List ℕ → ℕ
+    bits ws = bitAnd (getD ws (p .word) 0) (p .bit)
+
+    some-there : (ws : List ℕ) → (bits ws ≡ 0 → ⊥) → has ws (c / 2) ≡ true
+    some-there ws f = sym (contains-place ws (c / 2) p e) ∙ ap not (ne-eqb (bits ws) 0 f)
+
+    none-there : (ws : List ℕ) → bits ws ≡ 0 → has ws (c / 2) ≡ false
+    none-there ws f = sym (contains-place ws (c / 2) p e) ∙ ap not (eq-eqb (bits ws) 0 f)
+
+    pub place-inside : (ws : List ℕ) → Set n ws → c / 2 < n → p .word < length ws
+    unfolding placeOf
+    place-inside ws s l = rw (e, placeOf) (word-inside n (c / 2) (length ws) (s .long) l)
+
+    pub present-against : c % 2 ≡ 1 → (bitAnd (getD cut (p .word) 0) (p .bit) ≡ 0 → ⊥)
+        → (False ≡ marking n (region held cut) c) × (decisionWith false held cut ≡ decisionOn n held cut c)
+    present-against o f = said-against (sym (contradicts-odd given c o) ∙ some-there cut f)
+
+    pub absent-against : (c % 2 ≡ 1 → ⊥) → (bitAnd (getD held (p .word) 0) (p .bit) ≡ 0 → ⊥)
+        → (False ≡ marking n (region held cut) c) × (decisionWith false held cut ≡ decisionOn n held cut c)
+    absent-against o f = said-against (sym (contradicts-even given c o) ∙ some-there held f)
+
+    pub present-marked : (m : Marking) (ws : List ℕ) → c % 2 ≡ 1 → c / 2 < n → bitAnd (getD cut (p .word) 0) (p .bit) ≡ 0
+        → m ≡ markedAs (not (eqb (bitAnd (getD held (p .word) 0) (p .bit)) 0))
+        → ws ≡ set held (p .word) (bitOr (getD held (p .word) 0) (p .bit))
+        → (m ≡ marking n (region held cut) c) × (decisionWith (answerIn m) ws cut ≡ decisionOn n held cut c)
+    unfolding isPresent atom
+    present-marked m ws o l z k w =
+        said-marked m (not (eqb (bits held) 0)) k l (sym (contradicts-odd given c o) ∙ none-there cut z)
+        (contains-place held (c / 2) p e ∙ holds-odd given c o) (region ws cut)
+        (ap (λ (x : List ℕ). region x cut) (w ∙ insert-place held (c / 2) p e) ∙ sym (mark-present given c (eq-eqb (c % 2) 1 o)))
+
+    pub absent-marked : (m : Marking) (ws : List ℕ) → (c % 2 ≡ 1 → ⊥) → c / 2 < n → bitAnd (getD held (p .word) 0) (p .bit) ≡ 0
+        → m ≡ markedAs (not (eqb (bitAnd (getD cut (p .word) 0) (p .bit)) 0))
+        → ws ≡ set cut (p .word) (bitOr (getD cut (p .word) 0) (p .bit))
+        → (m ≡ marking n (region held cut) c) × (decisionWith (answerIn m) held ws ≡ decisionOn n held cut c)
+    unfolding isPresent atom
+    absent-marked m ws o l z k w =
+        said-marked m (not (eqb (bits cut) 0)) k l (sym (contradicts-even given c o) ∙ none-there held z)
+        (contains-place cut (c / 2) p e ∙ holds-even given c o) (region held ws)
+        (ap (region held) (w ∙ insert-place cut (c / 2) p e) ∙ sym (mark-absent given c (ne-eqb (c % 2) 1 o)))
 
 -- ---- the code's ways through `decide`
 module _ (n : ℕ) (held cut : List ℕ) (a : ℕ) (p : Bool) where

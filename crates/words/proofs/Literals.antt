@@ -1,7 +1,7 @@
 -- Literals by atom and sign: the code of both, both of a code, and the opposite. Assumes nothing.
 use mathlib.Core.Path.{_≡_, refl, sym, ap, ap₂, _∙_}
 use mathlib.Core.Bool.{Bool, true, false, not}
-use Prim.Native.Nat.{ℕ, _+_, _-_, _*_, _/_, _%_, _<_}
+use Prim.Native.Nat.{ℕ, _+_, _-_, _*_, _%_, _<_}
 use native.Mathlib.Decide.{ℕ-discrete}
 use native.Mathlib.Omega.{arith}
 use lib.Dec.{eqb}
@@ -60,11 +60,6 @@ code-parts c = go (isPresent c) refl
     go : (p : Bool) → isPresent c ≡ p → code (atom c) p ≡ c
     go true e = omega (arith, eqb-true (c % 2) 1 e)
     go false e = let f : (c % 2 ≡ 1 → ⊥) = eqb-false (c % 2) 1 e in omega arith
-
--- the same, as the code takes a literal apart
-pub code-literal : (c : ℕ) → code (c / 2) (eqb (c % 2) 1) ≡ c
-unfolding atom isPresent
-code-literal c = code-parts c
 
 -- ---- two literals: equal if atom and sign are
 pub literal-ext : (c d : ℕ) → atom c ≡ atom d → isPresent c ≡ isPresent d → c ≡ d

@@ -4,7 +4,7 @@ use mathlib.Core.Logic.{⊎-map}
 use borrow.Author.Needs.{needs}
 use Rattle.close_publish.specs.Turns.{ledgerOf}
 use Rattle.close_publish.proofs.Standing.{Hits, hits-length, slot-fits, stored-part, hits-stand, decided-stands}
-use Rattle.close_publish.proofs.Obeying.{act-stopped, act-nothing, part-row, act-reads}
+use Rattle.close_publish.proofs.Acting.{act-stopped, act-nothing, part-row, act-reads}
 use Rattle.close_publish.proofs.act.Statement.{statement}
 use Rattle.close_publish.proofs.act.Tie as tie
 
@@ -161,9 +161,7 @@ module _ (c : tie.Joined2) where
   abbrev start : tie.Start
   start = at-start (at-deduction (at-match-keys2 (follow-place .before)))
 
-  hits : Hits (at-follow (c .before) .follow .result .earned)
-      (at-start (at-deduction (at-match-keys2 (at-follow (c .before) .before))) .args .position)
-      (at-start (at-deduction (at-match-keys2 (at-follow (c .before) .before))) .args .slots .now) (c .if2 .slots)
+  hits : Hits (follow-place .follow .result .earned) (start .args .position) (start .args .slots .now) (c .if2 .slots)
   hits = ⊎-map (λ w. (w .0 .taken, w .5 ∙ w .2 .ensures)) (λ w. (w .0 .left, w .1)) (c .if2 .came)
 
 same-length-7 : tie.Need-same-length-7
@@ -178,10 +176,10 @@ same-length-9 c = search needs
 returns-3 : tie.Need-returns-3
 returns-3 c =
     let joined2 = c .before in
-    let place = at-follow (joined2 .before) in
+    let place = follow-place joined2 in
     let match-keys2 = at-match-keys2 (place .before) in
     let deduction = at-deduction match-keys2 in
-    let t = at-start deduction in
+    let t = start joined2 in
     let a = t .args in
     let d = deduction .deduction in
     let g = place .follow in

@@ -3,7 +3,7 @@ use mathlib.Core.Path.{_∙_}
 use borrow.Author.Needs.{needs}
 use Rattle.model.specs.Slots.{rowIn}
 use Rattle.close_publish.specs.Turns.{state}
-use Rattle.close_publish.proofs.Obeying.{follow-nothing, follow-force, follow-require, going-unearned}
+use Rattle.close_publish.proofs.Acting.{follow-nothing, follow-force, follow-require, going-unearned}
 use Rattle.close_publish.proofs.follow.Statement.{statement}
 use Rattle.close_publish.proofs.follow.Tie as tie
 

@@ -1,31 +1,36 @@
 -- `close_publish::publish`. What is left to publish, run from here, is what was left at the start; beside it stands whether an atom was
 -- decided so far. Assumes nothing.
 use mathlib.Core.Path.{refl}
+use native.Mathlib.Omega.{arith}
 use borrow.Author.Needs.{needs}
 use Rattle.model.specs.Closing.{earns}
 use Rattle.model.specs.Deduction.{startCursor}
 use Rattle.model.specs.Slots.{rowIn}
+use Rattle.slots.proofs.Storing.{laid-stored}
 use Rattle.close_publish.proofs.Publishing.{left, Publishes, publish-start, publish-stopped, publish-end, publish-conflict}
 use Rattle.close_publish.proofs.Publishing.{ended-earns, publish-less, publish-on}
 use Rattle.close_publish.proofs.publish.Statement.{statement}
 use Rattle.close_publish.proofs.publish.Tie as tie
 
 abbrev Inv-loop : tie.InvT-loop
-Inv-loop slot atoms held₀ cut₀ meter₀ earned₀ cursor₀ held cut meter earned cursor =
+Inv-loop slot atoms held₀ cut₀ meter₀ earned₀ cursor₀ side held cut meter earned cursor =
     Publishes atoms slot held₀ cut₀ meter₀ held cut meter earned cursor
 
 abbrev μ-loop : tie.MeasureT-loop
-μ-loop slot atoms held₀ cut₀ meter₀ earned₀ cursor₀ held cut meter earned cursor = left (rowIn slot) cursor
+μ-loop slot atoms held₀ cut₀ meter₀ earned₀ cursor₀ side held cut meter earned cursor = left (rowIn slot) cursor
 
 -- back from each place to the one before it that the proof names
-abbrev at-start : tie.At-loop Inv-loop μ-loop → tie.Start Inv-loop μ-loop
-at-start c = c .before .before .before .before
+abbrev from-outputs : tie.After-outputs Inv-loop μ-loop → tie.Start Inv-loop μ-loop
+from-outputs c = c .before .before .before .before
 
-abbrev at : tie.After-next-publication-output Inv-loop μ-loop → tie.At-loop Inv-loop μ-loop
+abbrev at-start : tie.At-loop Inv-loop μ-loop → tie.Start Inv-loop μ-loop
+at-start c = from-outputs (c .before)
+
+abbrev at : tie.After-next-of-side Inv-loop μ-loop → tie.At-loop Inv-loop μ-loop
 at c = c .before .before .before
 
-abbrev at-next-publication-output : tie.After-answer Inv-loop μ-loop → tie.After-next-publication-output Inv-loop μ-loop
-at-next-publication-output c = c .before .before .before .before
+abbrev at-next-of-side : tie.After-answer Inv-loop μ-loop → tie.After-next-of-side Inv-loop μ-loop
+at-next-of-side c = c .before .before .before .before
 
 abbrev at-answer : tie.After-struct-known Inv-loop μ-loop → tie.After-answer Inv-loop μ-loop
 at-answer c = c .before .before .before .before
@@ -39,18 +44,26 @@ at-decide-on c = at-decide-on-from-slice-known4 (c .before)
 abbrev at-told : tie.After-struct-known2 Inv-loop μ-loop → tie.After-enum-told Inv-loop μ-loop
 at-told c = c .before
 
+outputs-requires : tie.Need-outputs-requires Inv-loop μ-loop
+outputs-requires c κs =
+    let t = c .before .before .before in
+    let laid = laid-stored (t .args .atoms) (t .args .slot .now) (t .pre .0) in
+    (omega (arith, laid .long), laid .counted)
+
 loop-holds : tie.Need-loop-holds Inv-loop μ-loop
 unfolding startCursor
 loop-holds c =
-    let t = c .before .before .before in
+    let t = from-outputs c in
     let a = t .args in
     publish-start (a .atoms) (a .slot .now) (t .pre .0) (a .held .now) (a .cut .now) (a .work) _ refl (t .pre .1)
 
-next-publication-output-requires : tie.Need-next-publication-output-requires Inv-loop μ-loop
-next-publication-output-requires c κs =
+next-of-side-requires : tie.Need-next-of-side-requires Inv-loop μ-loop
+next-of-side-requires c κs =
     let l = c .before .before in
-    let t = at-start l in
-    (record { holds = record { atoms = t .args .atoms; stored = t .pre .0 }; region = l .loop .inv .whole }, l .loop .inv .pointed)
+    let t = at-start l in (
+      record { holds = record { atoms = t .args .atoms; stored = t .pre .0 }; region = l .loop .inv .whole },
+      (l .loop .inv .pointed, l .before .outputs .ensures),
+    )
 
 enum-known-answer : tie.Need-enum-known-answer Inv-loop μ-loop
 enum-known-answer c = search needs
@@ -59,7 +72,7 @@ cast-decide-on : tie.Need-cast-decide-on Inv-loop μ-loop
 cast-decide-on c = search needs
 
 decide-on-requires : tie.Need-decide-on-requires Inv-loop μ-loop
-decide-on-requires c κs = at (at-next-publication-output (at-answer c)) .loop .inv .whole
+decide-on-requires c κs = at (at-next-of-side (at-answer c)) .loop .inv .whole
 
 enum-told : tie.Need-enum-told Inv-loop μ-loop
 enum-told c = search needs
@@ -74,18 +87,18 @@ returns : tie.Need-returns Inv-loop μ-loop
 returns c =
     let decide-on = at-decide-on (c .before) in
     let answer = at-answer (decide-on .before) in
-    let k = at-next-publication-output answer in
+    let k = at-next-of-side answer in
     let loop = at k in
     let t = at-start loop in
     let l = loop .loop in
     let d = decide-on .decide-on in
     let o = answer .answer .given in (
       publish-conflict (t .args .atoms) (t .args .slot .now) (t .pre .0) (t .args .held .now) (t .args .cut .now) (t .args .work) (l .held)
-          (l .cut) (l .meter) (l .earned) (l .cursor) (l .inv) (k .next-publication-output .result) (k .next-publication-output .ensures)
+          (l .cut) (l .meter) (l .earned) (l .cursor) (l .inv) (k .next-of-side .result) (k .next-of-side .ensures)
           (o .0 .0) (o .1) (d .result) _ _ (d .ensures .0) (c .match2 .keys2),
       (
         ended-earns (t .args .atoms) (t .args .slot .now) (t .pre .0) (t .args .held .now) (t .args .cut .now) (t .args .work) (l .held)
-            (l .cut) (l .meter) (l .earned) (l .cursor) (l .inv) (k .next-publication-output .result) (k .next-publication-output .ensures)
+            (l .cut) (l .meter) (l .earned) (l .cursor) (l .inv) (k .next-of-side .result) (k .next-of-side .ensures)
             (o .0 .0) (o .1) (d .result) _ _ (d .ensures .0) (c .match2 .keys2) (d .ensures .1 .0),
         d .ensures .1 .1,
       ),
@@ -95,14 +108,14 @@ loop-less : tie.Need-loop-less Inv-loop μ-loop
 loop-less c =
     let decide-on = at-decide-on (at-told c .before .before) in
     let answer = at-answer (decide-on .before) in
-    let k = at-next-publication-output answer in
+    let k = at-next-of-side answer in
     let loop = at k in
     let t = at-start loop in
     let l = loop .loop in
     let d = decide-on .decide-on in
     let o = answer .answer .given in
     publish-less (t .args .atoms) (t .args .slot .now) (t .pre .0) (t .args .held .now) (t .args .cut .now) (t .args .work) (l .held)
-    (l .cut) (l .meter) (l .earned) (l .cursor) (l .inv) (k .next-publication-output .result) (k .next-publication-output .ensures)
+    (l .cut) (l .meter) (l .earned) (l .cursor) (l .inv) (k .next-of-side .result) (k .next-of-side .ensures)
     (o .0 .0) (o .1) (d .result) _ _ (d .ensures .0)
 
 loop-again : tie.Need-loop-again Inv-loop μ-loop
@@ -110,14 +123,14 @@ loop-again c =
     let told = at-told c in
     let decide-on = at-decide-on (told .before .before) in
     let answer = at-answer (decide-on .before) in
-    let k = at-next-publication-output answer in
+    let k = at-next-of-side answer in
     let loop = at k in
     let t = at-start loop in
     let l = loop .loop in
     let d = decide-on .decide-on in
     let o = answer .answer .given in
     publish-on (t .args .atoms) (t .args .slot .now) (t .pre .0) (t .args .held .now) (t .args .cut .now) (t .args .work) (l .held) (l .cut)
-    (l .meter) (l .earned) (l .cursor) (l .inv) (k .next-publication-output .result) (k .next-publication-output .ensures) (o .0 .0) (o .1)
+    (l .meter) (l .earned) (l .cursor) (l .inv) (k .next-of-side .result) (k .next-of-side .ensures) (o .0 .0) (o .1)
     (d .result) _ _ (d .ensures .0) (told .enum-told .given .1) (d .ensures .1 .0) (d .ensures .1 .1) (d .kept .1 .0) (d .kept .1 .1 .0) _
     refl
 
@@ -138,7 +151,7 @@ returns-2 c =
     let t = at-start loop in
     let l = loop .loop in (
       publish-end (t .args .atoms) (t .args .slot .now) (t .pre .0) (t .args .held .now) (t .args .cut .now) (t .args .work) (l .held)
-          (l .cut) (l .meter) (l .earned) (l .cursor) (l .inv) (k .next-publication-output .result) (k .next-publication-output .ensures)
+          (l .cut) (l .meter) (l .earned) (l .cursor) (l .inv) (k .next-of-side .result) (k .next-of-side .ensures)
           (c .enum-told2 .given .1),
       (λ b. l .inv .earns, l .inv .whole),
     )
@@ -157,7 +170,7 @@ returns-3 c =
     let t = at-start loop in
     let l = loop .loop in (
       publish-stopped (t .args .atoms) (t .args .slot .now) (t .pre .0) (t .args .held .now) (t .args .cut .now) (t .args .work) (l .held)
-          (l .cut) (l .meter) (l .earned) (l .cursor) (l .inv) (k .next-publication-output .result) (k .next-publication-output .ensures)
+          (l .cut) (l .meter) (l .earned) (l .cursor) (l .inv) (k .next-of-side .result) (k .next-of-side .ensures)
           (c .match .keys3),
       (λ b. l .inv .earns, l .inv .whole),
     )
@@ -168,8 +181,9 @@ publish-spec =
     (tie.spec
     Inv-loop
     μ-loop
+    outputs-requires
     loop-holds
-    next-publication-output-requires
+    next-of-side-requires
     enum-known-answer
     cast-decide-on
     decide-on-requires

@@ -1,120 +1,134 @@
 -- `words::decide_literal`: one law for each way out. Assumes nothing.
+use mathlib.Core.Path.{_≡_, ap}
+use Prim.Native.Nat.{_/_, _<_}
+use native.Mathlib.Omega.{arith}
+use lib.ListN.{length}
 use borrow.Author.Needs.{needs}
-use mathlib.Core.Bool.{true, false}
-use Rattle.words.proofs.Deciding.{said-out, said-against, said-marked}
-use Rattle.words.proofs.Signs.{held-word, cut-word, literal-against, literal-free, literal-lacks, literal-holds, literal-marked}
+use Rattle.words.specs.Literal.{wordOf, placeOf}
+use Rattle.words.specs.Region.{region}
+use Rattle.words.specs.declared.Place.{Place}
+use Rattle.words.proofs.Regions.{Sound, sound-of}
+use Rattle.words.proofs.Deciding.{said-out, place-inside, present-against, absent-against, present-marked, absent-marked}
 use Rattle.words.proofs.decide_literal.Statement.{statement}
 use Rattle.words.proofs.decide_literal.Tie as tie
 
+-- where the atom's place is known
+module _ (c : tie.After-locate) where
+  abbrev start : tie.Start
+  start = c .before .before .before .before
+
+  abbrev sound : Sound (start .args .atoms) (region (start .args .held .now) (start .args .cut .now))
+  sound = sound-of (start .args .atoms) (region (start .args .held .now) (start .args .cut .now)) (start .pre)
+
+  held-inside : c .locate .result .word < length (start .args .held .now)
+  held-inside =
+      place-inside (start .args .atoms) (start .args .held .now) (start .args .cut .now) (start .args .literal) _ (c .locate .ensures)
+      (start .args .held .now) (sound .held) (c .before .if1 .left)
+
+  cut-inside : c .locate .result .word < length (start .args .cut .now)
+  cut-inside =
+      place-inside (start .args .atoms) (start .args .held .now) (start .args .cut .now) (start .args .literal) _ (c .locate .ensures)
+      (start .args .cut .now) (sound .cut) (c .before .if1 .left)
+
+  place-word : c .locate .result .word ≡ start .args .literal / 2 / 64
+  unfolding placeOf wordOf
+  place-word = ap (λ (p : Place). p .word) (c .locate .ensures)
+
 -- back from each place to the one before it that the proof names
-abbrev at-else1 : tie.After-slice-known2 → tie.Else1
-at-else1 c = c .before .before
+abbrev at-words : tie.After-slice-known4 → tie.After-locate
+at-words c = c .before .before
+
+abbrev at-present : tie.After-struct-known → tie.After-slice-known4
+at-present c = c .before .before
+
+abbrev at-absent : tie.After-struct-known2 → tie.After-slice-known4
+at-absent c = c .before .before
 
 returns : tie.Need-returns
 returns c =
-    let a = c .before .args in
+    let a = c .before .before .before .args in
     said-out (a .atoms) (a .held .now) (a .cut .now) (a .literal) (c .if1 .taken)
 
-shl-present : tie.Need-shl-present
-shl-present c = search needs
-
-sub-absent : tie.Need-sub-absent
-sub-absent c = search needs
-
-shl-absent : tie.Need-shl-absent
-shl-absent c = search needs
+locate-requires : tie.Need-locate-requires
+locate-requires c κs = search needs
 
 mul-holds : tie.Need-mul-holds
-mul-holds c = search needs
+mul-holds c = omega (arith, place-word c)
 
 slice-read-holds : tie.Need-slice-read-holds
-slice-read-holds c =
-    let t = c .before .before in
-    held-word (t .args .atoms) (t .args .held .now) (t .args .cut .now) _ (t .pre) (c .before .if1 .left)
+slice-read-holds c = held-inside (c .before)
 
 mul-cuts : tie.Need-mul-cuts
-mul-cuts c = search needs
+mul-cuts c = omega (arith, place-word (c .before))
 
 slice-read-cuts : tie.Need-slice-read-cuts
-slice-read-cuts c =
-    let else1 = at-else1 c in
-    let t = else1 .before in
-    cut-word (t .args .atoms) (t .args .held .now) (t .args .cut .now) _ (t .pre) (else1 .if1 .left)
+slice-read-cuts c = cut-inside (at-words c)
 
 returns-2 : tie.Need-returns-2
 returns-2 c =
-    let a = at-else1 (c .before) .before .args in
-    said-against (a .atoms) (a .held .now) (a .cut .now) (a .literal)
-    (literal-against (a .held .now) (a .cut .now) (a .literal) (c .if2 .taken))
+    let there = at-present (c .before) in
+    let k = at-words there in
+    let a = start k .args in
+    present-against (a .atoms) (a .held .now) (a .cut .now) (a .literal) _ (k .locate .ensures) (c .before .before .if2 .taken)
+    (c .if3 .taken)
 
-mul-held : tie.Need-mul-held
-mul-held c = search needs
+mark-at-requires : tie.Need-mark-at-requires
+mark-at-requires c κs = held-inside (at-words (at-present (c .before .before)))
 
-slice-write-held : tie.Need-slice-write-held
-slice-write-held c =
-    let else1 = at-else1 (c .before) in
-    let t = else1 .before in
-    held-word (t .args .atoms) (t .args .held .now) (t .args .cut .now) _ (t .pre) (else1 .if1 .left)
+returns-3 : tie.Need-returns-3
+returns-3 c =
+    let there = at-absent (c .before) in
+    let k = at-words there in
+    let a = start k .args in
+    absent-against (a .atoms) (a .held .now) (a .cut .now) (a .literal) _ (k .locate .ensures) (c .before .before .if2 .left)
+    (c .if4 .taken)
 
-mul-cut : tie.Need-mul-cut
-mul-cut c = search needs
-
-slice-write-cut : tie.Need-slice-write-cut
-slice-write-cut c =
-    let else1 = at-else1 (c .before) in
-    let t = else1 .before in
-    cut-word (t .args .atoms) (t .args .held .now) (t .args .cut .now) _ (t .pre) (else1 .if1 .left)
+mark-at-requires-2 : tie.Need-mark-at-requires-2
+mark-at-requires-2 c κs = cut-inside (at-words (at-absent (c .before .before)))
 
 same-length : tie.Need-same-length
 same-length c = search needs
 
+returns-4 : tie.Need-returns-4
+returns-4 c =
+    let marked = c .before .before in
+    let free = marked .before .before in
+    let odd = free .before .before in
+    let k = at-words (odd .before) in
+    let a = start k .args in
+    let m = marked .mark-at in
+    present-marked (a .atoms) (a .held .now) (a .cut .now) (a .literal) _ (k .locate .ensures) (m .result) _ (odd .if2 .taken)
+    (k .before .if1 .left) (free .if3 .left) (m .ensures .0) (m .ensures .1)
+
 same-length-2 : tie.Need-same-length-2
 same-length-2 c = search needs
 
-returns-3 : tie.Need-returns-3
-returns-3 c =
-    let else2 = c .before in
-    let else1 = at-else1 (else2 .before) in
-    let a = else1 .before .args in
-    said-marked (a .atoms) (a .held .now) (a .cut .now) (a .literal) _ _ false (else1 .if1 .left)
-    (literal-free (a .held .now) (a .cut .now) (a .literal) (else2 .if2 .left))
-    (literal-lacks (a .held .now) (a .cut .now) (a .literal) (c .if3 .taken)) (literal-marked (a .held .now) (a .cut .now) (a .literal))
-
-same-length-3 : tie.Need-same-length-3
-same-length-3 c = search needs
-
-same-length-4 : tie.Need-same-length-4
-same-length-4 c = search needs
-
-returns-4 : tie.Need-returns-4
-returns-4 c =
-    let else2 = c .before in
-    let else1 = at-else1 (else2 .before) in
-    let a = else1 .before .args in
-    said-marked (a .atoms) (a .held .now) (a .cut .now) (a .literal) _ _ true (else1 .if1 .left)
-    (literal-free (a .held .now) (a .cut .now) (a .literal) (else2 .if2 .left))
-    (literal-holds (a .held .now) (a .cut .now) (a .literal) (c .if3 .left)) (literal-marked (a .held .now) (a .cut .now) (a .literal))
+returns-5 : tie.Need-returns-5
+returns-5 c =
+    let marked = c .before .before in
+    let free = marked .before .before in
+    let even = free .before .before in
+    let k = at-words (even .before) in
+    let a = start k .args in
+    let m = marked .mark-at2 in
+    absent-marked (a .atoms) (a .held .now) (a .cut .now) (a .literal) _ (k .locate .ensures) (m .result) _ (even .if2 .left)
+    (k .before .if1 .left) (free .if4 .left) (m .ensures .0) (m .ensures .1)
 
 pub decide-literal-spec : {M : Type 1} → statement M
 decide-literal-spec =
     tie.close
     (tie.spec
     returns
-    shl-present
-    sub-absent
-    shl-absent
+    locate-requires
     mul-holds
     slice-read-holds
     mul-cuts
     slice-read-cuts
     returns-2
-    mul-held
-    slice-write-held
-    mul-cut
-    slice-write-cut
-    same-length
-    same-length-2
+    mark-at-requires
     returns-3
-    same-length-3
-    same-length-4
-    returns-4)
+    mark-at-requires-2
+    same-length
+    returns-4
+    same-length-2
+    returns-5)
