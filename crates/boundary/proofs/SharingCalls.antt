@@ -5,7 +5,7 @@ use Prim.Native.Nat.{ℕ}
 use Rattle.meter.specs.declared.Meter.{Meter}
 use Rattle.model.specs.declared.Header.{Header}
 use Rattle.model.specs.declared.TransferResult.{TransferResult}
-use Rattle.model.specs.Operations.{TransferEnd, seed, deliver}
+use Rattle.model.specs.Operations.{seed, deliver}
 use Rattle.contents.specs.Lent.{lent}
 use Rattle.transfers.specs.Ends.{transferEnd}
 use Rattle.wire.specs.declared.ReplyWords.{ReplyWords}

@@ -2,8 +2,8 @@
 use mathlib.Core.Path.{_≡_, refl, sym, ap, ap₂, _∙_, subst}
 use mathlib.Core.Bool.{Bool, true, false, _&&_}
 use mathlib.Core.List.{List, [], _∷_, _++_, map}
-use mathlib.Core.Option.{Option, none, some}
-use Prim.Native.Nat.{ℕ, zero, suc, _+_, _*_, _≤_, _<_}
+use mathlib.Core.Option.{none}
+use Prim.Native.Nat.{ℕ, suc, _+_, _*_, _≤_}
 use native.Mathlib.Omega.{arith}
 use lib.Dec.{T, leb, ltb, leb→le, eqb}
 use lib.ListN.{length, length-append, length-map}
@@ -15,7 +15,7 @@ use Rattle.lists.proofs.Bools.{T-true, T-of}
 use Rattle.lists.proofs.Pads.{length-pad}
 use Rattle.words.specs.Literal.{atom}
 use Rattle.model.specs.declared.Header.{Header}
-use Rattle.model.specs.Records.{Row, Entry, Ledger, rowsOf, isRow, limitsOk, withRows, slotWords, postingWords}
+use Rattle.model.specs.Records.{Row, Entry, Ledger, rowsOf, isRow, withRows, slotWords, postingWords}
 use Rattle.model.specs.Slots.{slotOf, slotsOf, entriesIn}
 use Rattle.model.specs.Postings.{posting, rowPostings, postingsFrom, postingsOf, filed}
 use Rattle.model.specs.Refusals.{Lent, refusal, ledgerIn, lentOf, lengthsOk, entryOk, countsOk, wordsOk, contentsOk, accepts}

@@ -1,9 +1,9 @@
 -- The numbers tell the cases of an answer apart: each case is read back from its number and values. So an equation between two replies is
 -- one between the two answers. Assumes nothing.
 use mathlib.Core.Path.{_≡_, refl, sym, ap, _∙_}
-use mathlib.Core.Bool.{Bool, true, false}
+use mathlib.Core.Bool.{true, false}
 use mathlib.Core.Option.{Option, none, some}
-use Prim.Native.Nat.{ℕ, zero, suc}
+use Prim.Native.Nat.{zero, suc}
 use Rattle.model.specs.declared.Header.{Header}
 use Rattle.model.specs.declared.Deduction.{Deduction}
 use Rattle.model.specs.declared.Deduction.the-variants as deduction
@@ -27,7 +27,7 @@ use Rattle.model.specs.declared.TransferAnswer.{TransferAnswer}
 use Rattle.model.specs.declared.TransferAnswer.the-variants as transfer-answer
 use Rattle.model.specs.declared.DecideAnswer.{DecideAnswer}
 use Rattle.model.specs.declared.DecideAnswer.the-variants as decide-answer
-use Rattle.model.specs.Answers.{Reply, refused, answered, flagWord, makeReply, madeHeader, offerReply, hitReply, beginReply}
+use Rattle.model.specs.Answers.{Reply, refused, answered, makeReply, madeHeader, offerReply, hitReply, beginReply}
 use Rattle.model.specs.Answers.{deductionReply, deduceReply, nextReply, candidatesReply, closeReply, transferReply, decideReply}
 
 -- what is read back after writing comes from one thing alone

@@ -1,7 +1,7 @@
 -- The instances of demand 3 hold. Assumes nothing.
 use mathlib.Core.Path.{_≡_, refl, ap}
 use mathlib.Core.Bool.{Bool, true, false}
-use mathlib.Core.Logic.{_⊎_, inl, inr}
+use mathlib.Core.Logic.{inl, inr}
 use mathlib.Core.Option.{some}
 use mathlib.Core.List.{List, [], _∷_, map}
 use Prim.Native.Nat.{ℕ}
@@ -15,7 +15,7 @@ use Rattle.model.specs.Refusals.{ledgerIn}
 use Rattle.model.specs.Opened.{opened}
 use Rattle.model.specs.Priority.{In, Forces, ForceAlike, Covers}
 use Rattle.model.specs.Calls.{Call}
-use Rattle.model.specs.Cards.{endless, _⇒_, a140, ab140, a142, ab144, b142, c144, entriesFrom}
+use Rattle.model.specs.Cards.{endless, a140, ab140, a142, ab144, b142, c144, entriesFrom}
 use Rattle.model.specs.Instances.{begunWith, afterCalls, heldAfter, closedAfter, offersOf, begun, after, heldBy, closedBy}
 use Rattle.model.specs.Instances.{plan, clashing, one, other, few, evicting, keeping, second, linkFirst, linkLast}
 use Rattle.model.specs.Instances.{lentWith, closedWith, Instances}

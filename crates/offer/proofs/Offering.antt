@@ -3,10 +3,9 @@ use mathlib.Core.Path.{_≡_, refl, sym, ap, ap₂, _∙_, subst}
 use mathlib.Core.Bool.{Bool, true, false, _&&_, _||_}
 use mathlib.Core.List.{List, [], _∷_}
 use mathlib.Core.Option.{none, some}
-use Prim.Native.Nat.{ℕ, suc, _+_, _≤_, _<_}
+use Prim.Native.Nat.{ℕ, _+_, _≤_, _<_}
 use native.Mathlib.Omega.{arith}
 use lib.Dec.{ltb}
-use lib.ListN.{length}
 use borrow.Author.Tests.{lt-ltb, le-ltb}
 use Rattle.meter.specs.declared.Meter.{Meter}
 use Rattle.meter.specs.declared.Account.{Account}
@@ -21,7 +20,7 @@ use Rattle.model.specs.Records.{Row, Ledger, attempted, withAccount, within, is
 use Rattle.model.specs.Slots.{entriesIn, rowIn}
 use Rattle.slots.specs.Layout.{proposal}
 use Rattle.slots.proofs.Storing.{row-proposal}
-use Rattle.model.specs.Retention.{Outcome, Retention as Kept, retain, canCapture}
+use Rattle.model.specs.Retention.{Retention as Kept, retain, canCapture}
 use Rattle.model.specs.Refusals.{Lent, refusal, accepts, ledgerIn, lentOf}
 use Rattle.model.specs.Answers.{offerReply}
 use Rattle.model.specs.Operations.{OfferEnd, Offered, offer, capture, offerAnswer, unoffered, fitsOffer}

@@ -3,9 +3,9 @@ use mathlib.Core.Path.{_≡_, refl, sym, ap, ap₂, _∙_}
 use mathlib.Core.Bool.{Bool, true, false, _||_, or-true}
 use mathlib.Core.List.{List, [], map}
 use mathlib.Core.Option.{some}
-use Prim.Native.Nat.{ℕ, zero, suc, _≤_, _<_}
+use Prim.Native.Nat.{ℕ, _≤_, _<_}
 use lib.Dec.{leb}
-use lib.ListN.{length, drop}
+use lib.ListN.{length}
 use borrow.Author.Tests.{le-leb, lt-leb}
 use Rattle.lists.specs.Lists.{sortOf, concat, pad, upTo, zeroed}
 use Rattle.lists.specs.Marks.{markAll, marked}
@@ -18,8 +18,7 @@ use Rattle.meter.specs.declared.Tick.the-variants.{Ticked, Stopped}
 use Rattle.meter.specs.Meter.{ticks}
 use Rattle.model.specs.declared.CandidatesAnswer.the-variants as answer
 use Rattle.model.specs.declared.Header.{Header}
-use Rattle.model.specs.Records.{rowsOf, scanRows, slotWords, withFull, withStale}
-use Rattle.model.specs.Slots.{entriesIn}
+use Rattle.model.specs.Records.{rowsOf, scanRows, withFull, withStale}
 use Rattle.model.specs.Postings.{postedAt, postingsOf, positions, searchTicks, Search, searched, rebuilt, candidates}
 use Rattle.model.specs.Refusals.{ledgerIn}
 use Rattle.model.specs.Operations.{candidatesAnswer, foundWords}

@@ -1,20 +1,18 @@
 -- The rows of slots as a filling meets them: side by side, then row by row. Assumes nothing.
-use mathlib.Core.Path.{_≡_, refl, sym, ap, ap₂, _∙_}
+use mathlib.Core.Path.{_≡_, sym, ap, ap₂, _∙_}
 use mathlib.Core.List.{List, [], _∷_, _++_}
-use Prim.Native.Nat.{ℕ, zero, suc, _+_, _-_, _*_, _≤_, _<_}
+use Prim.Native.Nat.{ℕ, _+_, _-_, _*_, _≤_, _<_}
 use native.Mathlib.Numerals.{add-one}
-use native.Mathlib.Nat.{sub-zero}
 use native.Mathlib.Omega.{arith}
-use lib.ListN.{length, getD, take, drop}
-use lib.Seq.{drop-drop}
+use lib.ListN.{length}
 use Rattle.meter.specs.declared.Meter.{Meter}
-use Rattle.model.specs.Records.{Row, slotWords, postingWords}
-use Rattle.model.specs.Slots.{rowIn, entryIn, entriesIn}
+use Rattle.model.specs.Records.{postingWords}
+use Rattle.model.specs.Slots.{rowIn}
 use Rattle.model.specs.Postings.{rowPostings, postingsFrom, postingsOf}
 use Rattle.slots.specs.Cursor.{listOf}
 use Rattle.slots.specs.Layout.{conditionSide, outputSide, Laid, Stored, slotAt, rowsIn}
 use Rattle.slots.proofs.Storing.{laid-stored}
-use Rattle.slots.proofs.Rows.{slot-code, rowsFrom, rows-all, rows-next, rows-none, rows-length, rows-at}
+use Rattle.slots.proofs.Rows.{rowsFrom, rows-all, rows-next, rows-none, rows-length, rows-at}
 use Rattle.postings.specs.Steps.{Walk, onward, walk}
 use Rattle.postings.specs.Filling.{Filled, put, filledTo, sidePostings, Postable, RowPostable, RowsPostable}
 use Rattle.postings.proofs.Walking.{walk-append}

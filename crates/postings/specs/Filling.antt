@@ -3,7 +3,7 @@ use mathlib.Core.Bool.{true, false}
 use mathlib.Core.List.{List, [], _∷_, map}
 use Prim.Native.Nat.{ℕ, _+_, _*_, _≤_, _<_}
 use lib.Dec.{eqb}
-use lib.ListN.{length, set, take, drop}
+use lib.ListN.{length, set}
 use Rattle.lists.specs.Lists.{distinct}
 use Rattle.lists.specs.Counts.{Each}
 use Rattle.words.specs.Literal.{atom}
@@ -11,7 +11,6 @@ use Rattle.words.specs.Region.{maxAtoms}
 use Rattle.meter.specs.declared.Tick.{Tick}
 use Rattle.meter.specs.declared.Tick.the-variants.{Ticked, Stopped}
 use Rattle.model.specs.Records.{Row, maxRows, postingWords}
-use Rattle.model.specs.Slots.{entriesIn}
 use Rattle.model.specs.Postings.{posting, postingsOf, filed}
 use Rattle.slots.specs.declared.Side.{Side}
 use Rattle.slots.specs.Cursor.{Sound, listOf}

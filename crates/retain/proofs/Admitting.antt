@@ -17,7 +17,7 @@ use Rattle.model.specs.declared.Header.{Header}
 use Rattle.model.specs.Records.{Row, Entry, Ledger}
 use Rattle.model.specs.Rows.{prepareReads}
 use Rattle.model.specs.Slots.{entriesIn}
-use Rattle.model.specs.Retention.{Examined, Placement, protected, place, placeReads, newborn, settle, untaken, carryOut, Retention, Stops}
+use Rattle.model.specs.Retention.{Examined, Placement, protected, placeReads, newborn, settle, untaken, carryOut, Retention, Stops}
 use Rattle.model.specs.Retention.{Declines, Adds}
 use Rattle.model.specs.Refusals.{Lent, ledgerIn, lentOf}
 use Rattle.contents.specs.Lent.{lent}

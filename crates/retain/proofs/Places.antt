@@ -13,7 +13,7 @@ use Rattle.lists.specs.Lists.{select, range, first}
 use Rattle.words.specs.Region.{has, nextFrom}
 use Rattle.model.specs.declared.LearningLimits.{LearningLimits}
 use Rattle.model.specs.Records.{Entry}
-use Rattle.model.specs.Retention.{Examined, anyReplaced, place, placeOf, victim}
+use Rattle.model.specs.Retention.{Examined, anyReplaced, placeOf, victim}
 use Rattle.retain_compare.specs.Passes.{examinedBy}
 use Rattle.retain.specs.declared.Room.{Room}
 use Rattle.retain.specs.declared.Room.the-variants.{After, First, Victim, Protected}

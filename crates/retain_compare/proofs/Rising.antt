@@ -5,7 +5,7 @@ use mathlib.Core.List.{List}
 use Prim.Native.Nat.{ℕ, _*_, _≤_}
 use native.Mathlib.Nat.{le-trans}
 use lib.ListN.{length}
-use Rattle.lists.specs.Lists.{same, below}
+use Rattle.lists.specs.Lists.{below}
 use Rattle.words.specs.Region.{maxAtoms}
 use Rattle.model.specs.Records.{Row, maxConditions, maxOutputs}
 use Rattle.model.specs.Slots.{rowIn}

@@ -6,7 +6,7 @@ use Prim.Native.Nat.{ℕ, suc, _+_}
 use Rattle.model.specs.Records.{Row, Entry}
 use Rattle.model.specs.Rows.{subsumes, subsumesReads}
 use Rattle.model.specs.Union.{joins, joinReads, grown}
-use Rattle.model.specs.Retention.{Examined, Pass, passed, noted}
+use Rattle.model.specs.Retention.{Examined, Pass, noted}
 
 -- the entries from position i on, with what the marks say of each
 unfoldable pub examinedBy : (ℕ → Bool) → ℕ → List Entry → List Examined

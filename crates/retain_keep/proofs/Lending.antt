@@ -1,9 +1,9 @@
 -- A good ledger, laid out and filed, is accepted and read again; what is accepted is good. Assumes nothing.
-use mathlib.Core.Path.{_≡_, refl, sym, ap, ap₂, _∙_, subst}
-use mathlib.Core.Bool.{Bool, true, false, _&&_}
-use mathlib.Core.List.{List, [], _∷_}
-use mathlib.Core.Option.{none, some}
-use Prim.Native.Nat.{ℕ, suc, _≤_, _<_}
+use mathlib.Core.Path.{_≡_, refl, sym, ap, subst}
+use mathlib.Core.Bool.{Bool, true, _&&_}
+use mathlib.Core.List.{List, []}
+use mathlib.Core.Option.{none}
+use Prim.Native.Nat.{ℕ, _≤_}
 use lib.Dec.{leb, ltb, T}
 use lib.ListN.{length}
 use borrow.Author.Tests.{le-leb, leb-true, lt-ltb, ltb-true}
@@ -12,7 +12,7 @@ use Rattle.lists.proofs.Bools.{T-true, T-of, and-both, and-yes}
 use Rattle.words.specs.Bit.{maxWord}
 use Rattle.model.specs.declared.Header.{Header}
 use Rattle.model.specs.Records.{Entry, Ledger, limitsOk, rowsOf, withRows}
-use Rattle.model.specs.Slots.{slotsOf, entriesIn}
+use Rattle.model.specs.Slots.{entriesIn}
 use Rattle.model.specs.Refusals.{Lent, refusal, accepts, entryOk, countsOk, contentsOk, wordsOk, ledgerIn, lentOf}
 use Rattle.model.proofs.Accepting.{encoded-accepted, entries-valid}
 use Rattle.model.proofs.Slots.{decode-encode, entries-length}

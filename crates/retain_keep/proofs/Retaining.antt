@@ -1,13 +1,13 @@
 -- A retention of a row over the ledger's atoms leaves a ledger that is accepted again. Assumes nothing.
-use mathlib.Core.Path.{_≡_, refl, sym, ap, ap₂, _∙_, subst}
-use mathlib.Core.Logic.{_⊎_, inl, inr}
+use mathlib.Core.Path.{_≡_, refl, sym, ap, _∙_, subst}
+use mathlib.Core.Logic.{inl, inr}
 use mathlib.Core.Bool.{Bool, true, false, _&&_}
-use mathlib.Core.List.{List, [], _∷_, map}
-use Prim.Native.Nat.{ℕ, suc, _+_, _/_, _≤_, _<_}
+use mathlib.Core.List.{List, [], _∷_}
+use Prim.Native.Nat.{ℕ, suc, _≤_}
 use native.Mathlib.Omega.{arith}
-use lib.Dec.{leb, ltb, T}
-use lib.ListN.{length, set, length-set}
-use borrow.Author.Tests.{le-leb, leb-true, lt-leb, leb-false}
+use lib.Dec.{leb}
+use lib.ListN.{length, length-set}
+use borrow.Author.Tests.{le-leb, leb-true, leb-false}
 use Rattle.lists.specs.Lists.{all}
 use Rattle.lists.proofs.Bools.{and-both, and-yes}
 use Rattle.words.specs.Bit.{maxWord}
@@ -17,8 +17,8 @@ use Rattle.meter.specs.declared.Read.{Read}
 use Rattle.meter.specs.declared.Read.the-variants.{Paid, Declined, Stopped}
 use Rattle.meter.specs.Meter.{andThen, pay}
 use Rattle.model.specs.declared.Header.{Header}
-use Rattle.model.specs.Records.{Row, Entry, Ledger, isRow, limitsOk, saturatingAdd, withHits, withAdded, withRows, maxOutputs}
-use Rattle.model.specs.Retention.{halved, settle, newborn, place, Placement, subsumed, protected, placing, evicting, placement, Retention}
+use Rattle.model.specs.Records.{Row, Entry, Ledger, isRow, saturatingAdd, withHits, withAdded, maxOutputs}
+use Rattle.model.specs.Retention.{halved, settle, newborn, Placement, subsumed, protected, placing, evicting, placement}
 use Rattle.model.specs.Retention.{untaken, carryOut, retained, retainReads, retain}
 use Rattle.model.specs.Refusals.{entryOk}
 use Rattle.model.specs.Priority.{In}

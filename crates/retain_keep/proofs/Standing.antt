@@ -1,5 +1,5 @@
 -- Words that are those of a ledger, from one change to the next. Assumes nothing.
-use mathlib.Core.Path.{_≡_, refl, sym, ap, ap₂, _∙_, subst}
+use mathlib.Core.Path.{_≡_, refl, sym, ap, ap₂, _∙_}
 use mathlib.Core.Bool.{Bool, true}
 use mathlib.Core.List.{List, []}
 use mathlib.Core.Option.{none}
@@ -9,9 +9,9 @@ use Rattle.lists.specs.Lists.{adjust}
 use Rattle.words.specs.Bit.{maxWord}
 use Rattle.meter.specs.declared.Read.{Read}
 use Rattle.model.specs.declared.Header.{Header}
-use Rattle.model.specs.Records.{Row, Entry, Ledger, isRow, saturatingAdd, rowsOf, withRows, withHits, withDelivered, maxOutputs}
+use Rattle.model.specs.Records.{Row, Entry, Ledger, isRow, saturatingAdd, withRows, withHits, withDelivered, maxOutputs}
 use Rattle.model.specs.Slots.{slotsOf, entriesIn}
-use Rattle.model.specs.Retention.{Retention, Outcome, retain}
+use Rattle.model.specs.Retention.{Retention, retain}
 use Rattle.model.specs.Transfers.{changeAt}
 use Rattle.model.specs.Refusals.{Lent, refusal, accepts, ledgerIn, lentOf}
 use Rattle.contents.specs.Lent.{lent}
@@ -22,7 +22,7 @@ use Rattle.slots.specs.Layout.{tierOf, Held}
 use Rattle.slots.proofs.Holding.{stands-tier}
 use Rattle.tier.specs.Tier.{hitsAdded, markedDelivered, sharedOut}
 use Rattle.tier.proofs.Buffer.{hits-added, marked-delivered, shared-out}
-use Rattle.retain_keep.specs.Good.{Good, recounted}
+use Rattle.retain_keep.specs.Good.{recounted}
 use Rattle.retain_keep.specs.Stood.{Stood}
 use Rattle.retain_keep.proofs.Retaining.{retain-good}
 use Rattle.retain_keep.proofs.Lending.{recounted-lent, good-accepted, good-read, accepted-good}

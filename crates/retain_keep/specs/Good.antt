@@ -1,7 +1,7 @@
 -- 01, refusals 1 and 3, of a ledger apart from its layout. Assumes nothing.
 use mathlib.Core.Path.{_≡_}
 use mathlib.Core.Bool.{true}
-use Prim.Native.Nat.{ℕ, _≤_, _<_}
+use Prim.Native.Nat.{_≤_, _<_}
 use lib.ListN.{length}
 use Rattle.lists.specs.Lists.{all}
 use Rattle.words.specs.Bit.{maxWord}

@@ -20,7 +20,7 @@ use Rattle.model.specs.declared.OutputCursor.{OutputCursor}
 use Rattle.model.specs.Records.{Row, isRow, groupLength}
 use Rattle.model.specs.Rows.{groups, packed}
 use Rattle.model.specs.Slots.{rowIn, indexOf}
-use Rattle.model.specs.Deduction.{Published, published, output, stopped, end, pending, loaded, give, givenOut, packedNext, scalarNext}
+use Rattle.model.specs.Deduction.{Published, published, stopped, end, pending, loaded, give, givenOut, packedNext, scalarNext}
 use Rattle.model.specs.Deduction.{nextOutput, startCursor, chunks}
 use Rattle.model.specs.Operations.{bitsAmong, unloaded, ofGroup, cursorOk}
 use Rattle.model.proofs.Packing.{Under}

@@ -7,7 +7,6 @@ use lib.Bits.{bitOr}
 use lib.Dec.{eqb, ltb}
 use lib.ListN.{length, getD, set}
 use Rattle.words.specs.Literal.{atom, isPresent, wordOf, bitOf}
-use Rattle.model.specs.Rows.{groups}
 
 -- 0 if a code of word x joins the group at position at, 1 if it begins a group: at the end, or where the group is of another word
 unfoldable pub begun : List ℕ → ℕ → ℕ → ℕ

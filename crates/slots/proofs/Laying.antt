@@ -11,7 +11,7 @@ use lib.Seq.{drop-drop, length-take-le}
 use borrow.Author.Tests.{eq-eqb, ne-eqb}
 use Rattle.model.specs.Records.{Row, slotWords, conditionsAt, outputsAt, totalGroupsAt, conditionGroupsAt, bodyAt, groupLength}
 use Rattle.words.specs.Region.{maxWords}
-use Rattle.model.specs.Rows.{groups, packed}
+use Rattle.model.specs.Rows.{packed}
 use Rattle.model.specs.Slots.{ifPacked, rowIn, ungroup}
 use Rattle.slots.specs.Cursor.{literalsAt, listOf, Sound}
 use Rattle.slots.specs.Layout.{Counted, Laid, rowOf}

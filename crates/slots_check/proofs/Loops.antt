@@ -12,7 +12,6 @@ use lib.ListN.{length, getD, drop, length-drop}
 use borrow.Author.Tests.{eq-eqb, ne-eqb, lt-ltb, le-ltb, le-leb, lt-leb}
 use Rattle.lists.proofs.Concats.{drop-three}
 use Rattle.model.specs.Records.{maxOutputs, groupLength}
-use Rattle.model.specs.Rows.{groups}
 use Rattle.slots_check.specs.Check.{bitsBelow, groupOk, groupsOk, codeCount, noSide, sideCodes}
 use Rattle.slots_check.proofs.Groups.{group-passed}
 

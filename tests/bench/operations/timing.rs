@@ -54,7 +54,7 @@ fn middle(mut numbers: Vec<f64>) -> f64 {
 }
 
 pub fn title(what: &str) {
-    println!("{what:46}    Rust    ours   check  ratio  without check");
+    println!("{what:46}    Rust    ours   check   ratio  without check");
 }
 
 /// Prints a line: the times in microseconds, divided by a number, the ratio, and the ratio without the acceptance.
@@ -63,7 +63,7 @@ pub fn measure(name: &str, by: usize, mut sides: Sides<'_>) {
     let of = |figure: &dyn Fn(&[f64; 3]) -> f64| middle(runs.iter().map(figure).collect());
     let time = |side: usize| of(&|run| run[side] / 1e3 / by as f64);
     println!(
-        "{name:46}{:8.2}{:8.2}{:8.2}{:7.2}{:8.2}",
+        "{name:46}{:8.2}{:8.2}{:8.2}{:8.3}{:8.2}",
         time(0),
         time(1),
         time(2),

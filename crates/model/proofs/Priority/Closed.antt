@@ -1,23 +1,23 @@
 -- A region closed for rows is closed for the rows that they cover. Assumes nothing.
 use mathlib.Core.Path.{_≡_, refl, sym, ap, ap₂, _∙_, subst}
-use mathlib.Core.Logic.{_⊎_, inl, inr, _↔_, _≢_}
-use mathlib.Core.Bool.{Bool, true, false, not, _&&_, _||_, true≢false, false≢true}
-use mathlib.Core.List.{List, [], _∷_, map}
-use Prim.Native.Nat.{ℕ, zero, suc, _≤_, _<_, _*_, zero-le, suc-le-suc}
+use mathlib.Core.Logic.{_⊎_, inl, inr}
+use mathlib.Core.Bool.{Bool, true, false, not, _&&_, _||_}
+use mathlib.Core.List.{List, [], _∷_}
+use Prim.Native.Nat.{ℕ, _≤_, zero-le, suc-le-suc}
 use native.Mathlib.Decide.{ℕ-discrete}
 use native.Mathlib.Omega.{arith}
 use lib.ListN.{length}
-use lib.Dec.{T, eqb, leb, T-not, leb→le, le→leb}
+use lib.Dec.{T, leb, T-not, leb→le, le→leb}
 use Rattle.lists.specs.Lists.{any, select}
 use Rattle.lists.proofs.Bools.{T-true, or-l, or-r}
-use Rattle.words.specs.Literal.{atom, isPresent, opposite}
-use Rattle.words.specs.Region.{Region, has, holds, contradicts, isRegion, atomsOk}
+use Rattle.words.specs.Literal.{atom, opposite}
+use Rattle.words.specs.Region.{Region, holds, contradicts}
 use Rattle.model.specs.declared.Deduction.{Deduction}
 use Rattle.model.specs.declared.Deduction.the-variants.{Nothing, Force, Require}
-use Rattle.model.specs.Records.{Row, isRowOver}
+use Rattle.model.specs.Records.{Row}
 use Rattle.model.specs.Deduction.{failing, contradicted, idle, deduceFrom, deduction}
 use Rattle.model.specs.Priority.{In, Gives, Covers, Says, ClosedFor}
-use Rattle.model.proofs.Cover.{and-left, and-right, or-split}
+use Rattle.model.proofs.Cover.{or-split}
 use Rattle.model.proofs.Priority.Steps.{Over}
 use Rattle.model.proofs.Priority.Conditions.{Clean, row-clean}
 

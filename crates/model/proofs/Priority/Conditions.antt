@@ -1,16 +1,14 @@
 -- The region of a row's conditions has exactly those literals; so forcing alike on all regions is mutual cover. Assumes nothing.
-use mathlib.Core.Path.{_≡_, sym, ap, ap₂, _∙_, subst}
+use mathlib.Core.Path.{_≡_, sym, ap, _∙_, subst}
 use mathlib.Core.Logic.{_⊎_, inl, inr, _↔_, _≢_}
-use mathlib.Core.Bool.{Bool, true, false, not, _&&_, _||_, true≢false, false≢true}
+use mathlib.Core.Bool.{Bool, true, false, not, _&&_, _||_, false≢true}
 use mathlib.Core.List.{List, [], _∷_, map}
-use Prim.Native.Nat.{ℕ, zero, suc, _+_, _-_, _*_, _/_, _%_, _^_, _≤_, _<_}
-use native.Mathlib.Nat.{le-refl, le-trans}
-use native.Mathlib.Decide.{ℕ-discrete}
+use Prim.Native.Nat.{ℕ, zero, suc, _-_, _*_, _≤_, _<_}
 use native.Mathlib.Omega.{arith}
-use lib.ListN.{length, replicate, length-replicate}
-use lib.Dec.{T, eqb, ltb, leb, eqb→eq, ltb→lt, lit<}
-use borrow.Author.Tests.{eq-eqb, ne-eqb, eqb-true, eqb-false}
-use Rattle.lists.specs.Lists.{all, below, ascending, above}
+use lib.ListN.{replicate, length-replicate}
+use lib.Dec.{T, eqb, ltb, eqb→eq, ltb→lt, lit<}
+use borrow.Author.Tests.{eq-eqb}
+use Rattle.lists.specs.Lists.{all, below, ascending}
 use Rattle.lists.proofs.Bools.{false-of, T-true, T-of, or-l, or-r}
 use Rattle.words.specs.Literal.{atom, isPresent, opposite}
 use Rattle.words.specs.Region.{atomsOk, has, Region, holds, contradicts, markLiteral, wordsFor, isRegion}
@@ -20,7 +18,7 @@ use Rattle.words.proofs.Deciding.{sound-mark, holds-mark as holds-marked}
 use Rattle.model.specs.Records.{Row, isRowOver}
 use Rattle.model.specs.Priority.{In, Forces, ForceAlike, Gives, Covers}
 use Rattle.model.proofs.Cover.{and-left, and-right, or-split, covers-forces}
-use Rattle.model.proofs.Packing.{Asc, asc-less}
+use Rattle.model.proofs.Packing.{Asc}
 use Rattle.model.proofs.Slots.{ascending-asc}
 use Rattle.model.proofs.Priority.Retaining.{Alike}
 use Rattle.model.proofs.Priority.Steps.{Over}

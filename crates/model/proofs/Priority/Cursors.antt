@@ -1,15 +1,14 @@
 -- The outputs that a cursor gives are outputs of its row. Assumes nothing.
-use mathlib.Core.Path.{_≡_, refl, sym, ap, ap₂, _∙_, subst}
-use mathlib.Core.Logic.{_⊎_, inl, inr}
-use mathlib.Core.Bool.{Bool, true, false, not, _&&_, _||_}
-use mathlib.Core.List.{List, [], _∷_, map}
-use Prim.Native.Nat.{ℕ, zero, suc, _≤_, _<_, zero-le, suc-le-suc}
-use native.Mathlib.Nat.{le-refl, le-trans, not-suc-le-zero, le-of-suc-le-suc}
+use mathlib.Core.Path.{_≡_, refl, sym, ap, _∙_, subst}
+use mathlib.Core.Logic.{inl, inr}
+use mathlib.Core.Bool.{Bool, true, false, not}
+use mathlib.Core.List.{List, [], _∷_}
+use Prim.Native.Nat.{ℕ, zero, suc, _<_, zero-le}
+use native.Mathlib.Nat.{not-suc-le-zero, le-of-suc-le-suc}
 use native.Mathlib.Omega.{arith}
 use lib.ListN.{length, getD, drop}
 use lib.Dec.{T, leb, nleb→lt, not-T}
 use Rattle.lists.specs.Lists.{select, concat}
-use Rattle.words.specs.Literal.{atom, wordOf}
 use Rattle.words.specs.Region.{Region, holds}
 use Rattle.meter.specs.declared.Meter.{Meter}
 use Rattle.meter.specs.declared.Tick.{Tick}
@@ -18,13 +17,13 @@ use Rattle.meter.specs.Meter.{tickOf}
 use Rattle.model.specs.declared.OutputCursor.{OutputCursor}
 use Rattle.model.specs.Records.{Row}
 use Rattle.model.specs.Rows.{groups, packed}
-use Rattle.model.specs.Slots.{indexOf, bitsOf, codesOf}
+use Rattle.model.specs.Slots.{indexOf, bitsOf}
 use Rattle.model.specs.Deduction.{Next, stopped, end, output, Published, published, startCursor, scalarNext, failing, pending, loaded}
 use Rattle.model.specs.Deduction.{givenOut, give, packedNext, nextOutput}
 use Rattle.model.specs.Priority.{In}
 use Rattle.model.proofs.Packing.{Asc, asc-less, OneWord, Fits, codes-group, groups-fit, concat-groups}
 use Rattle.model.proofs.Priority.Closed.{failing-in}
-use Rattle.model.proofs.Priority.Steps.{in-split, in-left, in-right}
+use Rattle.model.proofs.Priority.Steps.{in-left, in-right}
 
 -- ---- choosing keeps the order and the word
 select-asc : (f : ℕ → Bool) (k : ℕ) (xs : List ℕ) → Asc k xs → Asc k (select f xs)

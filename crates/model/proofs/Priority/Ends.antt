@@ -1,7 +1,7 @@
 -- Of a closing that was not refused: Conflict means that no closed region contains the given one; else the region left is a
 -- region, contains the given one, and is contained in every closed region that does. Assumes nothing.
-use mathlib.Core.Path.{_≡_, refl, sym, _∙_, ap, subst}
-use mathlib.Core.Bool.{Bool, true, false, _&&_}
+use mathlib.Core.Path.{_≡_, refl, sym, _∙_, subst}
+use mathlib.Core.Bool.{Bool, _&&_}
 use mathlib.Core.List.{List, [], _∷_}
 use mathlib.Core.Option.{Option, none, some}
 use Prim.Native.Nat.{ℕ, zero, suc}
@@ -15,13 +15,13 @@ use Rattle.model.specs.Records.{Row, rowsOf, limitsOk}
 use Rattle.model.specs.Refusals.{Lent, ledgerIn, refusal, accepts}
 use Rattle.model.specs.Answers.{Reply, refused, answered, closeReply}
 use Rattle.model.specs.Operations.{CloseEnd, closeEnd, close, regionOk}
-use Rattle.model.specs.Closing.{State, Turn, going, conflict, halted, closing}
-use Rattle.model.specs.Priority.{In, Contains, ClosedFor, NoneClosed}
+use Rattle.model.specs.Closing.{Turn, going, conflict, halted, closing}
+use Rattle.model.specs.Priority.{Contains, ClosedFor, NoneClosed}
 use Rattle.model.proofs.Cover.{and-left}
 use Rattle.model.proofs.Priority.Covering.{rowsE}
 use Rattle.model.proofs.Priority.Fine.{Fine}
 use Rattle.model.proofs.Priority.Steps.{Over, Accepted, accepted, refusal-cons, rows-ok, row-over, fine-in}
-use Rattle.model.proofs.Priority.Inside.{Above, Inside, TurnIn, closing-in}
+use Rattle.model.proofs.Priority.Inside.{TurnIn, closing-in}
 
 pub record Left (n : ℕ) (rows : List Row) (r : Region) (e : CloseEnd) : Type 0 where
   pub isA : T (isRegion n (e .region))

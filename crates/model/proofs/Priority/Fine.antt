@@ -1,12 +1,12 @@
 -- Retentions of valid rows leave valid rows, and the limits. Assumes nothing.
 use mathlib.Core.Path.{_≡_, refl, sym, _∙_, subst}
-use mathlib.Core.Logic.{_⊎_, inl, inr}
-use mathlib.Core.Bool.{Bool, true, false, _&&_, _||_, not, false≢true, true≢false}
-use mathlib.Core.List.{List, [], _∷_, _++_, map}
-use Prim.Native.Nat.{ℕ, zero, suc, _+_, min, _≤_, _<_}
-use native.Mathlib.Nat.{le-refl, le-trans}
+use mathlib.Core.Logic.{inl, inr}
+use mathlib.Core.Bool.{Bool, true, false, _||_, false≢true, true≢false}
+use mathlib.Core.List.{List, [], _∷_, _++_}
+use Prim.Native.Nat.{ℕ, zero, suc, _+_, _≤_, _<_}
+use native.Mathlib.Nat.{le-trans}
 use native.Mathlib.Omega.{arith}
-use lib.Dec.{T, eqb, leb, ltb, eqb→eq, leb→le}
+use lib.Dec.{T, leb, ltb, leb→le}
 use lib.ListN.{length, set}
 use Rattle.lists.specs.Lists.{same}
 use Rattle.meter.specs.declared.Meter.{Meter}
@@ -16,19 +16,18 @@ use Rattle.meter.specs.declared.Read.the-variants.{Paid, Declined, Stopped}
 use Rattle.meter.specs.Meter.{andThen, pay}
 use Rattle.model.specs.declared.LearningLimits.{LearningLimits}
 use Rattle.model.specs.declared.Header.{Header}
-use Rattle.model.specs.Records.{Row, Entry, Ledger, saturatingAdd, withAdded, withHits, maxOutputs}
+use Rattle.model.specs.Records.{Row, Entry, Ledger, saturatingAdd, withAdded, maxOutputs}
 use Rattle.model.specs.Union.{union, mayJoin, joins, grown}
 use Rattle.model.specs.Rows.{subsumes}
-use Rattle.model.specs.Retention.{Examined, Pass, found, passed, noted, firstPass, secondPass, anyReplaced, kept, place, placementBy}
+use Rattle.model.specs.Retention.{Examined, Pass, found, passed, noted, firstPass, secondPass, anyReplaced, placementBy}
 use Rattle.model.specs.Retention.{placementAfter, placement, Placement, subsumed, protected, placing, evicting, victim, halved}
 use Rattle.model.specs.Retention.{settle, newborn, Retention, untaken, carryOut, retained, retainReads, retain}
 use Rattle.model.specs.Priority.{In, Covers}
-use Rattle.model.proofs.Cover.{and-left, and-right}
-use Rattle.model.proofs.Packing.{asc-less}
+use Rattle.model.proofs.Cover.{and-right}
 use Rattle.model.proofs.Slots.{Valid}
-use Rattle.model.proofs.Priority.Covering.{rowsE, rowsM, Grown, PassOk, pass-ok, Cov, covers-refl, covers-trans, covers-cons}
+use Rattle.model.proofs.Priority.Covering.{rowsE, rowsM, covers-refl, covers-trans, covers-cons}
 use Rattle.model.proofs.Priority.Covering.{covers-sub}
-use Rattle.model.proofs.Priority.Retaining.{PlacementOk, placement-ok, place-in, placed, halve-rows, settle-rows}
+use Rattle.model.proofs.Priority.Retaining.{PlacementOk, placement-ok, place-in, placed, settle-rows}
 use Rattle.model.proofs.Union.{union-asc}
 
 -- ---- a grown proposal is valid

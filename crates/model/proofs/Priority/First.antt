@@ -1,28 +1,25 @@
 -- The first half of demand 3, and that no rule is invented, with evictions or without. Assumes nothing.
-use mathlib.Core.Path.{_≡_, refl, sym, _∙_, ap, subst}
-use mathlib.Core.Logic.{_↔_}
+use mathlib.Core.Path.{_≡_, refl, sym, subst}
 use mathlib.Core.Bool.{Bool, true, false, _&&_}
 use mathlib.Core.List.{List, [], _∷_}
 use mathlib.Core.Option.{Option, none, some}
 use Prim.Native.Nat.{ℕ, _*_, _<_}
 use native.Mathlib.Omega.{arith}
-use lib.Dec.{T, eqb, leb}
+use lib.Dec.{T, eqb}
 use lib.ListN.{length}
 use Rattle.lists.proofs.Bools.{not-of}
-use Rattle.words.specs.Region.{Region, atomsOk}
+use Rattle.words.specs.Region.{atomsOk}
 use Rattle.model.specs.declared.LearningLimits.{LearningLimits}
 use Rattle.model.specs.declared.Header.{Header}
-use Rattle.model.specs.Records.{Row, rowsOf, limitsOk, fresh, slotWords, postingWords}
-use Rattle.model.specs.Refusals.{Lent, ledgerIn, refusal}
+use Rattle.model.specs.Records.{rowsOf, limitsOk, fresh, slotWords, postingWords}
+use Rattle.model.specs.Refusals.{refusal}
 use Rattle.model.specs.Answers.{refused, answered}
 use Rattle.model.specs.Operations.{MakeEnd, make}
-use Rattle.model.specs.Calls.{Call, Followed, run}
-use Rattle.model.specs.Priority.{In, Forces, ForceAlike, Covers, FirstHalf, NothingInvented, EvictionsCounted}
+use Rattle.model.specs.Calls.{run}
+use Rattle.model.specs.Priority.{FirstHalf, NothingInvented, EvictionsCounted}
 use Rattle.model.proofs.Cover.{and-left, covers-forces}
-use Rattle.model.proofs.Priority.Covering.{rowsE}
-use Rattle.model.proofs.Priority.Retaining.{Alike}
 use Rattle.model.proofs.Priority.Steps.{Over, refusal-cons}
-use Rattle.model.proofs.Priority.Following.{RunOk, run-ok, IsMade}
+use Rattle.model.proofs.Priority.Following.{run-ok, IsMade}
 use Rattle.model.proofs.Priority.Conditions.{force-iff}
 
 -- Make accepted the limits

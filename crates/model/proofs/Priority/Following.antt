@@ -1,24 +1,23 @@
 -- Lists of calls from Make on: what is held and what was taken cover each other. Assumes nothing.
 use mathlib.Core.Path.{_≡_, refl, sym, _∙_, ap, subst}
-use mathlib.Core.Bool.{Bool, true, false, _||_, not}
-use mathlib.Core.List.{List, [], _∷_, _++_}
+use mathlib.Core.Bool.{Bool, false, not}
+use mathlib.Core.List.{List, [], _∷_}
 use mathlib.Core.Option.{Option, none, some}
-use Prim.Native.Nat.{ℕ, zero, suc}
+use Prim.Native.Nat.{ℕ}
 use lib.Dec.{T}
-use Rattle.meter.specs.declared.Meter.{Meter}
 use Rattle.model.specs.declared.LearningLimits.{LearningLimits}
 use Rattle.model.specs.declared.Header.{Header}
-use Rattle.model.specs.Records.{Row, rowsOf, fresh}
+use Rattle.model.specs.Records.{Row, fresh}
 use Rattle.model.specs.Slots.{entriesIn}
 use Rattle.model.specs.Refusals.{Lent, ledgerIn, refusal}
 use Rattle.model.specs.Answers.{refused, answered}
-use Rattle.model.specs.Operations.{MakeEnd, make, offer, hit, begin, candidates, close, seed, deliver}
+use Rattle.model.specs.Operations.{MakeEnd, make}
 use Rattle.model.specs.Calls.{Call, Offer, Hit, Begin, Candidates, Close, SeedAsTier, SeedAsStore, DeliverAsTier, DeliverAsStore}
 use Rattle.model.specs.Calls.{Followed, followed, step, runFrom, run}
 use Rattle.model.specs.Priority.{Covers}
 use Rattle.model.proofs.Priority.Covering.{rowsE, covers-refl, covers-trans}
 use Rattle.model.proofs.Priority.Retaining.{Alike, alike-refl, alike-trans}
-use Rattle.model.proofs.Priority.Steps.{opt-elim, alike-app, covers-app, nor-left, nor-right, Over, over-app, StepOk, offer-ok}
+use Rattle.model.proofs.Priority.Steps.{alike-app, covers-app, nor-left, nor-right, Over, over-app, StepOk, offer-ok}
 use Rattle.model.proofs.Priority.Fine.{Counted, none-counted, both-counted}
 use Rattle.model.proofs.Priority.Quiet.{hit-ok, begin-ok, candidates-ok, close-ok}
 use Rattle.model.proofs.Priority.Moving.{seed-ok, deliver-ok}

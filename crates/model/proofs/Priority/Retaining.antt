@@ -1,9 +1,9 @@
 -- A retention without eviction: what is held afterwards gives what was held and the row taken. Assumes nothing.
 use mathlib.Core.Path.{_≡_, refl, sym, _∙_, ap, subst}
-use mathlib.Core.Logic.{_⊎_, inl, inr, _↔_}
-use mathlib.Core.Bool.{Bool, true, false, _&&_, _||_, not}
-use mathlib.Core.List.{List, [], _∷_, _++_, map}
-use Prim.Native.Nat.{ℕ, zero, suc}
+use mathlib.Core.Logic.{_⊎_, inl, inr}
+use mathlib.Core.Bool.{Bool, true, false, _||_, not}
+use mathlib.Core.List.{List, [], _∷_, _++_}
+use Prim.Native.Nat.{ℕ, suc}
 use lib.Dec.{T, leb, ltb}
 use lib.ListN.{length}
 use Rattle.meter.specs.declared.Meter.{Meter}
@@ -18,9 +18,9 @@ use Rattle.model.specs.Rows.{subsumes}
 use Rattle.model.specs.Retention.{Examined, Pass, found, passed, firstPass, secondPass, anyReplaced, kept, place, placementBy}
 use Rattle.model.specs.Retention.{placementAfter, placement, Placement, subsumed, protected, placing, evicting, victim, halved}
 use Rattle.model.specs.Retention.{settle, newborn, Retention, untaken, carryOut, retained, retainReads, retain}
-use Rattle.model.specs.Priority.{In, Gives, Covers}
-use Rattle.model.proofs.Priority.Covering.{rowsE, Sub, Dom, Cov, covers-refl, covers-trans, covers-cons, covers-sub, widen, dom-cov}
-use Rattle.model.proofs.Priority.Covering.{gives-more, subs-sound, rowsM, GoneOk, Grown, PassOk, pass-ok}
+use Rattle.model.specs.Priority.{In, Covers}
+use Rattle.model.proofs.Priority.Covering.{rowsE, Dom, Cov, covers-refl, covers-trans, covers-cons, covers-sub, dom-cov}
+use Rattle.model.proofs.Priority.Covering.{subs-sound, rowsM, GoneOk, Grown, PassOk, pass-ok}
 
 or-case : (a b : Bool) {X : Type 0} → (T a → X) → (T b → X) → T (a || b) → X
 or-case true b f g t = f tt

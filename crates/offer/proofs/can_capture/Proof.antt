@@ -1,6 +1,5 @@
 -- `offer::can_capture`. Assumes nothing.
 use Rattle.offer.proofs.Offering.{capture-tried, capture-spent, capture-room, capture-floor}
-use borrow.Author.Needs.{needs}
 use Rattle.offer.proofs.can_capture.Statement.{statement}
 use Rattle.offer.proofs.can_capture.Tie as tie
 use Rattle.offer.proofs.can_capture.Reads as reads

@@ -1,5 +1,4 @@
 use borrow.Author.Needs.{needs}
-use mathlib.Core.Path.{refl}
 use Rattle.tier.specs.Tier.{hitsAdded}
 use Rattle.tier.proofs.add_hits.Statement.{statement}
 use Rattle.tier.proofs.add_hits.Tie as tie

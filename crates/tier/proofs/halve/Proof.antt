@@ -1,12 +1,12 @@
 use borrow.Author.Needs.{needs}
 use native.Mathlib.Omega.{arith}
-use mathlib.Core.Path.{_≡_, refl, sym, _∙_, ap}
-use Prim.Native.Nat.{ℕ, _*_, _-_, _≤_, _<_}
+use mathlib.Core.Path.{_≡_, refl, _∙_}
+use Prim.Native.Nat.{_*_, _-_, _≤_}
 use lib.ListN.{length, length-set}
 use Rattle.model.specs.Records.{slotWords}
 use Rattle.model.specs.Slots.{slotsOf, entriesIn}
 use Rattle.slots.specs.Layout.{tierOf}
-use Rattle.tier.proofs.Halving.{halvedTo, halve-start, halve-step, halve-length, halve-end}
+use Rattle.tier.proofs.Halving.{halvedTo, halve-start, halve-step, halve-end}
 use Rattle.tier.proofs.halve.Statement.{statement}
 use Rattle.tier.proofs.halve.Tie as tie
 use Rattle.tier.proofs.halve.Reads as reads

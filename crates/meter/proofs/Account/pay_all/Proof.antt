@@ -1,7 +1,7 @@
 -- `Account::pay_all`: what is left to be paid, from the account and the meter as they stand, is what was to be paid. Assumes nothing.
 use borrow.Author.Needs.{needs}
 use native.Mathlib.Omega.{arith}
-use mathlib.Core.Path.{_≡_, refl, sym, _∙_, ap}
+use mathlib.Core.Path.{_≡_, refl, sym, _∙_}
 use Rattle.meter.specs.Meter.{pay, pay-left, pay-none}
 use Rattle.meter.proofs.Account.pay_all.Statement.{statement}
 use Rattle.meter.proofs.Account.pay_all.Tie as tie

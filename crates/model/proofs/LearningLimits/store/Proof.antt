@@ -1,5 +1,4 @@
 -- `LearningLimits::store`. Assumes nothing.
-use borrow.Author.Needs.{needs}
 use mathlib.Core.Path.{refl}
 use Rattle.model.specs.Records.{limitsOf, storeLimits}
 use Rattle.model.proofs.LearningLimits.store.Statement.{statement}

@@ -1,5 +1,4 @@
 -- `LearningLimits::tier`. Assumes nothing.
-use borrow.Author.Needs.{needs}
 use mathlib.Core.Path.{refl}
 use Rattle.model.specs.Records.{limitsOf, tierLimits}
 use Rattle.model.proofs.LearningLimits.tier.Statement.{statement}

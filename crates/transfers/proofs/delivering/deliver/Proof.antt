@@ -9,7 +9,7 @@ use Prim.Native.Nat.{_≤_}
 use denote.Ref.{now}
 use Rattle.words.specs.Bit.{maxWord}
 use Rattle.model.specs.Refusals.{Lent, ledgerIn}
-use Rattle.model.specs.Operations.{transferRefusal, deliver}
+use Rattle.model.specs.Operations.{transferRefusal}
 use Rattle.contents.specs.Lent.{lent, refusedBy}
 use Rattle.contents.proofs.Accepting.{refusedBy-some}
 use Rattle.retain_keep.specs.Stood.{Stood}

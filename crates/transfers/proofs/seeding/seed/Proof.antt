@@ -9,7 +9,7 @@ use Prim.Native.Nat.{_≤_}
 use denote.Ref.{now}
 use Rattle.words.specs.Bit.{maxWord}
 use Rattle.model.specs.Refusals.{Lent}
-use Rattle.model.specs.Operations.{transferRefusal, seed}
+use Rattle.model.specs.Operations.{transferRefusal}
 use Rattle.contents.specs.Lent.{lent, refusedBy}
 use Rattle.contents.specs.Accepted.{Accepted}
 use Rattle.contents.proofs.Accepting.{accepted, refusedBy-some}
