@@ -5,6 +5,8 @@ use oracle::{Header, Ledger, Limits, Row};
 
 /// The words of a header.
 pub const HEAD: usize = 25;
+/// The words of an answer: case, value, ticks, contradicted.
+pub const ANSWER: usize = 4;
 /// The words of a slot.
 pub const SLOT: usize = 168;
 /// The words of the postings for each row of the tier.

@@ -7,7 +7,7 @@ compile_error!("the static library of the ledger is made for x86-64");
 
 pub const LIMITS_WORDS: usize = 10;
 pub const HEADER_WORDS: usize = 25;
-pub const ANSWER_WORDS: usize = 3;
+pub const ANSWER_WORDS: usize = 4;
 pub const METER_WORDS: usize = 2;
 pub const CURSOR_WORDS: usize = 4;
 pub const SLOT_WORDS: usize = 168;
@@ -18,7 +18,7 @@ pub const POSTING_WORDS: usize = 80;
 pub type Header = [u64; HEADER_WORDS];
 /// The limits in the header's order.
 pub type Limits = [u64; LIMITS_WORDS];
-/// Case, value, ticks.
+/// Case, value, ticks, contradicted.
 pub type Answer = [u64; ANSWER_WORDS];
 /// Charged, limit.
 pub type MeterWords = [u64; METER_WORDS];

@@ -5,7 +5,7 @@ use Prim.Native.Nat.{ℕ}
 use Rattle.model.specs.Operations.{OfferEnd, CandidatesEnd, CloseEnd, offer, candidates, close}
 use Rattle.contents.specs.Lent.{lent}
 use Rattle.wire.specs.Words.{headerIn, headerWords, meterIn, meterWords}
-use Rattle.wire.specs.Replies.{Left, left, replyWords, answerWords}
+use Rattle.wire.specs.Replies.{Left, left, replyWords, closeWords, answerWords}
 use Rattle.boundary.specs.Calls.{leaves}
 
 -- ---- Offer
@@ -43,9 +43,9 @@ candidatesCall head answer meter slots postings atoms found =
 -- ---- Close
 abbrev pub closeLeft : CloseEnd → Left
 closeLeft e =
-    left (replyWords (e .answer) .refusal)
+    left (closeWords (e .answer) (e .contradicted) .refusal)
     (headerWords (e .ledger .header)
-    ∷ answerWords (replyWords (e .answer)) (e .ticks)
+    ∷ answerWords (closeWords (e .answer) (e .contradicted)) (e .ticks)
     ∷ meterWords (e .meter)
     ∷ e .ledger .slots
     ∷ e .ledger .postings

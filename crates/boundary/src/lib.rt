@@ -315,7 +315,8 @@ pub extern "C" fn ledger_close(
         meter_of(meter),
     );
     let a = closed.answer;
-    let reply = close_reply(a);
+    let output = closed.contradicted;
+    let reply = close_reply(a, output);
     if reply.refusal != 0 {
         return reply.refusal;
     }

@@ -16,12 +16,14 @@ use Rattle.meter.specs.declared.Meter.{Meter}
 use Rattle.meter.specs.Meter.{made}
 use Rattle.model.specs.declared.LearningLimits.{LearningLimits}
 use Rattle.model.specs.declared.Header.{Header}
+use Rattle.model.specs.declared.Contradicted.the-variants.{None}
+use Rattle.model.specs.declared.CloseResult.{CloseResult}
 use Rattle.model.specs.declared.CloseAnswer.{CloseAnswer}
 use Rattle.model.specs.declared.CloseAnswer.the-variants as answer
 use Rattle.model.specs.Records.{withFull}
 use Rattle.model.specs.Postings.{filed}
 use Rattle.model.specs.Refusals.{Lent, refusal, accepts, lengthsOk, ledgerIn}
-use Rattle.model.specs.Answers.{closeReply}
+use Rattle.model.specs.Answers.{closeReply, contradictedReply}
 use Rattle.model.specs.Operations.{CloseEnd, closeEnd, close, regionOk}
 use Rattle.model.specs.Closing.{State, Turn, going, conflict, halted, rounds, closing}
 use Rattle.model.proofs.Priority.Steps.{refusal-cons}
@@ -74,7 +76,7 @@ module _ (h : Header) (slots postings held₀ cut x y : List ℕ) (m : Meter) wh
         accept-passed s others ((regionOk s held₀ cut, 6) ∷ []) n number z ∙ region-yes h slots postings held₀ cut [] q ∙ all-passed
 
   pub close-refused : (n : ℕ) → refusal tests ≡ some n
-      → closedEnd (record { answer = answer.Refused n; header = h; meter = m; ticks = 0 }) slots postings held₀ cut x y
+      → closedEnd (record { answer = answer.Refused n; contradicted = None; header = h; meter = m; ticks = 0 }) slots postings held₀ cut x y
       ≡ close s held₀ cut x y m
   unfolding close
   close-refused n e = rw (e, close)
@@ -128,7 +130,7 @@ module _ (h : Header) (slots postings held₀ cut x y : List ℕ) (m : Meter) wh
     close-is = rw (e, close)
 
     closing-is : closing (ledgerIn s) (region held₀ cut) m
-        ≡ rounds (suc (withFull h true .limits .atoms)) (withFull h true .limits .atoms) [] (stateIn (withFull h true) slots held₀ cut m)
+        ≡ rounds (suc (withFull h true .limits .atoms)) (withFull h true .limits .atoms) [] (stateIn (withFull h true) slots held₀ cut m None)
     unfolding closing ledgerIn withFull
     closing-is = refl
 
@@ -138,26 +140,31 @@ module _ (h : Header) (slots postings held₀ cut x y : List ℕ) (m : Meter) wh
     ended-is Conflict u = refl
     ended-is Stopped u = refl
 
+    -- the result of rounds that ended so
+    abbrev ending : RoundEnd → CloseAnswer → ℕ → CloseResult
+    ending r z k = record { answer = z; contradicted = r .contradicted; header = r .header; meter = r .meter; ticks = k }
+
     pub close-done : (r : RoundEnd) (slots′ postings′ held′ cut′ x₁ y₁ x′ y′ : List ℕ)
         → roundTurn r slots′ held′ cut′
-        ≡ rounds (suc (withFull h true .limits .atoms)) (withFull h true .limits .atoms) [] (stateIn (withFull h true) slots held₀ cut m)
+        ≡ rounds (suc (withFull h true .limits .atoms)) (withFull h true .limits .atoms) [] (stateIn (withFull h true) slots held₀ cut m None)
         → Running (r .header) slots′ postings′ held′ cut′ → length x₁ ≡ length x → length y₁ ≡ length y → x′ ≡ zeroed x₁ → y′ ≡ zeroed y₁
         → (z : CloseAnswer) (k : ℕ) → z ≡ answerOf (r .flow) → k ≡ made m (r .meter)
-        → closedEnd (record { answer = z; header = r .header; meter = r .meter; ticks = k }) slots′ postings′ held′ cut′ x′ y′
+        → closedEnd (ending r z k) slots′ postings′ held′ cut′ x′ y′
         ≡ close s held₀ cut x y m
     unfolding closeEnd ledgerIn
     close-done r slots′ postings′ held′ cut′ x₁ y₁ x′ y′ t w a b c d z k f g =
-        ap₂ (λ (z : CloseAnswer) (k : ℕ). closedEnd (record { answer = z; header = r .header; meter = r .meter; ticks = k }) slots′
+        ap₂ (λ (z : CloseAnswer) (k : ℕ). closedEnd (ending r z k) slots′
         postings′ held′ cut′ x′ y′) f g
         ∙ ap₂ (λ (l : Lent) (z : List ℕ × List ℕ). ended l (z .0) (z .1)) (stands-lent (r .header) slots′ postings′ (w .stands))
         (ap₂ (λ (u v : List ℕ). (u, v)) (c ∙ zeroed-cong x₁ x a) (d ∙ zeroed-cong y₁ y b))
-        ∙ sym (ended-is (r .flow) (stateIn (r .header) slots′ held′ cut′ (r .meter)))
+        ∙ sym (ended-is (r .flow) (stateIn (r .header) slots′ held′ cut′ (r .meter) (r .contradicted)))
         ∙ ap finished (t ∙ sym closing-is) ∙ sym close-is
       where
         ended : Lent → List ℕ → List ℕ → CloseEnd
         ended l u v =
             record {
               answer = closeReply (answerOf (r .flow));
+              contradicted = contradictedReply (r .contradicted);
               ledger = l;
               region = region held′ cut′;
               rowScratch = u;

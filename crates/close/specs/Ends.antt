@@ -9,7 +9,7 @@ use Rattle.model.specs.declared.LearningLimits.{LearningLimits}
 use Rattle.model.specs.declared.CloseAnswer.{CloseAnswer}
 use Rattle.model.specs.declared.CloseAnswer.the-variants as answer
 use Rattle.model.specs.declared.CloseResult.{CloseResult}
-use Rattle.model.specs.Answers.{closeReply}
+use Rattle.model.specs.Answers.{closeReply, contradictedReply}
 use Rattle.model.specs.Operations.{CloseEnd}
 use Rattle.contents.specs.Lent.{lent}
 use Rattle.close_publish.specs.declared.Flow.{Flow}
@@ -28,6 +28,7 @@ answerOf Stopped = answer.Stopped
 abbrev pub closedEnd : CloseResult → List ℕ → List ℕ → List ℕ → List ℕ → List ℕ → List ℕ → CloseEnd
 closedEnd r slots postings held cut x y = record {
   answer = closeReply (r .answer);
+  contradicted = contradictedReply (r .contradicted);
   ledger = lent (r .header) slots postings;
   region = region held cut;
   rowScratch = x;

@@ -10,6 +10,7 @@ use lists::fill_zero;
 use meter::Meter;
 use model::CloseAnswer;
 use model::CloseResult;
+use model::Contradicted;
 use model::Header;
 use model::LearningLimits;
 use words::is_region;
@@ -37,7 +38,7 @@ fn answer_of(flow: Flow) -> CloseAnswer
 
 // Closes a region under the rows of a ledger: refused by 1, 2 or 3, or by 6 if there is no region over the ledger's atoms; Closed if no row
 // forces or requires a literal that the region lacks, Conflict if a row decides against it, Stopped if a tick was not made. Conflict and
-// Stopped keep what was decided. Both scratches end as zeros.
+// Stopped keep what was decided. Beside it the contradicted output of the last Require that was acted on. Both scratches end as zeros.
 pub fn close(
     header: Header,
     slots: &mut [u64],
@@ -59,6 +60,7 @@ pub fn close(
     if n != 0 {
         return CloseResult {
             answer: CloseAnswer::Refused(n),
+            contradicted: Contradicted::None,
             header,
             meter: work,
             ticks: 0,
@@ -67,6 +69,7 @@ pub fn close(
     if !is_region(limits.atoms, held, cut) {
         return CloseResult {
             answer: CloseAnswer::Refused(6),
+            contradicted: Contradicted::None,
             header,
             meter: work,
             ticks: 0,
@@ -91,8 +94,10 @@ pub fn close(
     let flow = end.flow;
     let after = end.header;
     let meter = end.meter;
+    let contradicted = end.contradicted;
     CloseResult {
         answer: answer_of(flow),
+        contradicted: contradicted,
         header: after,
         meter: meter,
         ticks: meter.made(work),

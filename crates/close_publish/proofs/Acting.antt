@@ -15,10 +15,11 @@ use Rattle.model.specs.declared.Header.{Header}
 use Rattle.model.specs.declared.Deduction.{Deduction}
 use Rattle.model.specs.declared.Deduction.the-variants.{Nothing, Force, Require}
 use Rattle.model.specs.declared.Literal.{Literal}
+use Rattle.model.specs.declared.Contradicted.{Contradicted}
 use Rattle.model.specs.Records.{Row, Entry, Ledger, rowAt, slotWords}
 use Rattle.model.specs.Slots.{entriesIn, rowIn}
 use Rattle.model.specs.Deduction.{deduction, deductionTicks, startCursor}
-use Rattle.model.specs.Closing.{State, Turn, going, conflict, halted, withMeter, withHit, hitAt, counted, decideOn, publish, follow}
+use Rattle.model.specs.Closing.{State, Turn, going, conflict, halted, withHit, hitAt, decideOn, publish, follow, naming}
 use Rattle.model.specs.Closing.{reading, earns, act}
 use Rattle.model.proofs.Priority.Earning.{decides-none}
 use Rattle.row_deduce.specs.declared.Deduced.{Deduced}
@@ -26,7 +27,7 @@ use Rattle.row_deduce.specs.Walks.{deduced}
 use Rattle.slots.specs.Layout.{Held}
 use Rattle.tier.specs.Tier.{hitWords}
 use Rattle.slots.proofs.Rows.{slot-code}
-use Rattle.close_publish.specs.Turns.{ledgerOf, state, endedAs, turned, Earned}
+use Rattle.close_publish.specs.Turns.{ledgerOf, Beside, beside, state, endedAs, turned, Earned}
 use Rattle.close_publish.specs.declared.Flow.{Flow}
 use Rattle.close_publish.specs.declared.Flow.the-variants.{Continues, Conflict, Stopped}
 use Rattle.close_publish.specs.declared.Reading.{Reading}
@@ -42,13 +43,13 @@ module _ (n : ℕ) (r : Row) (d : Deduction) (s : State) where
   unfolding follow
   follow-force e = sym (ap (λ (d : Deduction). follow n r d s) e)
 
-  pub follow-require : (c : Literal) → d ≡ Require c → decideOn n (c .0) s ≡ follow n r d s
+  pub follow-require : (c o : Literal) → d ≡ Require c o → decideOn n (c .0) s ≡ follow n r d s
   unfolding follow
-  follow-require c e = sym (ap (λ (d : Deduction). follow n r d s) e)
+  follow-require c o e = sym (ap (λ (d : Deduction). follow n r d s) e)
 
 -- ---- the reading, and whether it earns a hit
 -- none where the region is as it was, and there is no Conflict
-pub going-unearned : (n : ℕ) (l : Ledger) (held cut : List ℕ) (m : Meter) → false ≡ earns n (region held cut) (going (state l held cut m))
+pub going-unearned : (n : ℕ) (l : Beside) (held cut : List ℕ) (m : Meter) → false ≡ earns n (region held cut) (going (state l held cut m))
 unfolding earns
 going-unearned n l held cut m = sym (decides-none n (region held cut))
 
@@ -66,7 +67,11 @@ module _ (n p : ℕ) (s : State) (t : Turn) (e : reading n (rowAt p (s .ledger))
   pub act-unearned : earns n (s .region) t ≡ false → t ≡ act n p s
   act-unearned q = sym (act-is ∙ ap (λ (b : Bool). by b t) q)
 
-module _ (n p : ℕ) (l : Ledger) (held cut : List ℕ) (m : Meter) (r : Row) (e : rowAt p l ≡ r) (f : Deduced) where
+-- what stands beside a reading after a deduction: the output that it names
+abbrev pub saying : Deduction → Beside → Beside
+saying d l = beside (l .ledger) (naming d (l .contradicted))
+
+module _ (n p : ℕ) (l : Beside) (held cut : List ℕ) (m : Meter) (r : Row) (e : rowAt p (l .ledger) ≡ r) (f : Deduced) where
   abbrev told : Deduction
   told = deduction (region held cut) r
 
@@ -74,14 +79,14 @@ module _ (n p : ℕ) (l : Ledger) (held cut : List ℕ) (m : Meter) (r : Row) (e
   ticked = ticks (deductionTicks (region held cut) r) m
 
   by-tick : Tick → Turn
-  by-tick t = elim t [ tick.Stopped k ↦ halted (state l held cut k) | tick.Ticked k ↦ follow n r told (state l held cut k) ]
+  by-tick t = elim t [ tick.Stopped k ↦ halted (state l held cut k) | tick.Ticked k ↦ follow n r told (state (saying told l) held cut k) ]
 
-  reading-is : reading n (rowAt p l) (state l held cut m) ≡ by-tick ticked
-  unfolding reading withMeter by-tick
+  reading-is : reading n (rowAt p (l .ledger)) (state l held cut m) ≡ by-tick ticked
+  unfolding reading by-tick
   reading-is =
       ap (λ (r : Row). elim (ticks (deductionTicks (region held cut) r) m) as (λ t. Turn) [
         | tick.Stopped k ↦ halted (state l held cut k)
-        | tick.Ticked k ↦ follow n r (deduction (region held cut) r) (state l held cut k)
+        | tick.Ticked k ↦ follow n r (deduction (region held cut) r) (state (saying (deduction (region held cut) r) l) held cut k)
       ]) e
 
   -- nothing is decided where the ticks were not all made
@@ -91,27 +96,28 @@ module _ (n p : ℕ) (l : Ledger) (held cut : List ℕ) (m : Meter) (r : Row) (e
       (decides-none n (region held cut))
     where
       go : (t : Tick) → ticked ≡ t → f ≡ deduced told m t
-          → reading n (rowAt p l) (state l held cut m) ≡ halted (state l held cut (f .meter))
+          → reading n (rowAt p (l .ledger)) (state l held cut m) ≡ halted (state l held cut (f .meter))
       go (tick.Stopped k) u v = reading-is ∙ ap by-tick u ∙ sym (ap (λ (x : Deduced). halted (state l held cut (x .meter))) v)
       go (tick.Ticked k) u v = let z : true ≡ false = sym o ∙ ap (λ (x : Deduced). x .stopped) v in absurd (subst T z tt)
 
   reading-said : f ≡ deduced told m ticked → f .stopped ≡ false
-      → reading n (rowAt p l) (state l held cut m) ≡ follow n r (f .deduction) (state l held cut (f .meter))
+      → reading n (rowAt p (l .ledger)) (state l held cut m) ≡ follow n r (f .deduction) (state (saying (f .deduction) l) held cut (f .meter))
   unfolding by-tick
   reading-said q o = go ticked refl q
     where
       go : (t : Tick) → ticked ≡ t → f ≡ deduced told m t
-          → reading n (rowAt p l) (state l held cut m) ≡ follow n r (f .deduction) (state l held cut (f .meter))
+          → reading n (rowAt p (l .ledger)) (state l held cut m) ≡ follow n r (f .deduction) (state (saying (f .deduction) l) held cut (f .meter))
       go (tick.Stopped k) u v = let z : true ≡ false = sym (ap (λ (x : Deduced). x .stopped) v) ∙ o in absurd (subst T z tt)
       go (tick.Ticked k) u v =
           reading-is ∙ ap by-tick u
-          ∙ sym (ap (λ (x : Deduced). follow n r (x .deduction) (state l held cut (x .meter))) v)
+          ∙ sym (ap (λ (x : Deduced). follow n r (x .deduction) (state (saying (x .deduction) l) held cut (x .meter))) v)
 
   pub act-nothing : f ≡ deduced told m ticked → f .stopped ≡ false → f .deduction ≡ Nothing
       → going (state l held cut (f .meter)) ≡ act n p (state l held cut m)
   act-nothing q o z =
       act-unearned n p (state l held cut m) (going (state l held cut (f .meter)))
-      (reading-said q o ∙ sym (follow-nothing n r (f .deduction) (state l held cut (f .meter)) z))
+      (reading-said q o ∙ sym (follow-nothing n r (f .deduction) (state (saying (f .deduction) l) held cut (f .meter)) z)
+      ∙ ap (λ (d : Deduction). going (state (saying d l) held cut (f .meter))) z)
       (sym (going-unearned n l held cut (f .meter)))
 
 -- ---- by the words
@@ -127,38 +133,45 @@ module _ (n rows p : ℕ) (slots held cut : List ℕ) (m : Meter) (k : Held n ro
 
   module _ (f : Deduced) (q : f ≡ deduced (deduction (region held cut) row) m (ticks (deductionTicks (region held cut) row) m))
       (a : f .stopped ≡ false) (g : Reading) (held′ cut′ : List ℕ)
-      (w : (l : Ledger) → turned (g .ended) l held′ cut′ ≡ follow n row (f .deduction) (state l held cut (f .meter)))
-      (o : Earned n g held cut held′ cut′) (h : Header) where
-    abbrev ledger : Ledger
-    ledger = ledgerOf h rows slots
+      (w : (l : Beside) → turned (g .ended) l held′ cut′ ≡ follow n row (f .deduction) (state l held cut (f .meter)))
+      (o : Earned n g held cut held′ cut′) (before : Contradicted) (h : Header) where
+    -- beside the reading, before it and after it
+    abbrev given : Beside
+    given = beside (ledgerOf h rows slots) before
 
-    was-read : reading n (rowAt p (ledgerOf h rows slots)) (state (ledgerOf h rows slots) held cut m)
-        ≡ turned (g .ended) (ledgerOf h rows slots) held′ cut′
-    was-read = reading-said n p ledger held cut m row (part-row h) f q a ∙ sym (w ledger)
+    abbrev left : List ℕ → Beside
+    left ws = beside (ledgerOf h rows ws) (naming (f .deduction) before)
+
+    was-read : reading n (rowAt p (ledgerOf h rows slots)) (state given held cut m) ≡ turned (g .ended) (left slots) held′ cut′
+    was-read = reading-said n p given held cut m row (part-row h) f q a ∙ sym (w (left slots))
 
     -- no hit
-    act-read : g .earned ≡ false → turned (g .ended) (ledgerOf h rows slots) held′ cut′ ≡ act n p (state (ledgerOf h rows slots) held cut m)
-    act-read e = act-unearned n p (state ledger held cut m) (turned (g .ended) ledger held′ cut′) was-read (sym (o ledger) ∙ e)
+    act-read : g .earned ≡ false → turned (g .ended) (left slots) held′ cut′ ≡ act n p (state given held cut m)
+    act-read e =
+        act-unearned n p (state given held cut m) (turned (g .ended) (left slots) held′ cut′) was-read (sym (o (left slots)) ∙ e)
 
     -- the hit after it
     act-hit : g .earned ≡ true → (slots′ : List ℕ) → slots′ ≡ hitWords p slots
-        → turned (g .ended) (ledgerOf h rows slots′) held′ cut′ ≡ act n p (state (ledgerOf h rows slots) held cut m)
-    unfolding withHit counted hitAt
+        → turned (g .ended) (left slots′) held′ cut′ ≡ act n p (state given held cut m)
+    unfolding withHit hitAt
     act-hit e slots′ i′ =
         go (g .ended .flow)
-        ∙ act-earned n p (state ledger held cut m) (turned (g .ended) ledger held′ cut′) was-read (sym (o ledger) ∙ e)
+        ∙ act-earned n p (state given held cut m) (turned (g .ended) (left slots) held′ cut′) was-read (sym (o (left slots)) ∙ e)
       where
-        hits : ledgerOf h rows slots′ ≡ hitAt p ledger
+        hits : ledgerOf h rows slots′ ≡ hitAt p (ledgerOf h rows slots)
         hits = ap (λ (es : List Entry). record { header = h; entries = es }) (ap (entriesIn rows) i′ ∙ hit-entries rows p slots k i)
 
-        go : (w : Flow) → endedAs w (state (ledgerOf h rows slots′) held′ cut′ (g .ended .meter))
-            ≡ withHit p (endedAs w (state ledger held′ cut′ (g .ended .meter)))
-        go Continues = ap (λ (l : Ledger). going (state l held′ cut′ (g .ended .meter))) hits
-        go Conflict = ap (λ (l : Ledger). conflict (state l held′ cut′ (g .ended .meter))) hits
-        go Stopped = ap (λ (l : Ledger). halted (state l held′ cut′ (g .ended .meter))) hits
+        at : Ledger → State
+        at l = state (beside l (naming (f .deduction) before)) held′ cut′ (g .ended .meter)
+
+        go : (w : Flow) → endedAs w (state (left slots′) held′ cut′ (g .ended .meter))
+            ≡ withHit p (endedAs w (state (left slots) held′ cut′ (g .ended .meter)))
+        go Continues = ap (λ (l : Ledger). going (at l)) hits
+        go Conflict = ap (λ (l : Ledger). conflict (at l)) hits
+        go Stopped = ap (λ (l : Ledger). halted (at l)) hits
 
     -- one of the two
     pub act-reads : (slots′ : List ℕ) → Hits (g .earned) p slots slots′
-        → turned (g .ended) (ledgerOf h rows slots′) held′ cut′ ≡ act n p (state (ledgerOf h rows slots) held cut m)
+        → turned (g .ended) (left slots′) held′ cut′ ≡ act n p (state given held cut m)
     act-reads slots′ (inl w) = act-hit (w .0) slots′ (w .1)
-    act-reads slots′ (inr w) = ap (λ (ws : List ℕ). turned (g .ended) (ledgerOf h rows ws) held′ cut′) (w .1) ∙ act-read (w .0)
+    act-reads slots′ (inr w) = ap (λ (ws : List ℕ). turned (g .ended) (left ws) held′ cut′) (w .1) ∙ act-read (w .0)

@@ -13,11 +13,10 @@ use Rattle.words.specs.declared.Marking.the-variants.{Anew, Already}
 use Rattle.words.proofs.Regions.{Sound, sound-of, region-test}
 use Rattle.words.proofs.Deciding.{sound-decide, answer-none, answer-some, decide-some, holds-mark, marked-anew, marked-already}
 use Rattle.meter.specs.declared.Meter.{Meter}
-use Rattle.model.specs.Records.{Ledger}
 use Rattle.model.specs.Closing.{State, going, conflict, decideOn, decides, earns}
 use Rattle.model.specs.Priority.{Contains}
 use Rattle.model.proofs.Priority.Earning.{decides-none, decides-anew}
-use Rattle.close_publish.specs.Turns.{state}
+use Rattle.close_publish.specs.Turns.{Beside, state}
 
 -- words that are sound where there was a region are one
 pub region-keeps : (n : ℕ) (r q : Region) → T (isRegion n r) → Sound n q → T (isRegion n q)
@@ -26,11 +25,11 @@ region-keeps n r q t s = region-test n q (T-of (and-both (atomsOk n) _ (T-true (
 
 module _ (n : ℕ) (held cut : List ℕ) (c : ℕ) (b : Bool) (held′ cut′ : List ℕ)
     (e : decisionWith b held′ cut′ ≡ decisionOn n held cut c) where
-  pub decided-going : b ≡ true → (m : Meter) (l : Ledger) → going (state l held′ cut′ m) ≡ decideOn n c (state l held cut m)
+  pub decided-going : b ≡ true → (m : Meter) (l : Beside) → going (state l held′ cut′ m) ≡ decideOn n c (state l held cut m)
   unfolding decideOn
   decided-going t m l = rw (answer-some n held cut c b held′ cut′ e t, decideOn)
 
-  pub decided-conflict : b ≡ false → (m : Meter) (l : Ledger) → conflict (state l held′ cut′ m) ≡ decideOn n c (state l held cut m)
+  pub decided-conflict : b ≡ false → (m : Meter) (l : Beside) → conflict (state l held′ cut′ m) ≡ decideOn n c (state l held cut m)
   unfolding decideOn
   decided-conflict f m l =
       let a = answer-none n held cut c b held′ cut′ e f in
@@ -73,11 +72,11 @@ module _ (n : ℕ) (held cut : List ℕ) (c : ℕ) (k : Marking) (held′ cut′
   made : answerIn k ≡ true → decide n (region held cut) c ≡ some (region held′ cut′)
   made a = answer-some n held cut c (answerIn k) held′ cut′ e a
 
-  pub anew-earns : k ≡ Anew → (m : Meter) (l : Ledger) → true ≡ earns n (region held cut) (going (state l held′ cut′ m))
+  pub anew-earns : k ≡ Anew → (m : Meter) (l : Beside) → true ≡ earns n (region held cut) (going (state l held′ cut′ m))
   unfolding earns
   anew-earns a m l = decided-anew n before (region held′ cut′) c (made (ap answerIn a)) (sound-of n before t) (sym q ∙ a)
 
-  pub already-earns : k ≡ Already → (m : Meter) (l : Ledger) → false ≡ earns n (region held cut) (going (state l held′ cut′ m))
+  pub already-earns : k ≡ Already → (m : Meter) (l : Beside) → false ≡ earns n (region held cut) (going (state l held′ cut′ m))
   unfolding earns
   already-earns a m l = decided-already n before (region held′ cut′) c (made (ap answerIn a)) (sound-of n before t) (sym q ∙ a)
 

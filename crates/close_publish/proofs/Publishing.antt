@@ -20,11 +20,13 @@ use Rattle.model.specs.declared.OutputCursor.{OutputCursor}
 use Rattle.model.specs.declared.NextAnswer.{NextAnswer}
 use Rattle.model.specs.declared.NextAnswer.the-variants as next-answer
 use Rattle.model.specs.declared.NextResult.{NextResult}
-use Rattle.model.specs.Records.{Row, Ledger, isRow, fresh, limitsOf}
+use Rattle.model.specs.declared.Contradicted.the-variants.{None}
+use Rattle.model.specs.Records.{Row, isRow, fresh, limitsOf}
 use Rattle.model.specs.Slots.{rowIn}
 use Rattle.model.specs.Deduction.{Next, stopped, end, output, Published, nextOutput, startCursor}
 use Rattle.model.specs.Operations.{nextAnswer}
-use Rattle.model.specs.Closing.{State, Turn, going, conflict, halted, onGoing, withMeter, decideOn, publish, decides, earns}
+use Rattle.model.specs.Closing.{State, Turn, going, conflict, halted, onGoing, withMeter, withRegion, decideOn, publish}
+use Rattle.model.specs.Closing.{decides, earns}
 use Rattle.model.specs.Priority.{Contains}
 use Rattle.model.proofs.NextAnswer.{the-type}
 use Rattle.model.proofs.Slots.{ascending-asc}
@@ -36,7 +38,7 @@ use Rattle.model.proofs.Rows.{row-parts}
 use Rattle.slots.specs.Layout.{Stored}
 use Rattle.row_deduce.specs.Publication.{Pointed, nextEnd}
 use Rattle.row_deduce.proofs.Cursors.{pointed-start, pointed-next}
-use Rattle.close_publish.specs.Turns.{state, endedAs, turned, Earned}
+use Rattle.close_publish.specs.Turns.{Beside, beside, state, endedAs, turned, Earned}
 use Rattle.close_publish.specs.declared.Flow.{Flow}
 use Rattle.close_publish.specs.declared.Flow.the-variants.{Continues, Conflict, Stopped}
 use Rattle.close_publish.specs.declared.Reading.{Reading}
@@ -44,76 +46,76 @@ use Rattle.close_publish.proofs.Flow.{the-type as flow-type}
 use Rattle.close_publish.proofs.Ending.{ended-goes, ended-stays}
 use Rattle.close_publish.proofs.Deciding.{decided-grown}
 
--- ---- a publishing reads and writes nothing of the ledger
-abbrev withLedger : Ledger → State → State
-withLedger l s = record { ledger = l; region = s .region; meter = s .meter }
+-- ---- a publishing reads and writes nothing of the ledger, nor of the output that is named
+abbrev with : Beside → State → State
+with l s = record { ledger = l .ledger; region = s .region; meter = s .meter; contradicted = l .contradicted }
 
-abbrev onLedger : Ledger → Turn → Turn
-onLedger l (going s) = going (withLedger l s)
-onLedger l (conflict s) = conflict (withLedger l s)
-onLedger l (halted s) = halted (withLedger l s)
+abbrev onTurn : Beside → Turn → Turn
+onTurn l (going s) = going (with l s)
+onTurn l (conflict s) = conflict (with l s)
+onTurn l (halted s) = halted (with l s)
 
-decide-ledger : (n c : ℕ) (l : Ledger) (s : State) → onLedger l (decideOn n c s) ≡ decideOn n c (withLedger l s)
+decide-with : (n c : ℕ) (l : Beside) (s : State) → onTurn l (decideOn n c s) ≡ decideOn n c (with l s)
 unfolding decideOn
-decide-ledger n c l s = go (decide n (s .region) c)
+decide-with n c l s = go (decide n (s .region) c)
   where
     go : (o : Option Region)
-        → onLedger l (elim o as (λ k. Turn) [
+        → onTurn l (elim o as (λ k. Turn) [
           | none ↦ conflict s
-          | some r ↦ going (record { ledger = s .ledger; region = r; meter = s .meter })
+          | some r ↦ going (withRegion r s)
         ])
         ≡ (elim o as (λ k. Turn) [
-          | none ↦ conflict (withLedger l s)
-          | some r ↦ going (record { ledger = l; region = r; meter = s .meter })
+          | none ↦ conflict (with l s)
+          | some r ↦ going (with l (withRegion r s))
         ])
     go none = refl
     go (some r) = refl
 
-going-ledger : (l : Ledger) (t : Turn) (f : State → Turn) → ((s : State) → onLedger l (f s) ≡ f (withLedger l s))
-    → onLedger l (onGoing t f) ≡ onGoing (onLedger l t) f
+going-with : (l : Beside) (t : Turn) (f : State → Turn) → ((s : State) → onTurn l (f s) ≡ f (with l s))
+    → onTurn l (onGoing t f) ≡ onGoing (onTurn l t) f
 unfolding onGoing
-going-ledger l (going s) f h = h s
-going-ledger l (conflict s) f h = refl
-going-ledger l (halted s) f h = refl
+going-with l (going s) f h = h s
+going-with l (conflict s) f h = refl
+going-with l (halted s) f h = refl
 
-publish-ledger : (fuel n : ℕ) (r : Row) (k : OutputCursor) (l : Ledger) (s : State)
-    → onLedger l (publish fuel n r k s) ≡ publish fuel n r k (withLedger l s)
-unfolding publish withMeter
-publish-ledger zero n r k l s = refl
-publish-ledger (suc fuel) n r k l s = go (nextOutput (s .region) r k (s .meter)) (λ j t. publish-ledger fuel n r j l t)
+publish-with : (fuel n : ℕ) (r : Row) (k : OutputCursor) (l : Beside) (s : State)
+    → onTurn l (publish fuel n r k s) ≡ publish fuel n r k (with l s)
+unfolding publish
+publish-with zero n r k l s = refl
+publish-with (suc fuel) n r k l s = go (nextOutput (s .region) r k (s .meter)) (λ j t. publish-with fuel n r j l t)
   where
-    go : (x : Published) → ((j : OutputCursor) (t : State) → onLedger l (publish fuel n r j t) ≡ publish fuel n r j (withLedger l t))
-        → onLedger l (elim (x .next) as (λ z. Turn) [
-          | stopped ↦ halted (record { ledger = s .ledger; region = s .region; meter = x .meter })
-          | end ↦ going (record { ledger = s .ledger; region = s .region; meter = x .meter })
-          | output c ↦ onGoing (decideOn n c (record { ledger = s .ledger; region = s .region; meter = x .meter }))
+    go : (x : Published) → ((j : OutputCursor) (t : State) → onTurn l (publish fuel n r j t) ≡ publish fuel n r j (with l t))
+        → onTurn l (elim (x .next) as (λ z. Turn) [
+          | stopped ↦ halted (withMeter (x .meter) s)
+          | end ↦ going (withMeter (x .meter) s)
+          | output c ↦ onGoing (decideOn n c (withMeter (x .meter) s))
               (publish fuel n r (x .cursor))
         ]) ≡ (elim (x .next) as (λ z. Turn) [
-          | stopped ↦ halted (record { ledger = l; region = s .region; meter = x .meter })
-          | end ↦ going (record { ledger = l; region = s .region; meter = x .meter })
-          | output c ↦ onGoing (decideOn n c (record { ledger = l; region = s .region; meter = x .meter })) (publish fuel n r (x .cursor))
+          | stopped ↦ halted (with l (withMeter (x .meter) s))
+          | end ↦ going (with l (withMeter (x .meter) s))
+          | output c ↦ onGoing (decideOn n c (with l (withMeter (x .meter) s))) (publish fuel n r (x .cursor))
         ])
     go x ih = by (x .next)
       where
         t : State
-        t = record { ledger = s .ledger; region = s .region; meter = x .meter }
+        t = withMeter (x .meter) s
 
         by : (z : Next)
-            → onLedger l (elim z as (λ z. Turn) [
+            → onTurn l (elim z as (λ z. Turn) [
               | stopped ↦ halted t
               | end ↦ going t
               | output c ↦ onGoing (decideOn n c t) (publish fuel n r (x .cursor))
             ])
             ≡ (elim z as (λ z. Turn) [
-              | stopped ↦ halted (withLedger l t)
-              | end ↦ going (withLedger l t)
-              | output c ↦ onGoing (decideOn n c (withLedger l t)) (publish fuel n r (x .cursor))
+              | stopped ↦ halted (with l t)
+              | end ↦ going (with l t)
+              | output c ↦ onGoing (decideOn n c (with l t)) (publish fuel n r (x .cursor))
             ])
         by stopped = refl
         by end = refl
         by (output c) =
-            going-ledger l (decideOn n c t) (publish fuel n r (x .cursor)) (ih (x .cursor))
-            ∙ ap (λ (u : Turn). onGoing u (publish fuel n r (x .cursor))) (decide-ledger n c l t)
+            going-with l (decideOn n c t) (publish fuel n r (x .cursor)) (ih (x .cursor))
+            ∙ ap (λ (u : Turn). onGoing u (publish fuel n r (x .cursor))) (decide-with n c l t)
 
 -- ---- the outputs that a cursor has before it
 restOf : (r : Row) (b : Bool) → (T b → Resting r) → OutputCursor → List ℕ
@@ -144,21 +146,21 @@ module _ (fuel n : ℕ) (r : Row) (k : OutputCursor) (s : State) where
   x = nextOutput (s .region) r k (s .meter)
 
   abbrev t : State
-  t = record { ledger = s .ledger; region = s .region; meter = x .meter }
+  t = withMeter (x .meter) s
 
   after : Next → Turn
   after z = elim z [ stopped ↦ halted t | end ↦ going t | output c ↦ onGoing (decideOn n c t) (publish fuel n r (x .cursor)) ]
 
   publish-stops : x .next ≡ stopped → publish (suc fuel) n r k s ≡ halted t
-  unfolding publish withMeter after
+  unfolding publish after
   publish-stops e = ap after e
 
   publish-ends : x .next ≡ end → publish (suc fuel) n r k s ≡ going t
-  unfolding publish withMeter after
+  unfolding publish after
   publish-ends e = ap after e
 
   publish-outputs : (c : ℕ) → x .next ≡ output c → publish (suc fuel) n r k s ≡ onGoing (decideOn n c t) (publish fuel n r (x .cursor))
-  unfolding publish withMeter after
+  unfolding publish after
   publish-outputs c e = ap after e
 
 -- the code's answer
@@ -200,7 +202,7 @@ clashes Stopped n old older s c t o e = go (decide n (t .region) c) e
   where
     go : (d : Option Region) → halted s ≡ (elim d as (λ k. Turn) [
       | none ↦ conflict t
-      | some r ↦ going (record { ledger = t .ledger; region = r; meter = t .meter })
+      | some r ↦ going (withRegion r t)
     ]) → decides n old (s .region) ≡ decides n older (s .region)
     go none e = absurd (let q : _≡_ {A = ℕ} 0 1 = cc in omega arith)
     go (some r) e = absurd (let q : _≡_ {A = ℕ} 0 1 = cc in omega arith)
@@ -212,14 +214,14 @@ decide-gives n c t s e = go (decide n (t .region) c) e
   where
     go : (d : Option Region) → going s ≡ (elim d as (λ k. Turn) [
       | none ↦ conflict t
-      | some r ↦ going (record { ledger = t .ledger; region = r; meter = t .meter })
+      | some r ↦ going (withRegion r t)
     ]) → (d ≡ some (s .region)) × (s .meter ≡ t .meter)
     go none e = absurd (let q : _≡_ {A = ℕ} 0 1 = cc in omega arith)
     go (some r) e = (cc, cc)
 
 -- ---- the walk
-bare : Ledger
-bare = record { header = fresh (limitsOf 0 0 0) 0; entries = [] }
+bare : Beside
+bare = beside (record { header = fresh (limitsOf 0 0 0) 0; entries = [] }) None
 
 pub record Publishes (n : ℕ) (slot held₀ cut₀ : List ℕ) (m₀ : Meter) (held cut : List ℕ) (m : Meter) (earned : Bool) (k : OutputCursor)
     : Type 0 where
@@ -230,7 +232,7 @@ pub record Publishes (n : ℕ) (slot held₀ cut₀ : List ℕ) (m₀ : Meter) (
   pub cutLong : length cut ≡ length cut₀
   pub grown : Contains (region held cut) (region held₀ cut₀)
   pub earns : earned ≡ decides n (region held₀ cut₀) (region held cut)
-  pub rest : (l : Ledger) → publish (suc (left (rowIn slot) k)) n (rowIn slot) k (state l held cut m)
+  pub rest : (l : Beside) → publish (suc (left (rowIn slot) k)) n (rowIn slot) k (state l held cut m)
       ≡ publish (suc (length (rowIn slot .outputs))) n (rowIn slot) startCursor (state l held₀ cut₀ m₀)
 
 module _ (n : ℕ) (slot : List ℕ) (st : Stored n slot) where
@@ -241,19 +243,19 @@ module _ (n : ℕ) (slot : List ℕ) (st : Stored n slot) where
   rising = T-of (row-parts n (rowIn slot) (T-true (isRow n (rowIn slot)) (st .row)) .outputsRise)
 
   -- fuel is never used up, whatever the ledger
-  fuel-any : (f g : ℕ) (k : OutputCursor) (held cut : List ℕ) (m : Meter) (l : Ledger) → Good row k → T (isRegion n (region held cut))
+  fuel-any : (f g : ℕ) (k : OutputCursor) (held cut : List ℕ) (m : Meter) (l : Beside) → Good row k → T (isRegion n (region held cut))
       → left row k < f → left row k < g
       → publish f n row k (state l held cut m) ≡ publish g n row k (state l held cut m)
   unfolding bare
   fuel-any f g k held cut m l o t h j =
       let w = rests row rising in
       let s : State = state bare held cut m in
-      sym (publish-ledger f n row k l s)
-      ∙ ap (onLedger l)
+      sym (publish-with f n row k l s)
+      ∙ ap (onTurn l)
       (publish-fuel n [] (λ r i. absurd i) f g row (w .by) k s (ascending-asc (row .outputs) rising) o
       (record { sound = sound-of n (region held cut) t; grown = λ x i. i; same = refl })
       (subst (λ (a : ℕ). a < f) (w .is k) h) (subst (λ (a : ℕ). a < g) (w .is k) j))
-      ∙ publish-ledger g n row k l s
+      ∙ publish-with g n row k l s
 
   start-short : left row startCursor ≤ length (row .outputs)
   start-short = let w = rests row rising in subst (λ (a : ℕ). a ≤ length (row .outputs)) (sym (w .is startCursor)) (w .by .short)
@@ -276,7 +278,7 @@ module _ (n : ℕ) (slot : List ℕ) (st : Stored n slot) where
 
   module _ (held₀ cut₀ : List ℕ) (m₀ : Meter) (held cut : List ℕ) (m : Meter) (b : Bool) (k : OutputCursor)
       (w : Publishes n slot held₀ cut₀ m₀ held cut m b k) (f : NextResult) (q : f ≡ nextEnd m (nextOutput (region held cut) row k m)) where
-    abbrev wholly : Ledger → Turn
+    abbrev wholly : Beside → Turn
     wholly l = publish (suc (length (row .outputs))) n row startCursor (state l held₀ cut₀ m₀)
 
     abbrev next : Next
@@ -291,26 +293,26 @@ module _ (n : ℕ) (slot : List ℕ) (st : Stored n slot) where
     answer-is : nextAnswer next ≡ f .answer
     answer-is = sym (ap (λ (y : NextResult). y .answer) q)
 
-    pub publish-stopped : OneOf (0 ∷ 1 ∷ []) (tagOf the-type (f .answer)) → (l : Ledger) → halted (state l held cut (f .meter)) ≡ wholly l
+    pub publish-stopped : OneOf (0 ∷ 1 ∷ []) (tagOf the-type (f .answer)) → (l : Beside) → halted (state l held cut (f .meter)) ≡ wholly l
     publish-stopped o l =
         ap (λ (y : Meter). halted (state l held cut y)) meter-is
         ∙ sym (publish-stops (left row k) n row k (state l held cut m)
         (stopped-next next (subst (λ (y : NextAnswer). OneOf (0 ∷ 1 ∷ []) (tagOf the-type y)) (sym answer-is) o)))
         ∙ w .rest l
 
-    pub publish-end : f .answer ≡ next-answer.End → (l : Ledger) → going (state l held cut (f .meter)) ≡ wholly l
+    pub publish-end : f .answer ≡ next-answer.End → (l : Beside) → going (state l held cut (f .meter)) ≡ wholly l
     publish-end e l =
         ap (λ (y : Meter). going (state l held cut y)) meter-is
         ∙ sym (publish-ends (left row k) n row k (state l held cut m) (end-next next (answer-is ∙ e)))
         ∙ w .rest l
 
     module _ (c : Literal) (e : f .answer ≡ next-answer.Output c) (one : Reading) (held′ cut′ : List ℕ)
-        (d : (l : Ledger) → turned (one .ended) l held′ cut′ ≡ decideOn n (c .0) (state l held cut (f .meter))) where
+        (d : (l : Beside) → turned (one .ended) l held′ cut′ ≡ decideOn n (c .0) (state l held cut (f .meter))) where
       is-output : next ≡ output (c .0)
       is-output = output-next next c (answer-is ∙ e)
 
       -- the walk with the output at hand
-      here : (l : Ledger) → onGoing (decideOn n (c .0) (state l held cut (f .meter))) (publish (left row k) n row (f .cursor)) ≡ wholly l
+      here : (l : Beside) → onGoing (decideOn n (c .0) (state l held cut (f .meter))) (publish (left row k) n row (f .cursor)) ≡ wholly l
       here l =
           ap₂ (λ (y : Meter) (z : OutputCursor). onGoing (decideOn n (c .0) (state l held cut y)) (publish (left row k) n row z)) meter-is
           cursor-is
@@ -318,7 +320,7 @@ module _ (n : ℕ) (slot : List ℕ) (st : Stored n slot) where
           ∙ w .rest l
 
       -- a decision that does not go on is a Conflict, and ends the walk
-      pub publish-conflict : OneOf (1 ∷ 2 ∷ []) (tagOf flow-type (one .ended .flow)) → (l : Ledger)
+      pub publish-conflict : OneOf (1 ∷ 2 ∷ []) (tagOf flow-type (one .ended .flow)) → (l : Beside)
           → turned (one .ended) l held′ cut′ ≡ wholly l
       publish-conflict o l =
           ended-stays (one .ended .flow) (state l held′ cut′ (one .ended .meter)) (publish (left row k) n row (f .cursor)) o
@@ -343,7 +345,7 @@ module _ (n : ℕ) (slot : List ℕ) (st : Stored n slot) where
           (subst (λ (y : ℕ). length (v .by .rest (nextOutput (region held cut) row k m .cursor)) < y) (sym (v .is k)) z)
 
       module _ (t : one .ended .flow ≡ Continues) where
-        on : (l : Ledger) → going (state l held′ cut′ (one .ended .meter)) ≡ decideOn n (c .0) (state l held cut (f .meter))
+        on : (l : Beside) → going (state l held′ cut′ (one .ended .meter)) ≡ decideOn n (c .0) (state l held cut (f .meter))
         on l = sym (ended-goes (one .ended .flow) (state l held′ cut′ (one .ended .meter)) t) ∙ d l
 
         pub publish-on : Earned n one held cut held′ cut′ → T (isRegion n (region held′ cut′))

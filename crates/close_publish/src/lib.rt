@@ -1,18 +1,18 @@
-// One row read in a closing: its deduction, what is decided by it, and its hit.
+// One row read in a closing: its deduction, what is decided by it, its hit, and the output that it names.
 ghost use mathlib.Core.Path.{_≡_};
 ghost use Prim.Native.Nat.{suc, _<_};
 ghost use lib.Dec.{T};
 ghost use lib.ListN.{length};
 ghost use Rattle.words.specs.Region.{region, isRegion};
 ghost use Rattle.model.specs.declared.Header.{Header};
-ghost use Rattle.model.specs.Records.{Ledger};
 ghost use Rattle.model.specs.Slots.{rowIn};
 ghost use Rattle.model.specs.Deduction.{startCursor};
-ghost use Rattle.model.specs.Closing.{decideOn, publish, follow, act};
+ghost use Rattle.model.specs.Closing.{decideOn, publish, follow, naming, act};
 ghost use Rattle.slots.specs.Layout.{Stored, rowsIn};
-ghost use Rattle.close_publish.specs.Turns.{state, turned, Earned, ledgerOf};
+ghost use Rattle.close_publish.specs.Turns.{Beside, beside, state, turned, acted, Earned, ledgerOf};
 ghost use Rattle.close_publish.specs.Standing.{Standing};
 use meter::Meter;
+use model::Contradicted;
 use model::Deduction;
 use model::NextAnswer;
 use model::OutputCursor;
@@ -44,6 +44,12 @@ pub struct Ended {
     pub meter: Meter,
 }
 
+// The same after a row or a round, and the contradicted output of the last Require that the closing acted on.
+pub struct Acted {
+    pub ended: Ended,
+    pub contradicted: Contradicted,
+}
+
 // How the reading of a row ended, and whether it earned a hit: it decided an atom, or ended in Conflict.
 struct Reading {
     ended: Ended,
@@ -53,7 +59,7 @@ struct Reading {
 // Decides a literal. Conflict, and nothing changed, if it is out of range or its opposite is marked.
 fn decide_on(atoms: u64, held: &mut [u64], cut: &mut [u64], literal: u64, work: Meter) -> Reading
     requires { ⌜ T (isRegion atoms (region (now held) (now cut))) ⌝ }
-    ensures turn { λ r. ⌜ ((l : Ledger) → turned (r .ended) l (now (held .exit)) (now (cut .exit))
+    ensures turn { λ r. ⌜ ((l : Beside) → turned (r .ended) l (now (held .exit)) (now (cut .exit))
         ≡ decideOn atoms literal (state l (now (held .entry)) (now (cut .entry)) work)) ⌝ }
     ensures earned { λ r. ⌜ Earned atoms r (now (held .entry)) (now (cut .entry)) (now (held .exit)) (now (cut .exit)) ⌝ }
     ensures whole { λ _. ⌜ T (isRegion atoms (region (now (held .exit)) (now (cut .exit)))) ⌝ }
@@ -88,7 +94,7 @@ fn decide_on(atoms: u64, held: &mut [u64], cut: &mut [u64], literal: u64, work: 
 // decided before stays.
 fn publish(slot: &[u64], atoms: u64, held: &mut [u64], cut: &mut [u64], work: Meter) -> Reading
     requires { ⌜ Stored atoms (now slot) ⌝ ∗ ⌜ T (isRegion atoms (region (now held) (now cut))) ⌝ }
-    ensures turn { λ r. ⌜ ((l : Ledger) → turned (r .ended) l (now (held .exit)) (now (cut .exit))
+    ensures turn { λ r. ⌜ ((l : Beside) → turned (r .ended) l (now (held .exit)) (now (cut .exit))
         ≡ publish (suc (length (rowIn (now (slot .entry)) .outputs))) atoms (rowIn (now (slot .entry))) startCursor
         (state l (now (held .entry)) (now (cut .entry)) work)) ⌝ }
     ensures earned { λ r. ⌜ Earned atoms r (now (held .entry)) (now (cut .entry)) (now (held .exit)) (now (cut .exit)) ⌝ }
@@ -145,7 +151,7 @@ fn follow(
     work: Meter,
 ) -> Reading
     requires { ⌜ Stored atoms (now slot) ⌝ ∗ ⌜ T (isRegion atoms (region (now held) (now cut))) ⌝ }
-    ensures turn { λ r. ⌜ ((l : Ledger) → turned (r .ended) l (now (held .exit)) (now (cut .exit))
+    ensures turn { λ r. ⌜ ((l : Beside) → turned (r .ended) l (now (held .exit)) (now (cut .exit))
         ≡ follow atoms (rowIn (now (slot .entry))) said (state l (now (held .entry)) (now (cut .entry)) work)) ⌝ }
     ensures earned { λ r. ⌜ Earned atoms r (now (held .entry)) (now (cut .entry)) (now (held .exit)) (now (cut .exit)) ⌝ }
     ensures whole { λ _. ⌜ T (isRegion atoms (region (now (held .exit)) (now (cut .exit)))) ⌝ }
@@ -159,12 +165,26 @@ fn follow(
             earned: false,
         },
         Deduction::Force => publish(slot, atoms, held, cut, work),
-        Deduction::Require(literal) => decide_on(atoms, held, cut, literal.0 as u64, work),
+        Deduction::Require { required, contradicted: _ } => {
+            decide_on(atoms, held, cut, required.0 as u64, work)
+        }
+    }
+}
+
+// The contradicted output that a closing hands on after a deduction that it acted on: that of a Require, else the one before.
+fn named(said: Deduction, before: Contradicted) -> Contradicted
+    ensures { λ r. ⌜ r ≡ naming said before ⌝ }
+{
+    match said {
+        Deduction::Nothing => before,
+        Deduction::Force => before,
+        Deduction::Require { required: _, contradicted } => Contradicted::Output(contradicted),
     }
 }
 
 // Reads the row at a position. Going, and nothing changed, if nothing follows; else what the row says is decided, and then one hit is
-// counted if that decided an atom or ended in Conflict. Stopped, and nothing changed, if the deduction's ticks were not all made.
+// counted if that decided an atom or ended in Conflict. Stopped, and nothing changed, if the deduction's ticks were not all made. A Require's
+// contradicted output is handed on, else the one `before`.
 pub fn act(
     atoms: u64,
     rows: u64,
@@ -172,11 +192,13 @@ pub fn act(
     position: usize,
     held: &mut [u64],
     cut: &mut [u64],
+    before: Contradicted,
     work: Meter,
-) -> Ended
+) -> Acted
     requires { ⌜ Standing atoms rows (rowsIn rows (now slots)) (now slots) (now held) (now cut) ⌝ ∗ ⌜ position < rows ⌝ }
-    ensures turn { λ r. ⌜ ((h : Header) → turned r (ledgerOf h rows (now (slots .exit))) (now (held .exit)) (now (cut .exit))
-        ≡ act atoms position (state (ledgerOf h rows (now (slots .entry))) (now (held .entry)) (now (cut .entry)) work)) ⌝ }
+    ensures turn { λ r. ⌜ ((h : Header) → acted r (ledgerOf h rows (now (slots .exit))) (now (held .exit)) (now (cut .exit))
+        ≡ act atoms position
+        (state (beside (ledgerOf h rows (now (slots .entry))) before) (now (held .entry)) (now (cut .entry)) work)) ⌝ }
     ensures stands { λ _. ⌜ Standing atoms rows (rowsIn rows (now (slots .entry))) (now (slots .exit)) (now (held .exit))
         (now (cut .exit)) ⌝ }
 {
@@ -186,20 +208,30 @@ pub fn act(
     let said = found.deduction;
     let meter = found.meter;
     if found.stopped {
-        return Ended {
-            flow: Flow::Stopped,
-            meter: meter,
+        return Acted {
+            ended: Ended {
+                flow: Flow::Stopped,
+                meter: meter,
+            },
+            contradicted: before,
         };
     }
     if let Deduction::Nothing = said {
-        return Ended {
-            flow: Flow::Continues,
-            meter: meter,
+        return Acted {
+            ended: Ended {
+                flow: Flow::Continues,
+                meter: meter,
+            },
+            contradicted: before,
         };
     }
     let read = follow(&slots[a..e], atoms, said, held, cut, meter);
     if read.earned {
         hit(slots, position);
     }
-    read.ended
+    let ended = read.ended;
+    Acted {
+        ended,
+        contradicted: named(said, before),
+    }
 }

@@ -17,6 +17,7 @@ use Rattle.words.proofs.Regions.{sound-of}
 use Rattle.meter.specs.declared.Meter.{Meter}
 use Rattle.model.specs.declared.LearningLimits.{LearningLimits}
 use Rattle.model.specs.declared.Header.{Header}
+use Rattle.model.specs.declared.Contradicted.{Contradicted}
 use Rattle.model.specs.Records.{Row, Entry, isRow}
 use Rattle.model.specs.Slots.{entriesIn}
 use Rattle.model.specs.Postings.{Search, candidates}
@@ -31,7 +32,7 @@ use Rattle.model.proofs.Priority.Fuel.{rounds-fuel}
 use Rattle.slots.proofs.Holding.{held-rows}
 use Rattle.close_publish.specs.declared.Flow.the-variants.{Continues}
 use Rattle.close_rounds.specs.declared.RoundEnd.{RoundEnd}
-use Rattle.close_publish.specs.Turns.{ledgerOf, state}
+use Rattle.close_publish.specs.Turns.{ledgerOf, beside, state}
 use Rattle.close_rounds.specs.Running.{Running}
 use Rattle.close_rounds.specs.Rounds.{stateIn, roundTurn, oneRound, Under, New}
 use Rattle.close_publish.proofs.Flow.{the-type}
@@ -51,33 +52,35 @@ module _ (h : Header) (slots postings held cut : List ℕ) (run : Running h slot
   fine : Fine (rowsE (entriesIn (h .rows) slots))
   fine = fine-of (h .limits .atoms) (entriesIn (h .rows) slots) (T-of (held-rows (h .rows) slots (run .stands .held)))
 
-  self-step : (k : Header) (m : Meter)
-      → Step (h .limits .atoms) rows fine (state (ledgerOf k (h .rows) slots) held cut m) (state (ledgerOf k (h .rows) slots) held cut m)
-  self-step k m = record { sound = sound-of (h .limits .atoms) (region held cut) (run .region); grown = λ x t. t; same = refl }
+  self-step : (k : Header) (m : Meter) (o : Contradicted)
+      → Step (h .limits .atoms) rows fine (state (beside (ledgerOf k (h .rows) slots) o) held cut m) (state (beside (ledgerOf k (h .rows) slots) o) held cut m)
+  self-step k m o = record { sound = sound-of (h .limits .atoms) (region held cut) (run .region); grown = λ x t. t; same = refl }
 
   -- fuel above the number of open atoms is never used up
-  pub rounds-any : (f g : ℕ) (as′ : List ℕ) (m : Meter) → opens (h .limits .atoms) (region held cut) < f
+  pub rounds-any : (f g : ℕ) (as′ : List ℕ) (m : Meter) (o : Contradicted) → opens (h .limits .atoms) (region held cut) < f
       → opens (h .limits .atoms) (region held cut) < g
-      → rounds f (h .limits .atoms) as′ (stateIn h slots held cut m) ≡ rounds g (h .limits .atoms) as′ (stateIn h slots held cut m)
-  rounds-any f g as′ m a b = rounds-fuel (h .limits .atoms) rows fine f g as′ (stateIn h slots held cut m) (self-step h m) a b
+      → rounds f (h .limits .atoms) as′ (stateIn h slots held cut m o) ≡ rounds g (h .limits .atoms) as′ (stateIn h slots held cut m o)
+  rounds-any f g as′ m o a b = rounds-fuel (h .limits .atoms) rows fine f g as′ (stateIn h slots held cut m o) (self-step h m o) a b
 
   -- a round that goes on leaves a region that contains the one before
-  pub one-grows : (as′ : List ℕ) (m : Meter) (u : State) → going u ≡ oneRound (h .limits .atoms) as′ (stateIn h slots held cut m)
+  pub one-grows : (as′ : List ℕ) (m : Meter) (o : Contradicted) (u : State) → going u ≡ oneRound (h .limits .atoms) as′ (stateIn h slots held cut m o)
       → Contains (u .region) (region held cut)
-  unfolding oneRound withMeter withHeader
-  one-grows as′ m u e = go (candidates (ledgerOf h (h .rows) slots) as′ m .found) e
+  unfolding oneRound
+  one-grows as′ m o u e = go (candidates (ledgerOf h (h .rows) slots) as′ m .found) e
     where
       t : State
-      t = let x : Search = candidates (ledgerOf h (h .rows) slots) as′ m in state (ledgerOf (x .header) (h .rows) slots) held cut (x .meter)
+      t =
+          let x : Search = candidates (ledgerOf h (h .rows) slots) as′ m in
+          state (beside (ledgerOf (x .header) (h .rows) slots) o) held cut (x .meter)
 
-      go : (o : Option (List ℕ)) → going u ≡ (elim o as (λ k. Turn) [ none ↦ halted t | some ps ↦ round (h .limits .atoms) ps t ])
+      go : (z : Option (List ℕ)) → going u ≡ (elim z as (λ k. Turn) [ none ↦ halted t | some ps ↦ round (h .limits .atoms) ps t ])
           → Contains (u .region) (region held cut)
       go none q = absurd (let z : _≡_ {A = ℕ} 0 1 = cc in omega arith)
       go (some ps) q =
           subst (OnGoing (Rounded (h .limits .atoms) rows fine ps t)) (sym q)
           (round-step (h .limits .atoms) rows fine ps t
           (self-step (candidates (ledgerOf h (h .rows) slots) as′ m .header)
-          (candidates (ledgerOf h (h .rows) slots) as′ m .meter))) .0 .grown
+          (candidates (ledgerOf h (h .rows) slots) as′ m .meter) o)) .0 .grown
 
 -- ---- one round of the rounds
 module _ (fuel n : ℕ) (as′ : List ℕ) (s : State) where
@@ -85,13 +88,13 @@ module _ (fuel n : ℕ) (as′ : List ℕ) (s : State) where
   next u = elim (decidedSince n (s .region) (u .region)) [ [] ↦ going u | a ∷ bs ↦ rounds fuel n (a ∷ bs) u ]
 
   rounds-by : onGoing (oneRound n as′ s) next ≡ rounds (suc fuel) n as′ s
-  unfolding rounds oneRound withMeter withHeader onGoing next
+  unfolding rounds oneRound onGoing next
   rounds-by = go (candidates (s .ledger) as′ (s .meter) .found)
     where
       t : State
       t =
           let x : Search = candidates (s .ledger) as′ (s .meter) in
-          record { ledger = record { header = x .header; entries = s .ledger .entries }; region = s .region; meter = x .meter }
+          withMeter (x .meter) (withHeader (x .header) s)
 
       go : (o : Option (List ℕ)) → onGoing (elim o as (λ k. Turn) [ none ↦ halted t | some ps ↦ round n ps t ]) next
           ≡ (elim o as (λ k. Turn) [ none ↦ halted t | some ps ↦ onGoing (round n ps t) next ])
@@ -121,8 +124,8 @@ some-in [] f = absurd (f refl)
 some-in (a ∷ bs) f = (a, inl refl)
 
 -- ---- the walk
-pub record Repeating (h₀ : Header) (slots₀ postings₀ held₀ cut₀ places₀ noted₀ : List ℕ) (m₀ : Meter) (h : Header)
-    (slots postings held cut places noted : List ℕ) (m : Meter) (k : ℕ) : Type 0 where
+pub record Repeating (h₀ : Header) (slots₀ postings₀ held₀ cut₀ places₀ noted₀ : List ℕ) (m₀ : Meter) (o₀ : Contradicted) (h : Header)
+    (slots postings held cut places noted : List ℕ) (m : Meter) (o : Contradicted) (k : ℕ) : Type 0 where
   pub runs : Running h slots postings held cut
   pub under : Under h₀ h
   pub room : h .rows ≤ length places
@@ -134,12 +137,12 @@ pub record Repeating (h₀ : Header) (slots₀ postings₀ held₀ cut₀ places
   pub cutLong : length cut ≡ length cut₀
   pub placesLong : length places ≡ length places₀
   pub notedLong : length noted ≡ length noted₀
-  pub rest : rounds (suc (opens (h .limits .atoms) (region held cut))) (h .limits .atoms) (take k noted) (stateIn h slots held cut m)
-      ≡ rounds (suc (h₀ .limits .atoms)) (h₀ .limits .atoms) [] (stateIn h₀ slots₀ held₀ cut₀ m₀)
+  pub rest : rounds (suc (opens (h .limits .atoms) (region held cut))) (h .limits .atoms) (take k noted) (stateIn h slots held cut m o)
+      ≡ rounds (suc (h₀ .limits .atoms)) (h₀ .limits .atoms) [] (stateIn h₀ slots₀ held₀ cut₀ m₀ o₀)
 
-module _ (h₀ : Header) (slots₀ postings₀ held₀ cut₀ places₀ noted₀ : List ℕ) (m₀ : Meter) where
+module _ (h₀ : Header) (slots₀ postings₀ held₀ cut₀ places₀ noted₀ : List ℕ) (m₀ : Meter) (o₀ : Contradicted) where
   pub repeat-start : Running h₀ slots₀ postings₀ held₀ cut₀ → h₀ .rows ≤ length places₀ → length noted₀ ≡ h₀ .limits .atoms
-      → Repeating h₀ slots₀ postings₀ held₀ cut₀ places₀ noted₀ m₀ h₀ slots₀ postings₀ held₀ cut₀ places₀ noted₀ m₀ 0
+      → Repeating h₀ slots₀ postings₀ held₀ cut₀ places₀ noted₀ m₀ o₀ h₀ slots₀ postings₀ held₀ cut₀ places₀ noted₀ m₀ o₀ 0
   repeat-start r a b =
       let o = opens-le (h₀ .limits .atoms) (region held₀ cut₀) in
       record {
@@ -155,13 +158,13 @@ module _ (h₀ : Header) (slots₀ postings₀ held₀ cut₀ places₀ noted₀
         placesLong = refl;
         notedLong = refl;
         rest = rounds-any h₀ slots₀ postings₀ held₀ cut₀ r (suc (opens (h₀ .limits .atoms) (region held₀ cut₀))) (suc (h₀ .limits .atoms))
-            [] m₀ (omega arith) (omega arith);
+            [] m₀ o₀ (omega arith) (omega arith);
       }
 
-  module _ (h : Header) (slots postings held cut places noted : List ℕ) (m : Meter) (k : ℕ)
-      (w : Repeating h₀ slots₀ postings₀ held₀ cut₀ places₀ noted₀ m₀ h slots postings held cut places noted m k)
+  module _ (h : Header) (slots postings held cut places noted : List ℕ) (m : Meter) (o : Contradicted) (k : ℕ)
+      (w : Repeating h₀ slots₀ postings₀ held₀ cut₀ places₀ noted₀ m₀ o₀ h slots postings held cut places noted m o k)
       (g : RoundEnd) (slots′ held′ cut′ : List ℕ)
-      (t : roundTurn g slots′ held′ cut′ ≡ oneRound (h .limits .atoms) (take k noted) (stateIn h slots held cut m)) where
+      (t : roundTurn g slots′ held′ cut′ ≡ oneRound (h .limits .atoms) (take k noted) (stateIn h slots held cut m o)) where
     abbrev n : ℕ
     n = h .limits .atoms
 
@@ -169,22 +172,22 @@ module _ (h₀ : Header) (slots₀ postings₀ held₀ cut₀ places₀ noted₀
     fuel = opens n (region held cut)
 
     abbrev here : State
-    here = stateIn h slots held cut m
+    here = stateIn h slots held cut m o
 
     abbrev there : State
-    there = stateIn (g .header) slots′ held′ cut′ (g .meter)
+    there = stateIn (g .header) slots′ held′ cut′ (g .meter) (g .contradicted)
 
     abbrev decides : List ℕ
     decides = decidedSince n (region held cut) (region held′ cut′)
 
     abbrev wholly : Turn
-    wholly = rounds (suc (h₀ .limits .atoms)) (h₀ .limits .atoms) [] (stateIn h₀ slots₀ held₀ cut₀ m₀)
+    wholly = rounds (suc (h₀ .limits .atoms)) (h₀ .limits .atoms) [] (stateIn h₀ slots₀ held₀ cut₀ m₀ o₀)
 
     turn : onGoing (roundTurn g slots′ held′ cut′) (next fuel n (take k noted) here) ≡ wholly
     turn = ap (λ (x : Turn). onGoing x (next fuel n (take k noted) here)) t ∙ rounds-by fuel n (take k noted) here ∙ w .rest
 
     pub repeat-ended : OneOf (1 ∷ 2 ∷ []) (tagOf the-type (g .flow)) → roundTurn g slots′ held′ cut′ ≡ wholly
-    repeat-ended o = ended-stays (g .flow) there (next fuel n (take k noted) here) o ∙ turn
+    repeat-ended i = ended-stays (g .flow) there (next fuel n (take k noted) here) i ∙ turn
 
     module _ (e : g .flow ≡ Continues) where
       -- what comes after a round that goes on
@@ -204,7 +207,7 @@ module _ (h₀ : Header) (slots₀ postings₀ held₀ cut₀ places₀ noted₀
           less =
               let a = some-in decides not-none in
               opens-less n (region held cut) (region held′ cut′) (a .0)
-              (one-grows h slots postings held cut (w .runs) (take k noted) m there (sym (ended-goes (g .flow) there e) ∙ t)) (a .1)
+              (one-grows h slots postings held cut (w .runs) (take k noted) m o there (sym (ended-goes (g .flow) there e) ∙ t)) (a .1)
 
           pub repeat-less : opens (h₀ .limits .atoms) (region held′ cut′) < opens (h₀ .limits .atoms) (region held cut)
           repeat-less =
@@ -214,8 +217,8 @@ module _ (h₀ : Header) (slots₀ postings₀ held₀ cut₀ places₀ noted₀
           pub repeat-on : (postings′ places′ : List ℕ) → Running (g .header) slots′ postings′ held′ cut′ → Under h (g .header)
               → length slots′ ≡ length slots → length postings′ ≡ length postings → length held′ ≡ length held → length cut′ ≡ length cut
               → length places′ ≡ length places → length noted′ ≡ length noted
-              → Repeating h₀ slots₀ postings₀ held₀ cut₀ places₀ noted₀ m₀ (g .header) slots′ postings′ held′ cut′ places′ noted′ (g .meter)
-              (g .decided)
+              → Repeating h₀ slots₀ postings₀ held₀ cut₀ places₀ noted₀ m₀ o₀ (g .header) slots′ postings′ held′ cut′ places′ noted′
+              (g .meter) (g .contradicted) (g .decided)
           repeat-on postings′ places′ r u a b c d p q =
               let x : take (g .decided) noted′ ≡ decides = new .gathered e .words in
               let l = less in
@@ -235,7 +238,7 @@ module _ (h₀ : Header) (slots₀ postings₀ held₀ cut₀ places₀ noted₀
                     ap (λ (ds : List ℕ). rounds (suc (opens (g .header .limits .atoms) (region held′ cut′))) (g .header .limits .atoms) ds
                     there) x
                     ∙ rounds-any (g .header) slots′ postings′ held′ cut′ r (suc (opens (g .header .limits .atoms) (region held′ cut′))) fuel
-                    decides (g .meter)
+                    decides (g .meter) (g .contradicted)
                     (le-refl (suc (opens (g .header .limits .atoms) (region held′ cut′))))
                     (subst (λ (l : LearningLimits). opens (l .atoms) (region held′ cut′) < fuel) (sym (u .limits)) l)
                     ∙ ap (λ (l : LearningLimits). rounds fuel (l .atoms) decides there) (u .limits)

@@ -23,13 +23,14 @@ use Rattle.meter.specs.declared.Tick.{Tick}
 use Rattle.meter.specs.declared.Tick.the-variants.{Ticked, Stopped}
 use Rattle.meter.specs.Meter.{ticks}
 use Rattle.model.specs.declared.Header.{Header}
+use Rattle.model.specs.declared.Contradicted.{Contradicted}
 use Rattle.model.specs.declared.CandidatesAnswer.{CandidatesAnswer}
 use Rattle.model.specs.declared.CandidatesAnswer.the-variants as answer
 use Rattle.model.specs.Records.{withStale}
 use Rattle.model.specs.Postings.{Search, searched, rebuilt, searchTicks, positions, postedAt, postingsOf, filed, candidates}
 use Rattle.model.specs.Refusals.{ledgerIn}
 use Rattle.model.specs.Operations.{candidatesAnswer, foundWords}
-use Rattle.model.specs.Closing.{State, Turn, halted, withMeter, withHeader, round, decidedSince}
+use Rattle.model.specs.Closing.{State, Turn, halted, round, decidedSince}
 use Rattle.model.proofs.CandidatesAnswer.{the-type}
 use Rattle.postings.specs.declared.searching.Searched.{Searched}
 use Rattle.slots.specs.Layout.{rowsIn}
@@ -41,8 +42,8 @@ use Rattle.postings.proofs.Standing.{here-searchable}
 use Rattle.slots.proofs.Holding.{stands-under}
 use Rattle.postings.proofs.Keeping.{candidates-keep}
 use Rattle.close_publish.specs.declared.Flow.the-variants as flow
-use Rattle.close_publish.specs.declared.Ended.{Ended}
-use Rattle.close_publish.specs.Turns.{ledgerOf, state, endedAs, turned}
+use Rattle.close_publish.specs.declared.Acted.{Acted}
+use Rattle.close_publish.specs.Turns.{ledgerOf, beside, state, endedAs, acted}
 use Rattle.close_publish.specs.Standing.{Standing}
 use Rattle.close_rounds.specs.Running.{Running}
 use Rattle.close_note.specs.Noting.{notedIn, newIn, Noted, Gathered}
@@ -136,8 +137,9 @@ unfolding pad
 pad-fits n xs e = let a = length-append xs (replicate (n - length xs) 0) in omega arith
 
 -- a stopped search says nothing of the scratch
-pub new-stopped : (h : Header) (m : Meter) (ys ds : List ℕ) → New (record { flow = flow.Stopped; header = h; meter = m; decided = 0 }) ys ds
-new-stopped h m ys ds = record { gathered = λ e. absurd (never e) }
+pub new-stopped : (h : Header) (m : Meter) (o : Contradicted) (ys ds : List ℕ)
+    → New (record { flow = flow.Stopped; header = h; meter = m; contradicted = o; decided = 0 }) ys ds
+new-stopped h m o ys ds = record { gathered = λ e. absurd (never e) }
   where
     never : flow.Stopped ≡ flow.Continues → ⊥
     never e = let z : _≡_ {A = ℕ} 0 1 = cc in omega arith
@@ -149,7 +151,7 @@ region-noted n held cut k e t =
     record { heldLong = s .held .long ∙ ap wordsFor (sym e); cutLong = s .cut .long ∙ ap wordsFor (sym e) }
 
 -- ---- a round
-module _ (h : Header) (slots postings held cut ys : List ℕ) (k : ℕ) (m : Meter) (run : Running h slots postings held cut) where
+module _ (h : Header) (slots postings held cut ys : List ℕ) (k : ℕ) (m : Meter) (o : Contradicted) (run : Running h slots postings held cut) where
   abbrev rows : ℕ
   rows = h .rows
 
@@ -157,7 +159,7 @@ module _ (h : Header) (slots postings held cut ys : List ℕ) (k : ℕ) (m : Met
   search = candidates (ledgerOf h rows slots) (take k ys) m
 
   abbrev before : State
-  before = stateIn h slots held cut m
+  before = stateIn h slots held cut m o
 
   lent-is : (as′ : List ℕ) → candidates (lentLedger h slots postings) as′ m ≡ candidates (ledgerOf h rows slots) as′ m
   unfolding ledgerIn
@@ -165,11 +167,11 @@ module _ (h : Header) (slots postings held cut ys : List ℕ) (k : ℕ) (m : Met
 
   after : Option (List ℕ) → Turn
   after o =
-      let t : State = state (ledgerOf (search .header) rows slots) held cut (search .meter) in
+      let t : State = state (beside (ledgerOf (search .header) rows slots) o) held cut (search .meter) in
       elim o [ none ↦ halted t | some ps ↦ round (h .limits .atoms) ps t ]
 
   one-is : oneRound (h .limits .atoms) (take k ys) before ≡ after (search .found)
-  unfolding oneRound withMeter withHeader after
+  unfolding oneRound after
   one-is = refl
 
   -- noted before the rows are read, and gathered after
@@ -213,25 +215,25 @@ module _ (h : Header) (slots postings held cut ys : List ℕ) (k : ℕ) (m : Met
         record { limits = ap (λ (y : Header). y .limits) header-is ∙ c .0; rows = ap (λ (y : Header). y .rows) header-is ∙ c .1 }
 
     -- the state after the search, by the code's header
-    state-is : (slots held cut : List ℕ) (m : Meter)
-        → stateIn (f .header) slots held cut m ≡ state (ledgerOf (f .header) rows slots) held cut m
-    state-is slots held cut m = ap (λ (n : ℕ). state (ledgerOf (f .header) n slots) held cut m) (search-under .rows)
+    state-is : (slots held cut : List ℕ) (m : Meter) (x : Contradicted)
+        → stateIn (f .header) slots held cut m x ≡ state (beside (ledgerOf (f .header) rows slots) x) held cut m
+    state-is slots held cut m x = ap (λ (n : ℕ). state (beside (ledgerOf (f .header) n slots) x) held cut m) (search-under .rows)
 
-    searched-is : state (ledgerOf (f .header) rows slots) held cut (f .meter)
-        ≡ state (ledgerOf (search .header) rows slots) held cut (search .meter)
-    searched-is = ap₂ (λ (x : Header) (y : Meter). state (ledgerOf x rows slots) held cut y) header-is meter-is
+    searched-is : state (beside (ledgerOf (f .header) rows slots) o) held cut (f .meter)
+        ≡ state (beside (ledgerOf (search .header) rows slots) o) held cut (search .meter)
+    searched-is = ap₂ (λ (x : Header) (y : Meter). state (beside (ledgerOf x rows slots) o) held cut y) header-is meter-is
 
     pub search-runs : (postings′ : List ℕ) → postings′ ≡ filed (h .limits .«tier_rows») (f .header .stale) (rowsIn rows slots)
         → Running (f .header) slots postings′ held cut
     search-runs postings′ p = runs-under h (f .header) search-under slots postings held cut postings′ run p
 
     pub search-stopped : OneOf (0 ∷ 1 ∷ []) (tagOf the-type (f .answer))
-        → halted (stateIn (f .header) slots held cut (f .meter)) ≡ oneRound (h .limits .atoms) (take k ys) before
+        → halted (stateIn (f .header) slots held cut (f .meter) o) ≡ oneRound (h .limits .atoms) (take k ys) before
     unfolding after
-    search-stopped o =
+    search-stopped i =
         let z = none-found (search .found)
-        (subst (λ (y : CandidatesAnswer). OneOf (0 ∷ 1 ∷ []) (tagOf the-type y)) (ap (λ (y : SearchEnd). y .answer) end-is) o) in
-        ap halted (state-is slots held cut (f .meter) ∙ searched-is) ∙ sym (one-is ∙ ap after z)
+        (subst (λ (y : CandidatesAnswer). OneOf (0 ∷ 1 ∷ []) (tagOf the-type y)) (ap (λ (y : SearchEnd). y .answer) end-is) i) in
+        ap halted (state-is slots held cut (f .meter) o ∙ searched-is) ∙ sym (one-is ∙ ap after z)
 
     module _ (c : ℕ) (a : f .answer ≡ answer.Count c) where
       found : Found (search .found) c (length xs) xs′
@@ -255,14 +257,15 @@ module _ (h : Header) (slots postings held cut ys : List ℕ) (k : ℕ) (m : Met
           subst (λ (ps : List ℕ). Each (λ p. p < rows) ps) (sym part-is)
           (subst (FoundBelow rows) (ap (λ (x : Search). x .found) (lent-is (take k ys)) ∙ found .is) b)
 
-      pub round-turn : (g : Ended) (slots′ held′ cut′ : List ℕ)
+      pub round-turn : (g : Acted) (slots′ held′ cut′ : List ℕ)
           → ((k : Header)
-          → turned g (ledgerOf k rows slots′) held′ cut′
-          ≡ round (h .limits .atoms) (take (c - 0) xs′) (state (ledgerOf k rows slots) held cut (f .meter)))
-          → endedAs (g .flow) (stateIn (f .header) slots′ held′ cut′ (g .meter)) ≡ oneRound (h .limits .atoms) (take k ys) before
+          → acted g (ledgerOf k rows slots′) held′ cut′
+          ≡ round (h .limits .atoms) (take (c - 0) xs′) (state (beside (ledgerOf k rows slots) o) held cut (f .meter)))
+          → endedAs (g .ended .flow) (stateIn (f .header) slots′ held′ cut′ (g .ended .meter) (g .contradicted))
+          ≡ oneRound (h .limits .atoms) (take k ys) before
       unfolding after
       round-turn g slots′ held′ cut′ t =
-          ap (endedAs (g .flow)) (state-is slots′ held′ cut′ (g .meter)) ∙ t (f .header)
+          ap (endedAs (g .ended .flow)) (state-is slots′ held′ cut′ (g .ended .meter) (g .contradicted)) ∙ t (f .header)
           ∙ ap₂ (λ (ps : List ℕ) (s : State). round (h .limits .atoms) ps s) part-is searched-is
           ∙ sym (one-is ∙ ap after (found .is))
 

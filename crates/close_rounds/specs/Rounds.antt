@@ -6,19 +6,20 @@ use mathlib.Core.Option.{none, some}
 use Prim.Native.Nat.{ℕ}
 use Rattle.meter.specs.declared.Meter.{Meter}
 use Rattle.model.specs.declared.Header.{Header}
+use Rattle.model.specs.declared.Contradicted.{Contradicted}
 use Rattle.model.specs.Postings.{Search, candidates}
 use Rattle.model.specs.Closing.{State, Turn, halted, withMeter, withHeader, round}
 use Rattle.close_publish.specs.declared.Flow.the-variants.{Continues}
 use Rattle.close_rounds.specs.declared.RoundEnd.{RoundEnd}
-use Rattle.close_publish.specs.Turns.{ledgerOf, state, endedAs}
+use Rattle.close_publish.specs.Turns.{ledgerOf, beside, state, endedAs}
 use Rattle.close_note.specs.Noting.{Gathered}
 
 -- the ledger of a header, with all its rows
-abbrev pub stateIn : Header → List ℕ → List ℕ → List ℕ → Meter → State
-stateIn h slots held cut m = state (ledgerOf h (h .rows) slots) held cut m
+abbrev pub stateIn : Header → List ℕ → List ℕ → List ℕ → Meter → Contradicted → State
+stateIn h slots held cut m o = state (beside (ledgerOf h (h .rows) slots) o) held cut m
 
 abbrev pub roundTurn : RoundEnd → List ℕ → List ℕ → List ℕ → Turn
-roundTurn r slots held cut = endedAs (r .flow) (stateIn (r .header) slots held cut (r .meter))
+roundTurn r slots held cut = endedAs (r .flow) (stateIn (r .header) slots held cut (r .meter) (r .contradicted))
 
 -- a search, and the rows that it found read in turn
 unfoldable pub oneRound : ℕ → List ℕ → State → Turn

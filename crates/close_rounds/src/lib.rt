@@ -6,27 +6,31 @@ ghost use lib.ListN.{length, take};
 ghost use Rattle.lists.specs.Counts.{Each};
 ghost use Rattle.words.specs.Region.{region};
 ghost use Rattle.model.specs.declared.Header.{Header};
+ghost use Rattle.model.specs.declared.Contradicted.the-variants.{None};
 ghost use Rattle.model.specs.Closing.{round, decidedSince, rounds};
 ghost use Rattle.slots.specs.Layout.{rowsIn};
-ghost use Rattle.close_publish.specs.Turns.{state, turned, ledgerOf};
+ghost use Rattle.close_publish.specs.Turns.{beside, state, acted, ledgerOf};
 ghost use Rattle.close_publish.specs.Standing.{Standing};
 ghost use Rattle.close_rounds.specs.Running.{Running};
 ghost use Rattle.close_rounds.specs.Rounds.{stateIn, roundTurn, oneRound, Under, New};
 use close_note::decided_since;
 use close_note::note_decided;
+use close_publish::Acted;
 use close_publish::Ended;
 use close_publish::Flow;
 use close_publish::act;
 use meter::Meter;
 use model::CandidatesAnswer;
+use model::Contradicted;
 use model::Header;
 use postings::candidates;
 
-// How a round ended, with the header and the meter after it, and how many atoms were decided in it.
+// How a round ended, with the header and the meter after it, the output named last, and how many atoms were decided in it.
 pub struct RoundEnd {
     pub flow: Flow,
     pub header: Header,
     pub meter: Meter,
+    pub contradicted: Contradicted,
     pub decided: usize,
 }
 
@@ -38,35 +42,51 @@ fn round(
     positions: &[u64],
     held: &mut [u64],
     cut: &mut [u64],
+    before: Contradicted,
     work: Meter,
-) -> Ended
+) -> Acted
     requires { ⌜ Standing atoms rows (rowsIn rows (now slots)) (now slots) (now held) (now cut) ⌝
         ∗ ⌜ Each (λ p. p < rows) (now positions) ⌝ }
-    ensures turn { λ r. ⌜ ((h : Header) → turned r (ledgerOf h rows (now (slots .exit))) (now (held .exit)) (now (cut .exit))
+    ensures turn { λ r. ⌜ ((h : Header) → acted r (ledgerOf h rows (now (slots .exit))) (now (held .exit)) (now (cut .exit))
         ≡ round atoms (now (positions .entry))
-        (state (ledgerOf h rows (now (slots .entry))) (now (held .entry)) (now (cut .entry)) work)) ⌝ }
+        (state (beside (ledgerOf h rows (now (slots .entry))) before) (now (held .entry)) (now (cut .entry)) work)) ⌝ }
     ensures stands { λ _. ⌜ Standing atoms rows (rowsIn rows (now (slots .entry))) (now (slots .exit)) (now (held .exit))
         (now (cut .exit)) ⌝ }
 {
     let mut meter = work;
+    let mut contradicted = before;
     let mut i: usize = 0;
     while i < positions.len() {
-        let one = act(atoms, rows, slots, positions[i] as usize, held, cut, meter);
-        let flow = one.flow;
+        let one = act(
+            atoms,
+            rows,
+            slots,
+            positions[i] as usize,
+            held,
+            cut,
+            contradicted,
+            meter,
+        );
+        let ended = one.ended;
+        let flow = ended.flow;
         if let Flow::Continues = flow {
             // field by field: the next row's deduction reads it so, from memory, and need not wait for a longer store
             meter = Meter {
-                charged: one.meter.charged,
-                limit: one.meter.limit,
+                charged: ended.meter.charged,
+                limit: ended.meter.limit,
             };
+            contradicted = one.contradicted;
             i += 1;
         } else {
             return one;
         }
     }
-    Ended {
-        flow: Flow::Continues,
-        meter: meter,
+    Acted {
+        ended: Ended {
+            flow: Flow::Continues,
+            meter: meter,
+        },
+        contradicted: contradicted,
     }
 }
 
@@ -81,13 +101,14 @@ fn one_round(
     places: &mut [u64],
     noted: &mut [u64],
     given: usize,
+    before: Contradicted,
     work: Meter,
 ) -> RoundEnd
     requires { ⌜ Running header (now slots) (now postings) (now held) (now cut) ⌝
         ∗ ⌜ header .rows ≤ length (now places) ⌝ ∗ ⌜ length (now noted) ≡ header .limits .atoms ⌝ ∗ ⌜ given ≤ length (now noted) ⌝ }
     ensures turn { λ r. ⌜ roundTurn r (now (slots .exit)) (now (held .exit)) (now (cut .exit))
         ≡ oneRound (header .limits .atoms) (take given (now (noted .entry)))
-        (stateIn header (now (slots .entry)) (now (held .entry)) (now (cut .entry)) work) ⌝ }
+        (stateIn header (now (slots .entry)) (now (held .entry)) (now (cut .entry)) work before) ⌝ }
     ensures runs { λ r. ⌜ Running (r .header) (now (slots .exit)) (now (postings .exit)) (now (held .exit)) (now (cut .exit)) ⌝ }
     ensures under { λ r. ⌜ Under header (r .header) ⌝ }
     ensures new { λ r. ⌜ New r (now (noted .exit))
@@ -103,6 +124,7 @@ fn one_round(
             flow: Flow::Stopped,
             header: after,
             meter: meter,
+            contradicted: before,
             decided: 0,
         };
     };
@@ -115,15 +137,19 @@ fn one_round(
         &places[0..end],
         held,
         cut,
+        before,
         meter,
     );
     let decided = decided_since(held, cut, noted);
-    let flow = read.flow;
-    let spent = read.meter;
+    let ended = read.ended;
+    let flow = ended.flow;
+    let spent = ended.meter;
+    let contradicted = read.contradicted;
     RoundEnd {
         flow: flow,
         header: after,
         meter: spent,
+        contradicted: contradicted,
         decided: decided,
     }
 }
@@ -144,11 +170,12 @@ pub fn rounds(
         ∗ ⌜ header .rows ≤ length (now places) ⌝ ∗ ⌜ length (now noted) ≡ header .limits .atoms ⌝ }
     ensures turn { λ r. ⌜ roundTurn r (now (slots .exit)) (now (held .exit)) (now (cut .exit))
         ≡ rounds (suc (header .limits .atoms)) (header .limits .atoms) []
-        (stateIn header (now (slots .entry)) (now (held .entry)) (now (cut .entry)) work) ⌝ }
+        (stateIn header (now (slots .entry)) (now (held .entry)) (now (cut .entry)) work None) ⌝ }
     ensures runs { λ r. ⌜ Running (r .header) (now (slots .exit)) (now (postings .exit)) (now (held .exit)) (now (cut .exit)) ⌝ }
 {
     let mut head = header;
     let mut meter = work;
+    let mut contradicted = Contradicted::None;
     let mut given: usize = 0;
     loop {
         let one = one_round(
@@ -160,6 +187,7 @@ pub fn rounds(
             places,
             noted,
             given,
+            contradicted,
             meter,
         );
         let flow = one.flow;
@@ -171,8 +199,10 @@ pub fn rounds(
         }
         let next = one.header;
         let spent = one.meter;
+        let last = one.contradicted;
         head = next;
         meter = spent;
+        contradicted = last;
         given = one.decided;
     }
 }

@@ -67,7 +67,7 @@ nextWords (next-answer.Output l) charged = 2 ∷ l .0 ∷ 0 ∷ charged ∷ []
 abbrev pub saidWords : Deduction → ℕ → List ℕ
 saidWords Nothing charged = 1 ∷ 0 ∷ 0 ∷ charged ∷ []
 saidWords Force charged = 2 ∷ 0 ∷ 0 ∷ charged ∷ []
-saidWords (Require l) charged = 3 ∷ l .0 ∷ 0 ∷ charged ∷ []
+saidWords (Require l o) charged = 3 ∷ l .0 ∷ o .0 ∷ charged ∷ []
 
 abbrev pub deducedWords : Deduced → List ℕ
 deducedWords d =

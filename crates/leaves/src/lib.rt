@@ -128,7 +128,7 @@ fn put_judged(j: Judged, answer: &mut [u64; 4])
     }
 }
 
-// Stopped is 0, Nothing 1, Force 2, Require 3 with its literal.
+// Stopped is 0, Nothing 1, Force 2, Require 3 with its literal and, in the place of the reads left, the output contradicted.
 fn put_deduced(d: Deduced, answer: &mut [u64; 4])
     ensures { λ _. ⌜ now (answer .exit) ≡ deducedWords d ⌝ }
 {
@@ -145,8 +145,8 @@ fn put_deduced(d: Deduced, answer: &mut [u64; 4])
         Deduction::Force => {
             *answer = [2, 0, 0, charged];
         }
-        Deduction::Require(literal) => {
-            *answer = [3, literal.0 as u64, 0, charged];
+        Deduction::Require { required, contradicted } => {
+            *answer = [3, required.0 as u64, contradicted.0 as u64, charged];
         }
     }
 }

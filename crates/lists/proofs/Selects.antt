@@ -1,5 +1,5 @@
 -- The laws of `select`, `first`, `count`, `upTo` and `adjust`. Assumes nothing.
-use mathlib.Core.Bool.{Bool, true, false}
+use mathlib.Core.Bool.{Bool, true, false, _||_}
 use mathlib.Core.List.{List, [], _∷_, _++_, map}
 use mathlib.Core.Option.{some}
 use mathlib.Core.Path.{_≡_, refl, sym, ap, _∙_}
@@ -9,7 +9,7 @@ use native.Mathlib.Omega.{arith}
 use lib.ListN.{length, getD, set, drop}
 use lib.Seq.{drop-cons}
 use Rattle.lists.specs.Counts.{Each}
-use Rattle.lists.specs.Lists.{select, first, adjust, range, upTo}
+use Rattle.lists.specs.Lists.{any, select, filled, first, adjust, range, upTo}
 use Rattle.lists.proofs.Counts.{times-select-yes, times-select-no, each-at, each-cons, each-head, each-tail}
 
 -- ---- `select`
@@ -31,6 +31,17 @@ module _ {A : Type 0} (f : A → Bool) where
           (elim b as (λ k. List A) [ true ↦ x ∷ select f (xs ++ ys) | false ↦ select f (xs ++ ys) ])
           ≡ (elim b as (λ k. List A) [ true ↦ x ∷ select f xs | false ↦ select f xs ]) ++ select f ys
       go true ih = ap (λ (r : List A). x ∷ r) ih
+      go false ih = ih
+
+  -- some element passes a test exactly if there is one to select
+  pub any-select : (xs : List A) → any f xs ≡ filled (select f xs)
+  unfolding any select
+  any-select [] = refl
+  any-select (x ∷ xs) = go (f x) (any-select xs)
+    where
+      go : (b : Bool) → any f xs ≡ filled (select f xs) →
+          (b || any f xs) ≡ filled {A = A} (elim b as (λ k. List A) [ true ↦ x ∷ select f xs | false ↦ select f xs ])
+      go true ih = refl
       go false ih = ih
 
   pub select-short : (xs : List A) → length (select f xs) ≤ length xs

@@ -1,12 +1,15 @@
 -- 01: "When an answer is an enum, a definition gives this paper's number and values for each case of that enum. The promises use that
 -- definition." Assumes nothing.
 -- A refusal is its number. Any other answer is the number of a case, and a value where the case has one; Stopped is 2 everywhere.
+-- 02, Six: a Require has two values, the code required and that of the contradicted output.
 use mathlib.Core.Bool.{Bool, true, false}
 use mathlib.Core.Option.{Option, none, some}
 use Prim.Native.Nat.{ℕ}
 use Rattle.model.specs.declared.Header.{Header}
 use Rattle.model.specs.declared.Deduction.{Deduction}
 use Rattle.model.specs.declared.Deduction.the-variants as deduction
+use Rattle.model.specs.declared.Contradicted.{Contradicted}
+use Rattle.model.specs.declared.Contradicted.the-variants as contradicted
 use Rattle.model.specs.declared.MakeAnswer.{MakeAnswer}
 use Rattle.model.specs.declared.MakeAnswer.the-variants as make-answer
 use Rattle.model.specs.declared.OfferAnswer.{OfferAnswer}
@@ -31,6 +34,7 @@ use Rattle.model.specs.declared.DecideAnswer.the-variants as decide-answ
 pub data Reply : Type 0 where
   refused : ℕ → Reply
   answered : ℕ → ℕ → Reply
+  named : ℕ → ℕ → ℕ → Reply
 
 -- 1 for true, 0 for false
 abbrev pub flagWord : Bool → ℕ
@@ -63,11 +67,11 @@ abbrev pub beginReply : BeginAnswer → Reply
 beginReply (begin-answer.Refused n) = refused n
 beginReply begin-answer.Done = answered 0 0
 
--- 0 Nothing, 1 Force, 3 Require; the value is the code required
+-- 0 Nothing, 1 Force, 3 Require; the values are the code required and the code of the contradicted output
 abbrev pub deductionReply : Deduction → Reply
 deductionReply deduction.Nothing = answered 0 0
 deductionReply deduction.Force = answered 1 0
-deductionReply (deduction.Require l) = answered 3 (l .0)
+deductionReply (deduction.Require l o) = named 3 (l .0) (o .0)
 
 -- a deduction's, or 2 Stopped
 abbrev pub deduceReply : DeduceAnswer → Deduction → Reply
@@ -94,6 +98,11 @@ closeReply (close-answer.Refused n) = refused n
 closeReply close-answer.Stopped = answered 2 0
 closeReply close-answer.Conflict = answered 1 0
 closeReply close-answer.Closed = answered 0 0
+
+-- beside it, 02, Six: 0 none, 1 Output; the value is the output's code
+abbrev pub contradictedReply : Contradicted → Reply
+contradictedReply contradicted.None = answered 0 0
+contradictedReply (contradicted.Output l) = answered 1 (l .0)
 
 -- Seed and deliver: 0 Done, 2 Stopped
 abbrev pub transferReply : TransferAnswer → Reply

@@ -17,7 +17,7 @@ use Rattle.words.specs.Region.{Region, has, holds, contradicts}
 use Rattle.words.proofs.Bits.{some-bit}
 use Rattle.words.proofs.Masks.{bit-of-zero}
 use Rattle.model.specs.Slots.{codesOf}
-use Rattle.model.specs.Deduction.{failing, contradicted}
+use Rattle.model.specs.Deduction.{failing, contradicted, contradictions}
 use Rattle.slots.proofs.Codes.{select-ext, chosenBy, codes-select, chosen-absent, chosen-present, by-place}
 
 -- ---- tests of what is chosen
@@ -112,6 +112,22 @@ module _ (x i : ℕ) (l : i < 64) where
   high = omega arith
 
 module _ (r : Region) (x present absent : ℕ) where
+  -- ---- what passes a test of a group is the group of the bits that pass it
+  passing-codes : (t : ℕ → Bool) (p a : ℕ)
+      → ((i : ℕ) → i < 64 → testBit p i ≡ (testBit present i && t (2 * (64 * x + i) + 1)))
+      → ((i : ℕ) → i < 64 → testBit a i ≡ (testBit absent i && t (2 * (64 * x + i))))
+      → select t (codesOf x present absent) ≡ codesOf x p a
+  passing-codes t p a f g =
+      ap (select t) (codes-select x present absent)
+      ∙ select-select (chosenBy present absent) t (range (2 * 64 * x) (2 * 64))
+      ∙ select-ext (λ z. chosenBy present absent z && t z) (chosenBy p a) (2 * 64) (2 * 64 * x)
+      (by-place (λ z. (chosenBy present absent z && t z) ≡ chosenBy p a z) x
+      (λ i l. ap (λ (s : Bool). s && t (2 * (64 * x + i))) (chosen-absent x present absent i l) ∙ sym (g i l)
+      ∙ sym (chosen-absent x p a i l))
+      (λ i l. ap (λ (s : Bool). s && t (2 * (64 * x + i) + 1)) (chosen-present x present absent i l) ∙ sym (f i l)
+      ∙ sym (chosen-present x p a i l)))
+      ∙ sym (codes-select x p a)
+
   -- ---- what fails of a group is the group of the bits that are open
   pub failing-codes : (p a : ℕ)
       → ((i : ℕ) → i < 64 → testBit p i ≡ (testBit present i && not (testBit (getD (r .held) x 0) i)))
@@ -119,15 +135,20 @@ module _ (r : Region) (x present absent : ℕ) where
       → failing r (codesOf x present absent) ≡ codesOf x p a
   unfolding failing
   failing-codes p a f g =
-      ap (select (λ z. not (holds r z))) (codes-select x present absent)
-      ∙ select-select (chosenBy present absent) (λ z. not (holds r z)) (range (2 * 64 * x) (2 * 64))
-      ∙ select-ext (λ z. chosenBy present absent z && not (holds r z)) (chosenBy p a) (2 * 64) (2 * 64 * x)
-      (by-place (λ z. (chosenBy present absent z && not (holds r z)) ≡ chosenBy p a z) x
-      (λ i l. ap₂ (λ (s h : Bool). s && not h) (chosen-absent x present absent i l) (holds-absent x i l r) ∙ sym (g i l)
-      ∙ sym (chosen-absent x p a i l))
-      (λ i l. ap₂ (λ (s h : Bool). s && not h) (chosen-present x present absent i l) (holds-present x i l r) ∙ sym (f i l)
-      ∙ sym (chosen-present x p a i l)))
-      ∙ sym (codes-select x p a)
+      passing-codes (λ z. not (holds r z)) p a
+      (λ i l. f i l ∙ ap (λ (h : Bool). testBit present i && not h) (sym (holds-present x i l r)))
+      (λ i l. g i l ∙ ap (λ (h : Bool). testBit absent i && not h) (sym (holds-absent x i l r)))
+
+  -- ---- and what is contradicted the group of the bits whose opposite is marked
+  pub contradictions-codes : (p a : ℕ)
+      → ((i : ℕ) → i < 64 → testBit p i ≡ (testBit present i && testBit (getD (r .cut) x 0) i))
+      → ((i : ℕ) → i < 64 → testBit a i ≡ (testBit absent i && testBit (getD (r .held) x 0) i))
+      → contradictions r (codesOf x present absent) ≡ codesOf x p a
+  unfolding contradictions
+  contradictions-codes p a f g =
+      passing-codes (contradicts r) p a
+      (λ i l. f i l ∙ ap (λ (h : Bool). testBit present i && h) (sym (contradicts-present x i l r)))
+      (λ i l. g i l ∙ ap (λ (h : Bool). testBit absent i && h) (sym (contradicts-absent x i l r)))
 
   -- ---- one is contradicted where a word of such bits is not zero
   pub contradicted-codes : (w : ℕ) → w < 2 ^ 64

@@ -15,10 +15,10 @@ use Rattle.words.specs.Region.{Region}
 use Rattle.words.proofs.Bits.{bit-and, bit-or, bit-not, bit-ext, bit-clear-low, bit-and-not}
 use Rattle.words.proofs.Masks.{bit-clear, apart-at-bit, share-yes, share-no, first-bit-lowest}
 use Rattle.model.specs.Slots.{codesOf}
-use Rattle.model.specs.Deduction.{failing, contradicted}
+use Rattle.model.specs.Deduction.{failing, contradicted, contradictions}
 use Rattle.slots.proofs.Codes.{codes-none, first-absent, first-present}
 use Rattle.slots.proofs.Words.{codes-some}
-use Rattle.row_deduce.proofs.Codes.{failing-codes, contradicted-codes}
+use Rattle.row_deduce.proofs.Codes.{failing-codes, contradicted-codes, contradictions-codes}
 
 and-lt-l : (a b : ℕ) → a < 2 ^ 64 → bitAnd a b < 2 ^ 64
 and-lt-l a b h = lt-of-le-of-lt (and-le-l a b) h
@@ -213,16 +213,12 @@ module _ (r : Region) (x present absent : ℕ) (hp : present < 2 ^ 64) (ha : abs
           open-present e
           ∙ ap₂ (λ (i : ℕ) (l : List ℕ). (2 * (64 * x + i) + 1) ∷ l) t-is (codes-none x (clear p) a (rest-present e ∙ one))
 
--- ---- outputs: one is contradicted
-pub outputs-clash : (r : Region) (x present absent : ℕ) → present < 2 ^ 64 → absent < 2 ^ 64
-    → contradicted r (codesOf x present absent)
-    ≡ not (eqb (bitOr (bitAnd absent (getD (r .held) x 0)) (bitAnd present (getD (r .cut) x 0))) 0)
-outputs-clash r x present absent hp ha =
-    let h : ℕ = getD (r .held) x 0 in
-    let c : ℕ = getD (r .cut) x 0 in
-    contradicted-codes r x present absent (bitOr (bitAnd absent h) (bitAnd present c))
-    (or-lt 64 (bitAnd absent h) (bitAnd present c) (and-lt-l absent h ha) (and-lt-l present c hp))
-    (λ i l. bit-or (bitAnd absent h) (bitAnd present c) i ∙ ap₂ (λ (s t : Bool). s || t) (bit-and absent h i) (bit-and present c i))
+-- ---- outputs: those that are contradicted
+pub outputs-contradicted : (r : Region) (x present absent : ℕ)
+    → contradictions r (codesOf x present absent) ≡ codesOf x (bitAnd present (getD (r .cut) x 0)) (bitAnd absent (getD (r .held) x 0))
+outputs-contradicted r x present absent =
+    contradictions-codes r x present absent (bitAnd present (getD (r .cut) x 0)) (bitAnd absent (getD (r .held) x 0))
+    (λ i l. bit-and present (getD (r .cut) x 0) i) (λ i l. bit-and absent (getD (r .held) x 0) i)
 
 -- ---- publication: the masks of what does not hold yet, in a region with no common bit
 abbrev pub unless : ℕ → ℕ → ℕ → ℕ

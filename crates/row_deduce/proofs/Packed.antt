@@ -15,14 +15,15 @@ use Rattle.meter.specs.declared.Meter.{Meter}
 use Rattle.meter.specs.declared.Tick.the-variants.{Ticked}
 use Rattle.meter.specs.Meter.{tickOf}
 use Rattle.model.specs.Slots.{codesOf}
-use Rattle.model.specs.Deduction.{failing, contradicted}
+use Rattle.model.specs.Deduction.{failing, contradicted, contradictions}
 use Rattle.slots.specs.declared.Side.{Side}
+use Rattle.slots.proofs.Codes.{codes-none}
 use Rattle.row_deduce.specs.declared.ConditionState.the-variants as condition
 use Rattle.row_deduce.specs.Chunks.{chunkAt, chunksFrom, chunksOf, groupAt}
 use Rattle.row_deduce.specs.declared.Group.{Group}
 use Rattle.row_deduce.specs.Walks.{codeIn, conditionsRead, readConditions}
 use Rattle.row_deduce.proofs.Groups.{unknown, group-holds, group-clash, group-some, group-two, group-absent, group-present}
-use Rattle.row_deduce.proofs.Groups.{outputs-clash}
+use Rattle.row_deduce.proofs.Groups.{outputs-contradicted}
 use Rattle.row_deduce.proofs.Turns.{Walking, At, at-next, chunk-group, turn-holds, turn-opens, turn-second, turn-clash, turn-two}
 
 -- ---- the code at the lowest bit, by its sign
@@ -118,17 +119,20 @@ module _ (r : Region) (ws : List ℕ) (s : Side) (start : Meter) (opened : Bool)
             group-absent r (k .index) (k .present) (k .absent) (d .present) (d .absent) (d .held) (d .cut) (d .apart) some one z
             ∙ ap (λ (y : ℕ). y ∷ []) (sym (code-absent (k .index) (k .absent) u z))
 
--- ---- an output of the group that stands at g is contradicted
-module _ (r : Region) (ws : List ℕ) (s : Side) (g : ℕ) (k : Group) (packed : s .packed ≡ true) (is : k ≡ groupAt ws s g)
-    (hp : k .present < 2 ^ 64) (ha : k .absent < 2 ^ 64) where
-  abbrev hits : ℕ
-  hits = bitOr (bitAnd (k .absent) (getD (r .held) (k .index) 0)) (bitAnd (k .present) (getD (r .cut) (k .index) 0))
+-- ---- the contradicted outputs of the group that stands at g: the codes of the joined masks, of which the first is taken
+module _ (r : Region) (ws : List ℕ) (s : Side) (g : ℕ) (k : Group) (packed : s .packed ≡ true) (is : k ≡ groupAt ws s g) where
+  abbrev present : ℕ
+  present = bitAnd (k .present) (getD (r .cut) (k .index) 0)
 
-  hits-is : contradicted r (chunkAt ws s g) ≡ not (eqb hits 0)
-  hits-is = ap (contradicted r) (group-chunk ws s g k packed is) ∙ outputs-clash r (k .index) (k .present) (k .absent) hp ha
+  abbrev absent : ℕ
+  absent = bitAnd (k .absent) (getD (r .held) (k .index) 0)
 
-  pub packed-hit : (hits ≡ 0 → ⊥) → contradicted r (chunkAt ws s g) ≡ true
-  packed-hit f = hits-is ∙ ap not (ne-eqb hits 0 f)
+  packed-contradicted : contradictions r (chunkAt ws s g) ≡ codesOf (k .index) present absent
+  packed-contradicted =
+      ap (contradictions r) (group-chunk ws s g k packed is) ∙ outputs-contradicted r (k .index) (k .present) (k .absent)
 
-  pub packed-miss : hits ≡ 0 → contradicted r (chunkAt ws s g) ≡ false
-  packed-miss e = hits-is ∙ ap not (eq-eqb hits 0 e)
+  pub packed-hit : {o : ℕ} {os : List ℕ} → codesOf (k .index) present absent ≡ o ∷ os → contradictions r (chunkAt ws s g) ≡ o ∷ os
+  packed-hit e = packed-contradicted ∙ e
+
+  pub packed-miss : bitOr absent present ≡ 0 → contradictions r (chunkAt ws s g) ≡ []
+  packed-miss e = packed-contradicted ∙ codes-none (k .index) present absent e

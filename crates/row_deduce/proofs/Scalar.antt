@@ -8,18 +8,21 @@ use Rattle.words.specs.Region.{Region, holds, contradicts}
 use Rattle.meter.specs.declared.Meter.{Meter}
 use Rattle.meter.specs.declared.Tick.the-variants.{Ticked}
 use Rattle.meter.specs.Meter.{tickOf}
-use Rattle.model.specs.Deduction.{failing, contradicted}
+use Rattle.model.specs.Deduction.{failing, contradicted, contradictions}
 use Rattle.slots.specs.declared.Side.{Side}
 use Rattle.row_deduce.specs.declared.ConditionState.the-variants as condition
 use Rattle.row_deduce.specs.Chunks.{chunkAt, chunksFrom, chunksOf}
 use Rattle.row_deduce.specs.Walks.{conditionsRead, readConditions}
-use Rattle.row_deduce.proofs.Turns.{Walking, At, at-next, chunk-code, one-holds, one-fails, one-clash, turn-holds, turn-opens}
-use Rattle.row_deduce.proofs.Turns.{turn-second, turn-clash}
+use Rattle.row_deduce.proofs.Turns.{Walking, At, at-next, chunk-code, one-holds, one-fails, one-clash, one-contradicted}
+use Rattle.row_deduce.proofs.Turns.{one-clear, turn-holds, turn-opens, turn-second, turn-clash}
 
 -- the chunk is one code
-pub code-clash : (r : Region) (ws : List ℕ) (s : Side) (g : ℕ) → s .packed ≡ false
-    → contradicted r (chunkAt ws s g) ≡ contradicts r (getD ws (s .base + g) 0)
-code-clash r ws s g p = ap (contradicted r) (chunk-code ws s g p) ∙ one-clash r (getD ws (s .base + g) 0)
+module _ (r : Region) (ws : List ℕ) (s : Side) (g : ℕ) (p : s .packed ≡ false) where
+  pub code-hit : contradicts r (getD ws (s .base + g) 0) ≡ true → contradictions r (chunkAt ws s g) ≡ getD ws (s .base + g) 0 ∷ []
+  code-hit e = ap (contradictions r) (chunk-code ws s g p) ∙ one-contradicted r (getD ws (s .base + g) 0) e
+
+  pub code-miss : contradicts r (getD ws (s .base + g) 0) ≡ false → contradictions r (chunkAt ws s g) ≡ []
+  code-miss e = ap (contradictions r) (chunk-code ws s g p) ∙ one-clear r (getD ws (s .base + g) 0) e
 
 module _ (r : Region) (ws : List ℕ) (s : Side) (start : Meter) (opened : Bool) (code g : ℕ) (m : Meter)
     (w : At r ws s start opened code g m) (more : g < s .count) (form : s .packed ≡ false) (n : Meter) (tick : Ticked n ≡ tickOf m) where

@@ -13,7 +13,7 @@ use Rattle.meter.specs.declared.Tick.the-variants.{Ticked, Stopped}
 use Rattle.meter.specs.Meter.{tickOf}
 use Rattle.model.specs.Records.{groupLength}
 use Rattle.model.specs.Slots.{codesOf}
-use Rattle.model.specs.Deduction.{failing, contradicted, idle}
+use Rattle.model.specs.Deduction.{failing, contradicted, contradictions, idle}
 use Rattle.slots.specs.declared.Side.{Side}
 use Rattle.row_deduce.specs.declared.ConditionState.{ConditionState}
 use Rattle.row_deduce.specs.declared.ConditionState.the-variants as condition
@@ -124,6 +124,14 @@ module _ (r : Region) (c : ℕ) where
   unfolding contradicted any
   one-clash = or-false (contradicts r c)
 
+  pub one-contradicted : contradicts r c ≡ true → contradictions r (c ∷ []) ≡ c ∷ []
+  unfolding contradictions select
+  one-contradicted e = ap (λ (b : Bool). elim b as (λ z. List ℕ) [ true ↦ c ∷ [] | false ↦ [] ]) e
+
+  pub one-clear : contradicts r c ≡ false → contradictions r (c ∷ []) ≡ []
+  unfolding contradictions select
+  one-clear e = ap (λ (b : Bool). elim b as (λ z. List ℕ) [ true ↦ c ∷ [] | false ↦ [] ]) e
+
 -- ---- the look at the end
 pub conditionState-open : (r : Region) (code : ℕ) → idle r (code ∷ []) ≡ false
     → condition.Undecided code ≡ conditionStateOf r (opens true code)
@@ -189,9 +197,9 @@ module _ (r : Region) (ws : List ℕ) (s : Side) (start : Meter) (g : ℕ) (m : 
     pub pass-stopped : {n : Meter} → Stopped n ≡ tickOf m → outputsRead output.Stopped n ≡ readOutputs r (chunksOf ws s) start
     pass-stopped e = clashing-stopped r (chunkAt ws s g) (chunksFrom ws s (s .count - (g + 1)) (g + 1)) m e ∙ pass-next
 
-    pub pass-hit : {n : Meter} → Ticked n ≡ tickOf m → contradicted r (chunkAt ws s g) ≡ true
-        → outputsRead output.Contradicted n ≡ readOutputs r (chunksOf ws s) start
+    pub pass-hit : {n : Meter} {o : ℕ} {os : List ℕ} → Ticked n ≡ tickOf m → contradictions r (chunkAt ws s g) ≡ o ∷ os
+        → outputsRead (output.Contradicted o) n ≡ readOutputs r (chunksOf ws s) start
     pass-hit e f = clashing-hit r (chunkAt ws s g) (chunksFrom ws s (s .count - (g + 1)) (g + 1)) m e f ∙ pass-next
 
-    pub pass-on : {n : Meter} → Ticked n ≡ tickOf m → contradicted r (chunkAt ws s g) ≡ false → Passing r ws s start (g + 1) n
+    pub pass-on : {n : Meter} → Ticked n ≡ tickOf m → contradictions r (chunkAt ws s g) ≡ [] → Passing r ws s start (g + 1) n
     pass-on e f = clashing-on r (chunkAt ws s g) (chunksFrom ws s (s .count - (g + 1)) (g + 1)) m e f ∙ pass-next

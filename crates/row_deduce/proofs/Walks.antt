@@ -1,15 +1,18 @@
 -- The walks of a deduction are its answer and its ticks. Assumes nothing.
-use mathlib.Core.Path.{_≡_, refl, sym, ap, ap₂, _∙_}
-use mathlib.Core.Bool.{Bool, true, false, not, _&&_, _||_, false≢true, or-true}
+use mathlib.Core.Path.{_≡_, refl, sym, ap, ap₂, _∙_, subst}
+use mathlib.Core.Bool.{Bool, true, false, not, _&&_, _||_, true≢false, false≢true, or-true}
 use mathlib.Core.List.{List, [], _∷_, _++_, map, append-assoc, append-nil}
 use Prim.Native.Nat.{ℕ, suc, _+_, _<_}
 use native.Mathlib.Omega.{arith}
 use lib.Dec.{leb}
 use lib.ListN.{length}
 use borrow.Author.Tests.{ne-eqb, le-leb}
-use Rattle.lists.specs.Lists.{any, select, concat}
-use Rattle.lists.proofs.Selects.{select-append}
-use Rattle.lists.proofs.Tests.{any-append}
+use Rattle.lists.specs.Counts.{Sorted}
+use Rattle.lists.specs.Lists.{any, select, filled, concat, least, ascending}
+use Rattle.lists.proofs.Marks.{sorted-select}
+use Rattle.lists.proofs.Selects.{select-append, any-select}
+use Rattle.lists.proofs.Sorts.{sorted-least}
+use Rattle.lists.proofs.Tests.{any-append, ascending-sorted}
 use Rattle.words.specs.Literal.{opposite}
 use Rattle.words.specs.Region.{Region, holds, contradicts}
 use Rattle.meter.specs.declared.Meter.{Meter}
@@ -20,8 +23,8 @@ use Rattle.model.specs.declared.Deduction.{Deduction}
 use Rattle.model.specs.declared.Deduction.the-variants.{Nothing, Force, Require}
 use Rattle.model.specs.Records.{Row}
 use Rattle.model.specs.Rows.{packed}
-use Rattle.model.specs.Deduction.{failing, contradicted, idle, deduceFrom, deduction, chunks, conditionLooks, outputLooks, looksOn}
-use Rattle.model.specs.Deduction.{deductionTicks}
+use Rattle.model.specs.Deduction.{failing, contradicted, contradictions, idle, deduceFrom, deduction, chunks, conditionLooks}
+use Rattle.model.specs.Deduction.{outputLooks, looksOn, deductionTicks}
 use Rattle.model.proofs.Packing.{Under, concat-groups}
 use Rattle.row_deduce.specs.declared.ConditionState.{ConditionState}
 use Rattle.row_deduce.specs.declared.ConditionState.the-variants as condition
@@ -38,16 +41,22 @@ abbrev conditionsReadBy : ConditionState → Tick → ConditionsRead
 conditionsReadBy l (Ticked n) = conditionsRead l n
 conditionsReadBy l (Stopped n) = conditionsRead condition.Stopped n
 
-abbrev outputsReadBy : Bool → Tick → OutputsRead
-outputsReadBy b (Ticked n) = outputsRead (elim b [ true ↦ output.Contradicted | false ↦ output.Clear ]) n
-outputsReadBy b (Stopped n) = outputsRead output.Stopped n
+-- what the contradicted outputs leave
+abbrev outputStateOf : List ℕ → OutputState
+outputStateOf [] = output.Clear
+outputStateOf (o ∷ os) = output.Contradicted o
 
--- what a look says, given whether an output is contradicted; whether it leaves one condition undecided
-abbrev says : ConditionState → Bool → Deduction
-says condition.Stopped b = Nothing
-says condition.Idle b = Nothing
-says condition.Holds b = Force
-says (condition.Undecided c) b = elim b [ true ↦ Require (literal (opposite c)) | false ↦ Nothing ]
+abbrev outputsReadBy : List ℕ → Tick → OutputsRead
+outputsReadBy os (Ticked n) = outputsRead (outputStateOf os) n
+outputsReadBy os (Stopped n) = outputsRead output.Stopped n
+
+-- what a look says, given the contradicted outputs; whether it leaves one condition undecided
+abbrev says : ConditionState → List ℕ → Deduction
+says condition.Stopped os = Nothing
+says condition.Idle os = Nothing
+says condition.Holds os = Force
+says (condition.Undecided c) [] = Nothing
+says (condition.Undecided c) (o ∷ os) = Require (literal (opposite c)) (literal o)
 
 abbrev isOpen : ConditionState → Bool
 isOpen condition.Stopped = false
@@ -64,6 +73,21 @@ module _ (r : Region) where
   pub contradicted-append : (xs ys : List ℕ) → contradicted r (xs ++ ys) ≡ (contradicted r xs || contradicted r ys)
   unfolding contradicted
   contradicted-append xs ys = any-append (contradicts r) xs ys
+
+  contradictions-append : (xs ys : List ℕ) → contradictions r (xs ++ ys) ≡ contradictions r xs ++ contradictions r ys
+  unfolding contradictions
+  contradictions-append xs ys = select-append (contradicts r) xs ys
+
+  contradicted-filled : (xs : List ℕ) → contradicted r xs ≡ filled (contradictions r xs)
+  unfolding contradicted contradictions
+  contradicted-filled xs = any-select (contradicts r) xs
+
+  -- of ascending outputs the least contradicted one is the first
+  contradictions-least : (xs : List ℕ) → ascending xs ≡ true → (o : ℕ) (os : List ℕ) → contradictions r xs ≡ o ∷ os
+      → least (contradictions r xs) ≡ o
+  unfolding contradictions
+  contradictions-least xs a o os e =
+      ap least e ∙ sorted-least o os (subst Sorted e (sorted-select (contradicts r) xs (ascending-sorted xs a)))
 
   -- ---- nothing follows
   pub idle-two : (c d : ℕ) (cs : List ℕ) → idle r (c ∷ d ∷ cs) ≡ true
@@ -125,12 +149,12 @@ module _ (r : Region) where
     unfolding readOutputs
     clashing-stopped e = rw (sym e, readOutputs)
 
-    pub clashing-hit : {n : Meter} → Ticked n ≡ tickOf m → contradicted r k ≡ true
-        → outputsRead output.Contradicted n ≡ readOutputs r (k ∷ ks) m
+    pub clashing-hit : {n : Meter} {o : ℕ} {os : List ℕ} → Ticked n ≡ tickOf m → contradictions r k ≡ o ∷ os
+        → outputsRead (output.Contradicted o) n ≡ readOutputs r (k ∷ ks) m
     unfolding readOutputs
     clashing-hit e f = rw (sym e, f, readOutputs)
 
-    pub clashing-on : {n : Meter} → Ticked n ≡ tickOf m → contradicted r k ≡ false → readOutputs r ks n ≡ readOutputs r (k ∷ ks) m
+    pub clashing-on : {n : Meter} → Ticked n ≡ tickOf m → contradictions r k ≡ [] → readOutputs r ks n ≡ readOutputs r (k ∷ ks) m
     unfolding readOutputs
     clashing-on e f = rw (sym e, f, readOutputs)
 
@@ -170,25 +194,29 @@ module _ (r : Region) where
           ih n ∙ ap (λ (l : List ℕ). conditionsReadBy (conditionStateOf r l) (ticks (conditionLooks r gs ks) n)) joined
 
   clashing-is : (ks : List (List ℕ)) (m : Meter)
-      → readOutputs r ks m ≡ outputsReadBy (contradicted r (concat ks)) (ticks (outputLooks r ks) m)
-  unfolding readOutputs ticks outputLooks concat contradicted any
+      → readOutputs r ks m ≡ outputsReadBy (contradictions r (concat ks)) (ticks (outputLooks r ks) m)
+  unfolding readOutputs ticks outputLooks concat contradictions select
   clashing-is [] m = refl
-  clashing-is (k ∷ ks) m = byTick (tickOf m) (contradicted r k) refl (clashing-is ks)
+  clashing-is (k ∷ ks) m =
+      byTick (tickOf m) (contradictions r k) (contradicted r k) (contradicted-filled k)
+      (contradictions-append k (concat ks)) (clashing-is ks)
     where
-      byTick : (t : Tick) (b : Bool) → contradicted r k ≡ b
-          → ((n : Meter) → readOutputs r ks n ≡ outputsReadBy (contradicted r (concat ks)) (ticks (outputLooks r ks) n))
+      later : List ℕ
+      later = contradictions r (concat ks)
+
+      byTick : (t : Tick) (os : List ℕ) (b : Bool) → b ≡ filled os → contradictions r (k ++ concat ks) ≡ os ++ later
+          → ((n : Meter) → readOutputs r ks n ≡ outputsReadBy later (ticks (outputLooks r ks) n))
           → (elim t as (λ z. OutputsRead) [
             | Stopped n ↦ outputsRead output.Stopped n
-            | Ticked n ↦ elim b as (λ z. OutputsRead) [ true ↦ outputsRead output.Contradicted n | false ↦ readOutputs r ks n ]
+            | Ticked n ↦ elim os as (λ z. OutputsRead) [ [] ↦ readOutputs r ks n | o ∷ os ↦ outputsRead (output.Contradicted o) n ]
           ])
-          ≡ outputsReadBy (contradicted r (k ++ concat ks)) (onTick t (ticks (elim b as (λ z. ℕ) [ true ↦ 0 | false ↦ outputLooks r ks ])))
-      byTick (Stopped n) b f ih = refl
-      byTick (Ticked n) true f ih =
-          ap (λ (x : Bool). outputsRead (elim x as (λ z. OutputState) [ true ↦ output.Contradicted | false ↦ output.Clear ]) n)
-          (sym (contradicted-append k (concat ks) ∙ ap (λ (x : Bool). x || contradicted r (concat ks)) f))
-      byTick (Ticked n) false f ih =
-          ih n ∙ ap (λ (x : Bool). outputsReadBy x (ticks (outputLooks r ks) n))
-          (sym (contradicted-append k (concat ks) ∙ ap (λ (x : Bool). x || contradicted r (concat ks)) f))
+          ≡ outputsReadBy (contradictions r (k ++ concat ks))
+          (onTick t (ticks (elim b as (λ z. ℕ) [ true ↦ 0 | false ↦ outputLooks r ks ])))
+      byTick (Stopped n) os b f j ih = refl
+      byTick (Ticked n) [] true f j ih = absurd (true≢false f)
+      byTick (Ticked n) [] false f j ih = ih n ∙ ap (λ (l : List ℕ). outputsReadBy l (ticks (outputLooks r ks) n)) (sym j)
+      byTick (Ticked n) (o ∷ os) true f j ih = ap (λ (l : List ℕ). outputsRead (outputStateOf l) n) (sym j)
+      byTick (Ticked n) (o ∷ os) false f j ih = absurd (false≢true f)
 
   -- ---- back from the end of a walk
   conditionState-never : (fs : List ℕ) → conditionStateOf r fs ≡ condition.Stopped → ⊥
@@ -212,15 +240,22 @@ module _ (r : Region) where
   looked-ticked l fs (Stopped n) k f e = absurd (f (ap (λ (x : ConditionsRead). x .state) e))
 
   -- ---- the deduction by the look, and whether outputs are looked at
-  says-conditionState : (s : Row) (fs : List ℕ) → deduceFrom r s fs ≡ says (conditionStateOf r fs) (contradicted r (s .outputs))
+  says-conditionState : (s : Row) (fs : List ℕ) → ascending (s .outputs) ≡ true
+      → deduceFrom r s fs ≡ says (conditionStateOf r fs) (contradictions r (s .outputs))
   unfolding deduceFrom conditionStateOf
-  says-conditionState s [] = refl
-  says-conditionState s (c ∷ cs) = go (idle r (c ∷ cs)) (contradicted r (s .outputs))
+  says-conditionState s [] a = refl
+  says-conditionState s (c ∷ cs) a =
+      go (idle r (c ∷ cs)) (contradicted r (s .outputs)) (contradictions r (s .outputs)) (contradicted-filled (s .outputs))
+      (contradictions-least (s .outputs) a)
     where
-      go : (b d : Bool) → (elim (not b && d) as (λ z. Deduction) [ true ↦ Require (literal (opposite c)) | false ↦ Nothing ])
-          ≡ says (elim b as (λ z. ConditionState) [ true ↦ condition.Idle | false ↦ condition.Undecided c ]) d
-      go true d = refl
-      go false d = refl
+      go : (b d : Bool) (os : List ℕ) → d ≡ filled os → ((p : ℕ) (ps : List ℕ) → os ≡ p ∷ ps → least os ≡ p)
+          → (elim (not b && d) as (λ z. Deduction) [ true ↦ Require (literal (opposite c)) (literal (least os)) | false ↦ Nothing ])
+          ≡ says (elim b as (λ z. ConditionState) [ true ↦ condition.Idle | false ↦ condition.Undecided c ]) os
+      go true d os f l = refl
+      go false true [] f l = absurd (true≢false f)
+      go false true (p ∷ ps) f l = ap (λ (x : ℕ). Require (literal (opposite c)) (literal x)) (l p ps refl)
+      go false false [] f l = refl
+      go false false (p ∷ ps) f l = absurd (false≢true f)
 
   looks-conditionState : (fs : List ℕ) → looksOn r fs ≡ isOpen (conditionStateOf r fs)
   unfolding looksOn conditionStateOf
@@ -265,7 +300,7 @@ module _ (r : Region) (s : Row) (m : Meter) where
   unfolding deductionTicks ticks
   deduced-stopped e = rw (sym e, ticks)
 
-  module _ (n : Meter) (first : Ticked n ≡ tickOf m) where
+  module _ (n : Meter) (first : Ticked n ≡ tickOf m) (rise : ascending (s .outputs) ≡ true) where
     both : ticks (deductionTicks r s) m
         ≡ onTick (ticks (conditionLooks r [] conditionsOf) n)
         (ticks (elim (looksOn r fails) as (λ z. ℕ) [ true ↦ outputLooks r outputsOf | false ↦ 0 ]))
@@ -302,9 +337,9 @@ module _ (r : Region) (s : Row) (m : Meter) where
           ∙ ap₂ (λ (t : Tick) (b : Bool). onTick t (ticks (elim b as (λ z. ℕ) [ true ↦ outputLooks r outputsOf | false ↦ 0 ])))
           (seen .0) (looks-conditionState r fails ∙ ap isOpen (seen .1))
 
-      said : deduction r s ≡ says l (contradicted r (s .outputs))
+      said : deduction r s ≡ says l (contradictions r (s .outputs))
       unfolding deduction
-      said = says-conditionState r s fails ∙ ap (λ (x : ConditionState). says x (contradicted r (s .outputs))) (seen .1)
+      said = says-conditionState r s fails rise ∙ ap (λ (x : ConditionState). says x (contradictions r (s .outputs))) (seen .1)
 
     pub deduced-idle : {k : Meter} → conditionsRead condition.Idle k ≡ readConditions r [] (chunks (packed s) (s .conditions)) n
         → ended Nothing false m k ≡ deduced (deduction r s) m (ticks (deductionTicks r s) m)
@@ -328,22 +363,22 @@ module _ (r : Region) (s : Row) (m : Meter) where
       open-is : conditionStateOf r fails ≡ condition.Undecided c
       open-is = seen (condition.Undecided c) k real e .1
 
-      clashes : readOutputs r outputsOf k ≡ outputsReadBy (contradicted r (s .outputs)) (ticks (deductionTicks r s) m)
+      clashes : readOutputs r outputsOf k ≡ outputsReadBy (contradictions r (s .outputs)) (ticks (deductionTicks r s) m)
       clashes =
           clashing-is r outputsOf k
-          ∙ ap₂ (λ (l : List ℕ) (t : Tick). outputsReadBy (contradicted r l) t) (concat-chunks (packed s) (s .outputs))
+          ∙ ap₂ (λ (l : List ℕ) (t : Tick). outputsReadBy (contradictions r l) t) (concat-chunks (packed s) (s .outputs))
           (sym (rest (condition.Undecided c) k real e))
 
-      ending : (b : Bool) (t : Tick) (x : OutputsRead) → x ≡ outputsReadBy b t
-          → concluded c m x ≡ deduced (says (condition.Undecided c) b) m t
-      ending true (Ticked i) x q = ap (concluded c m) q
-      ending false (Ticked i) x q = ap (concluded c m) q
-      ending b (Stopped i) x q = ap (concluded c m) q
+      ending : (os : List ℕ) (t : Tick) (x : OutputsRead) → x ≡ outputsReadBy os t
+          → concluded c m x ≡ deduced (says (condition.Undecided c) os) m t
+      ending [] (Ticked i) x q = ap (concluded c m) q
+      ending (o ∷ os) (Ticked i) x q = ap (concluded c m) q
+      ending os (Stopped i) x q = ap (concluded c m) q
 
       pub deduced-open : (x : OutputsRead) → x ≡ readOutputs r (chunks (packed s) (s .outputs)) k
           → concluded c m x ≡ deduced (deduction r s) m (ticks (deductionTicks r s) m)
       deduced-open x q =
-          ending (contradicted r (s .outputs)) (ticks (deductionTicks r s) m) x (q ∙ clashes)
+          ending (contradictions r (s .outputs)) (ticks (deductionTicks r s) m) x (q ∙ clashes)
           ∙ ap (λ (d : Deduction). deduced d m (ticks (deductionTicks r s) m)) (sym (said (condition.Undecided c) k real e))
 
 -- ---- an undecided condition is one of the row's
@@ -378,3 +413,19 @@ module _ (r : Region) where
       (e ∙ looking-is r [] (chunks (packed s) (s .conditions)) n
       ∙ ap (λ (l : List ℕ). conditionsReadBy (conditionStateOf r (failing r l))
       (ticks (conditionLooks r [] (chunks (packed s) (s .conditions))) n)) (concat-chunks (packed s) (s .conditions))) .1)
+
+  -- ---- and a contradicted output one of its outputs
+  pub contradicted-under : (t : ℕ) (s : Row) (n : Meter) (o : ℕ) (k : Meter) → Under t (s .outputs)
+      → outputsRead (output.Contradicted o) k ≡ readOutputs r (chunks (packed s) (s .outputs)) n → o < t
+  unfolding contradictions
+  contradicted-under t s n o k u e =
+      go (contradictions r (s .outputs)) (ticks (outputLooks r (chunks (packed s) (s .outputs))) n)
+      (select-under (contradicts r) t (s .outputs) u)
+      (e ∙ clashing-is r (chunks (packed s) (s .outputs)) n
+      ∙ ap (λ (l : List ℕ). outputsReadBy (contradictions r l) (ticks (outputLooks r (chunks (packed s) (s .outputs))) n))
+      (concat-chunks (packed s) (s .outputs)))
+    where
+      go : (os : List ℕ) (tick : Tick) → Under t os → outputsRead (output.Contradicted o) k ≡ outputsReadBy os tick → o < t
+      go [] (Ticked i) v q = (let z : _≡_ {A = ℕ} 0 1 = cc in absurd (omega arith))
+      go (p ∷ ps) (Ticked i) v q = (let z : o ≡ p = cc in let h = v .0 in omega arith)
+      go os (Stopped i) v q = (let z : _≡_ {A = ℕ} 0 1 = cc in absurd (omega arith))

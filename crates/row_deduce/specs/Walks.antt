@@ -14,7 +14,7 @@ use Rattle.meter.specs.Meter.{tickOf, made}
 use Rattle.model.specs.declared.Literal.{Literal}
 use Rattle.model.specs.declared.Deduction.{Deduction}
 use Rattle.model.specs.declared.Deduction.the-variants.{Nothing, Require}
-use Rattle.model.specs.Deduction.{failing, contradicted, idle}
+use Rattle.model.specs.Deduction.{failing, contradictions, idle}
 use Rattle.row_deduce.specs.declared.ConditionState.{ConditionState}
 use Rattle.row_deduce.specs.declared.ConditionState.the-variants as condition
 use Rattle.row_deduce.specs.declared.ConditionsRead.{ConditionsRead}
@@ -54,13 +54,13 @@ readConditions r fs (k ∷ ks) m =
 abbrev pub outputsRead : OutputState → Meter → OutputsRead
 outputsRead c m = record { state = c; meter = m }
 
--- the outputs from here on, by chunks
+-- the outputs from here on, by chunks, up to the first that is contradicted
 unfoldable pub readOutputs : Region → List (List ℕ) → Meter → OutputsRead
 readOutputs r [] m = outputsRead output.Clear m
 readOutputs r (k ∷ ks) m =
     elim (tickOf m) [
       | Stopped n ↦ outputsRead output.Stopped n
-      | Ticked n ↦ elim (contradicted r k) [ true ↦ outputsRead output.Contradicted n | false ↦ readOutputs r ks n ]
+      | Ticked n ↦ elim (contradictions r k) [ [] ↦ readOutputs r ks n | o ∷ os ↦ outputsRead (output.Contradicted o) n ]
     ]
 
 -- a deduction, or that it was stopped, with the ticks made since the meter stood at `before`
@@ -71,7 +71,7 @@ ended d b before after = record { deduction = d; stopped = b; meter = after; tic
 abbrev pub outputEnd : ℕ → OutputState → Meter → Meter → Deduced
 outputEnd c output.Stopped before after = ended Nothing true before after
 outputEnd c output.Clear before after = ended Nothing false before after
-outputEnd c output.Contradicted before after = ended (Require (literal (opposite c))) false before after
+outputEnd c (output.Contradicted o) before after = ended (Require (literal (opposite c)) (literal o)) false before after
 
 abbrev pub concluded : ℕ → Meter → OutputsRead → Deduced
 concluded c m k = outputEnd c (k .state) m (k .meter)

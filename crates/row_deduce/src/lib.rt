@@ -44,11 +44,11 @@ pub struct ConditionsRead {
     pub meter: Meter,
 }
 
-// Whether an output of a row is contradicted.
+// Whether an output of a row is contradicted, and the least that is.
 pub enum OutputState {
     Stopped,
     Clear,
-    Contradicted,
+    Contradicted(u64),
 }
 
 pub struct OutputsRead {
@@ -223,9 +223,12 @@ fn packed_outputs(slot: &[u64], side: Side, held: &[u64], cut: &[u64], work: Met
         }
         let k = group_at(slot, side, g);
         let index = k.index;
-        if (k.absent & held[index]) | (k.present & cut[index]) != 0 {
+        let absent = k.absent & held[index];
+        let present = k.present & cut[index];
+        if absent | present != 0 {
+            let p = slots::take(index as u64, present, absent);
             return OutputsRead {
-                state: OutputState::Contradicted,
+                state: OutputState::Contradicted(p.code),
                 meter: meter,
             };
         }
@@ -255,9 +258,10 @@ fn scalar_outputs(slot: &[u64], side: Side, held: &[u64], cut: &[u64], work: Met
             }
         }
         let at = side.base + g;
-        if words::contradicts(held, cut, slot[at]) {
+        let literal = slot[at];
+        if words::contradicts(held, cut, literal) {
             return OutputsRead {
-                state: OutputState::Contradicted,
+                state: OutputState::Contradicted(literal),
                 meter: meter,
             };
         }
@@ -284,7 +288,7 @@ fn conditions(slot: &[u64], held: &[u64], cut: &[u64], work: Meter) -> Condition
     }
 }
 
-// Whether an output of a row is contradicted in a region.
+// Whether an output of a row is contradicted in a region, and the first that is.
 fn outputs(slot: &[u64], held: &[u64], cut: &[u64], work: Meter) -> OutputsRead
     requires { ⌜ Matched (now slot) (now held) (now cut) ⌝ }
     ensures { λ r. ⌜ r
@@ -323,7 +327,7 @@ fn ended(deduction: Deduction, stopped: bool, before: Meter, after: Meter) -> De
     }
 }
 
-// Where the condition `code` alone is undecided: its opposite is required if an output is contradicted.
+// Where the condition `code` alone is undecided: its opposite is required if an output is contradicted, and the least of those is named.
 fn concluded(
     slot: &[u64],
     held: &[u64],
@@ -342,8 +346,11 @@ fn concluded(
     match state {
         OutputState::Stopped => ended(Deduction::Nothing, true, before, found.meter),
         OutputState::Clear => ended(Deduction::Nothing, false, before, found.meter),
-        OutputState::Contradicted => ended(
-            Deduction::Require(negation(code)),
+        OutputState::Contradicted(output) => ended(
+            Deduction::Require {
+                required: negation(code),
+                contradicted: Literal(output as u16),
+            },
             false,
             before,
             found.meter,
@@ -352,7 +359,7 @@ fn concluded(
 }
 
 // What a row says of a region. Force: its conditions all hold. Require: one is undecided, the others hold, and an output is
-// contradicted. Nothing: else. Stopped: the ticks were not all made.
+// contradicted; the least of those is named. Nothing: else. Stopped: the ticks were not all made.
 pub fn deduction(slot: &[u64], held: &[u64], cut: &[u64], work: Meter) -> Deduced
     requires { ⌜ Matched (now slot) (now held) (now cut) ⌝ }
     ensures { λ r. ⌜ r ≡ deduced (deduction (region (now (held .entry)) (now (cut .entry))) (rowIn (now (slot .entry)))) work

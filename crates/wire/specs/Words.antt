@@ -28,7 +28,7 @@ abbrev pub cursorLength : ℕ
 cursorLength = 4
 
 abbrev pub answerLength : ℕ
-answerLength = 3
+answerLength = 4
 
 abbrev pub flagIn : ℕ → Bool
 flagIn w = not (eqb w 0)

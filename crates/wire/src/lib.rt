@@ -3,16 +3,17 @@
 ghost use mathlib.Core.Path.{_≡_};
 ghost use Rattle.wire.specs.Words.{limitsIn, markWords, markIn, headerWords, headerIn, meterWords, meterIn, cursorWords};
 ghost use Rattle.wire.specs.Words.{cursorIn};
-ghost use Rattle.model.specs.Answers.{refused as refusedBy, answered as answeredBy, flagWord, makeReply, madeHeader, offerReply};
-ghost use Rattle.model.specs.Answers.{hitReply, beginReply, deduceReply, nextReply, candidatesReply, closeReply, transferReply};
-ghost use Rattle.model.specs.Answers.{deductionReply, decideReply};
-ghost use Rattle.wire.specs.Replies.{replyWords, answerWords, madeWords};
+ghost use Rattle.model.specs.Answers.{refused as refusedBy, answered as answeredBy, named as namedBy, flagWord, makeReply};
+ghost use Rattle.model.specs.Answers.{madeHeader, offerReply, hitReply, beginReply, deduceReply, nextReply, candidatesReply, closeReply};
+ghost use Rattle.model.specs.Answers.{contradictedReply, transferReply, deductionReply, decideReply};
+ghost use Rattle.wire.specs.Replies.{replyWords, closeWords, answerWords, madeWords};
 use meter::Capture;
 use meter::Meter;
 use meter::Sharing;
 use model::BeginAnswer;
 use model::CandidatesAnswer;
 use model::CloseAnswer;
+use model::Contradicted;
 use model::DecideAnswer;
 use model::DeduceAnswer;
 use model::Deduction;
@@ -35,7 +36,7 @@ pub const METER_WORDS: usize = 2;
 
 pub const CURSOR_WORDS: usize = 4;
 
-pub const ANSWER_WORDS: usize = 3;
+pub const ANSWER_WORDS: usize = 4;
 
 // Where each word of a header stands. The limits are its first ten, in their order.
 pub const HEAD_ATOMS_AT: usize = 0;
@@ -88,11 +89,13 @@ pub const HEAD_MARK_NUMBER_AT: usize = 23;
 
 pub const HEAD_MARK_BORN_AT: usize = 24;
 
-// An answer as numbers: `refusal` is the number of a refusal, or 0; then `case` and `value` say which answer it is.
+// An answer as numbers: `refusal` is the number of a refusal, or 0; then `case` and `value` say which answer it is, and `contradicted` is the
+// code of the output that it names, or 0.
 pub struct ReplyWords {
     pub refusal: u64,
     pub case: u64,
     pub value: u64,
+    pub contradicted: u64,
 }
 
 // 1 for true, 0 for false.
@@ -260,11 +263,11 @@ pub fn put_cursor(cursor: OutputCursor, words: &mut [u64; CURSOR_WORDS])
     *words = [cursor.next, cursor.word, cursor.present, cursor.absent];
 }
 
-// Writes an answer that is no refusal: case, value, ticks.
+// Writes an answer that is no refusal: case, value, ticks, and the code of the output that it names.
 pub fn put_answer(reply: ReplyWords, ticks: u64, words: &mut [u64; ANSWER_WORDS])
     ensures { λ _. ⌜ now (words .exit) ≡ answerWords reply ticks ⌝ }
 {
-    *words = [reply.case, reply.value, ticks];
+    *words = [reply.case, reply.value, ticks, reply.contradicted];
 }
 
 // Writes the header that was made; a refused Make leaves the words.
@@ -285,6 +288,7 @@ fn refused(n: u64) -> ReplyWords
         refusal: n,
         case: 0,
         value: 0,
+        contradicted: 0,
     }
 }
 
@@ -292,10 +296,18 @@ fn refused(n: u64) -> ReplyWords
 fn answered(case: u64, value: u64) -> ReplyWords
     ensures { λ r. ⌜ r ≡ replyWords (answeredBy case value) ⌝ }
 {
+    named(case, value, 0)
+}
+
+// An answer that names an output.
+fn named(case: u64, value: u64, contradicted: u64) -> ReplyWords
+    ensures { λ r. ⌜ r ≡ replyWords (namedBy case value contradicted) ⌝ }
+{
     ReplyWords {
         refusal: 0,
         case,
         value,
+        contradicted,
     }
 }
 
@@ -354,14 +366,16 @@ pub fn deduce_reply(a: DeduceAnswer, d: Deduction) -> ReplyWords
     }
 }
 
-// 0 Nothing, 1 Force, 3 Require with the code.
+// 0 Nothing, 1 Force, 3 Require with the code required and the output contradicted.
 fn deduction_reply(d: Deduction) -> ReplyWords
     ensures { λ r. ⌜ r ≡ replyWords (deductionReply d) ⌝ }
 {
     match d {
         Deduction::Nothing => answered(0, 0),
         Deduction::Force => answered(1, 0),
-        Deduction::Require(l) => answered(3, l.0 as u64),
+        Deduction::Require { required, contradicted } => {
+            named(3, required.0 as u64, contradicted.0 as u64)
+        }
     }
 }
 
@@ -388,15 +402,25 @@ pub fn candidates_reply(a: CandidatesAnswer) -> ReplyWords
     }
 }
 
-// Refused by a number; 0 Closed, 1 Conflict, 2 Stopped.
-pub fn close_reply(a: CloseAnswer) -> ReplyWords
-    ensures { λ r. ⌜ r ≡ replyWords (closeReply a) ⌝ }
+// Refused by a number; 0 Closed, 1 Conflict, 2 Stopped; the value is 1 if an output is named, and else 0.
+pub fn close_reply(a: CloseAnswer, o: Contradicted) -> ReplyWords
+    ensures { λ r. ⌜ r ≡ closeWords (closeReply a) (contradictedReply o) ⌝ }
 {
     match a {
         CloseAnswer::Refused(n) => refused(n),
-        CloseAnswer::Stopped => answered(2, 0),
-        CloseAnswer::Conflict => answered(1, 0),
-        CloseAnswer::Closed => answered(0, 0),
+        CloseAnswer::Stopped => closed(2, o),
+        CloseAnswer::Conflict => closed(1, o),
+        CloseAnswer::Closed => closed(0, o),
+    }
+}
+
+// The end of a closing that was not refused, with the output that it names.
+fn closed(case: u64, o: Contradicted) -> ReplyWords
+    ensures { λ r. ⌜ r ≡ closeWords (answeredBy case 0) (contradictedReply o) ⌝ }
+{
+    match o {
+        Contradicted::None => answered(case, 0),
+        Contradicted::Output(l) => named(case, 1, l.0 as u64),
     }
 }
 

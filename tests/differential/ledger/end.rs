@@ -4,7 +4,7 @@ use oracle::{Answer, Masks};
 
 use crate::call::Call;
 use crate::generate::{Ledgers, masks};
-use crate::layout::{POSTINGS, SLOT};
+use crate::layout::{ANSWER, POSTINGS, SLOT};
 
 /// What stands in the words of answers and scratch before a call.
 pub const USED: u64 = 0x5a5a_0123_4567_89ab;
@@ -22,8 +22,8 @@ pub enum Scratch {
 pub struct End {
     /// 0, or the number of the refusal.
     pub result: u64,
-    /// Case, value, ticks.
-    pub answer: [u64; 3],
+    /// Case, value, ticks, contradicted.
+    pub answer: [u64; ANSWER],
     /// Charged, limit.
     pub meter: [u64; 2],
     pub cursor: [u64; 4],
@@ -62,7 +62,7 @@ impl End {
             .map_or([0; 2], |meter| [meter.charged, meter.limit]);
         Self {
             result: 0,
-            answer: [USED; 3],
+            answer: [USED; ANSWER],
             meter,
             cursor,
             region,
@@ -91,13 +91,23 @@ impl End {
             Answer::Output(code) => (1, code),
             Answer::Stopped => (2, 0),
             Answer::Declined => (3, 0),
-            Answer::Require(code) => (3, code),
+            Answer::Require { required, .. } => (3, required),
             Answer::Subsumed(position) => (4, position),
             Answer::Added(position) => (5, position),
             Answer::Refused(_) => unreachable!("a refusal has no words"),
         };
-        self.answer = [case, value, charge];
+        let contradicted = match answer {
+            Answer::Require { contradicted, .. } => contradicted,
+            _ => 0,
+        };
+        self.answer = [case, value, charge, contradicted];
         self.meter[0] += charge;
+    }
+
+    /// The words of a closing that names an output: that there is one, and its code.
+    pub fn names(&mut self, contradicted: u64) {
+        self.answer[1] = 1;
+        self.answer[3] = contradicted;
     }
 }
 

@@ -57,6 +57,7 @@ fn transfer(
 /// Runs a call. None: it is no call, or names a ledger that is not made.
 pub fn run(call: &Call, ledgers: &mut Ledgers) -> Option<Ended> {
     let mut end = End::lent(call, ledgers);
+    let mut named = None;
     let done = match call {
         Call::Make {
             place,
@@ -77,9 +78,13 @@ pub fn run(call: &Call, ledgers: &mut Ledgers) -> Option<Ended> {
             end.region = closed.region;
             done(closed.answer, 0)
         }
-        call => one(call, ledgers[call.places().0?].as_mut()?, &mut end)?,
+        call => {
+            let ledger = ledgers[call.places().0?].as_mut()?;
+            one(call, ledger, &mut end, &mut named)?
+        }
     };
     end.answered(done.answer, done.charge);
+    named.into_iter().for_each(|code| end.names(code));
     Some(Ended {
         answer: done.answer,
         end,
@@ -100,8 +105,13 @@ fn made(ledgers: &mut Ledgers, place: usize, result: Result<Ledger, u64>) -> Don
     done(answer, 0)
 }
 
-/// A call of one ledger.
-fn one(call: &Call, ledger: &mut Ledger, end: &mut End) -> Option<Done> {
+/// A call of one ledger. `named` is the output that a closing names.
+fn one(
+    call: &Call,
+    ledger: &mut Ledger,
+    end: &mut End,
+    named: &mut Option<u64>,
+) -> Option<Done> {
     let room = call.meter().map_or(0, Meter::room);
     let done = match call {
         Call::Offer {
@@ -121,7 +131,7 @@ fn one(call: &Call, ledger: &mut Ledger, end: &mut End) -> Option<Done> {
             end.cursor = parts::words(published.cursor);
             done(published.answer, published.charge)
         }
-        Call::Close { .. } => close(ledger, room, end),
+        Call::Close { .. } => close(ledger, room, end, named),
         Call::Set { field, value, .. } => {
             set(ledger, *field, *value);
             return None;
@@ -142,11 +152,12 @@ fn search(ledger: &mut Ledger, atoms: &[u64], room: u64, end: &mut End) -> Done 
     done(found.answer, found.charge)
 }
 
-fn close(ledger: &mut Ledger, room: u64, end: &mut End) -> Done {
+fn close(ledger: &mut Ledger, room: u64, end: &mut End, named: &mut Option<u64>) -> Done {
     let closed = ledger.close(end.region.clone(), room);
     if !matches!(closed.answer, Answer::Refused(_)) {
         end.scratch = Scratch::Zeroed;
     }
     end.region = closed.region;
+    *named = closed.contradicted;
     done(closed.answer, closed.charge)
 }

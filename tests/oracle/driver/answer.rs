@@ -16,7 +16,7 @@ pub enum Answer {
     Found,
     Nothing,
     Force,
-    Require(u64),
+    Require { required: u64, contradicted: u64 },
     Output(u64),
     End,
     Closed,
@@ -31,7 +31,10 @@ impl fmt::Display for Answer {
             Self::Refused(number) => write!(f, "Refused {number}"),
             Self::Subsumed(position) => write!(f, "Subsumed {position}"),
             Self::Added(position) => write!(f, "Added {position}"),
-            Self::Require(code) => write!(f, "Require {code}"),
+            Self::Require {
+                required,
+                contradicted,
+            } => write!(f, "Require {required} contradicted={contradicted}"),
             Self::Output(code) => write!(f, "Output {code}"),
             plain => write!(f, "{plain:?}"),
         }

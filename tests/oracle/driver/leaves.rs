@@ -7,7 +7,7 @@ use zetesis_algebra::words::Words;
 use zetesis_ferraris::regions::{Cursor, Leaves, Metered, Work, metered};
 
 use crate::answer::Answer;
-use crate::ledger::{Done, Published, deduced};
+use crate::ledger::{Done, Published, contradicted, deduced};
 use crate::literals::{code, codes, groups, literals};
 
 /// `Region::decide`, with number 6 in front.
@@ -129,7 +129,7 @@ pub fn deduction(row: Codes<'_>, held: &[u64], cut: &[u64], limit: u64) -> Done 
         Leaves::deduction((&row.0, &row.1), held, cut, work)
     });
     Done {
-        answer: deduced(result),
+        answer: deduced(result, || contradicted(&row.1, (held, cut))),
         charge,
     }
 }

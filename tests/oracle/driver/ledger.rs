@@ -5,7 +5,8 @@
 
 use zetesis_algebra::region::Region;
 use zetesis_ferraris::regions::{
-    Cursor, Deduced, Fields, LearningLimits, Metered, Record, Retention, Tier, Work, metered,
+    Cursor, Deduced, Fields, LearningLimits, Literal, Metered, Record, Retention, Tier, Work,
+    metered,
 };
 
 use crate::answer::Answer;
@@ -135,6 +136,8 @@ pub struct Closed {
     pub answer: Answer,
     pub charge: u64,
     pub region: Masks,
+    /// The contradicted output of the last Require that a closing acted on.
+    pub contradicted: Option<u64>,
 }
 
 /// A ledger: the Rust's, and the numbers of a store that the Rust keeps elsewhere.
@@ -191,11 +194,7 @@ pub fn deliver(tier: &mut Ledger, store: &mut Ledger, limit: u64) -> Done {
 pub fn decide(atoms: u64, atom: u64, value: bool, region: Masks) -> Closed {
     let fit = (1..=MOST_ATOMS).contains(&atoms) && is_region(atoms, &region.held, &region.cut);
     if !fit {
-        return Closed {
-            answer: Answer::Refused(6),
-            charge: 0,
-            region,
-        };
+        return unclosed(6, region);
     }
     let mut decided = region_of(atoms, &region);
     let answer = match mark(&mut decided, (atom as usize, value)) {
@@ -206,6 +205,7 @@ pub fn decide(atoms: u64, atom: u64, value: bool, region: Masks) -> Closed {
         answer,
         charge: 0,
         region: masks_of(&decided),
+        contradicted: None,
     }
 }
 
@@ -366,11 +366,12 @@ impl Ledger {
         if let Some(number) = self.reading_refusal(position, region) {
             return refused(number);
         }
-        let (result, charge) = metered(limit, |work| {
-            self.tier
-                .deduction(position as usize, &region.held, &region.cut, work)
-        });
-        done(deduced(result), charge)
+        let position = position as usize;
+        let (held, cut) = (&region.held[..], &region.cut[..]);
+        let (result, charge) =
+            metered(limit, |work| self.tier.deduction(position, held, cut, work));
+        let named = || contradicted(&self.tier.shape(position).outputs, (held, cut));
+        done(deduced(result, named), charge)
     }
 
     /// The next output that the row at a position publishes on a region.
@@ -411,14 +412,13 @@ impl Ledger {
             .then_some(3)
             .or_else(|| self.region_refusal(&region));
         if let Some(number) = refusal {
-            return Closed {
-                answer: Answer::Refused(number),
-                charge: 0,
-                region,
-            };
+            return unclosed(number, region);
         }
         let mut closing = region_of(self.atoms, &region);
-        let (result, charge) = metered(limit, |work| rounds(&mut self.tier, &mut closing, work));
+        let mut named = None;
+        let (result, charge) = metered(limit, |work| {
+            rounds(&mut self.tier, &mut closing, &mut named, work)
+        });
         let answer = match result {
             None => Answer::Stopped,
             Some(false) => Answer::Conflict,
@@ -428,6 +428,7 @@ impl Ledger {
             answer,
             charge,
             region: masks_of(&closing),
+            contradicted: named,
         }
     }
 
@@ -485,8 +486,14 @@ fn transfer_refusal(tier: &Ledger, store: &Ledger) -> Option<u64> {
     (tier.atoms != store.atoms).then_some(7)
 }
 
-/// Closing, which the Rust does not have: document 01, module 8, with 02's rule of hits. True is Closed, false is Conflict.
-fn rounds(tier: &mut Tier, region: &mut Region, work: &mut Work<'_>) -> Metered<bool> {
+/// Closing, which the Rust does not have: document 01, module 8, with 02's rule of hits. True is Closed, false is Conflict. `named` is
+/// the output that the last Require names, also where a stop or a Conflict comes after it.
+fn rounds(
+    tier: &mut Tier,
+    region: &mut Region,
+    named: &mut Option<u64>,
+    work: &mut Work<'_>,
+) -> Metered<bool> {
     tier.begin_narrowing();
     let mut decided: Vec<usize> = Vec::new();
     let (mut before, mut unread) = (vec![0; region.mask_words()], vec![0; region.mask_words()]);
@@ -494,7 +501,7 @@ fn rounds(tier: &mut Tier, region: &mut Region, work: &mut Work<'_>) -> Metered<
         region.snapshot_decided(&mut before);
         for position in tier.candidates(&decided, work)? {
             region.snapshot_decided(&mut unread);
-            let end = apply(tier, position, region, work);
+            let end = apply(tier, position, region, named, work);
             // Document 02, Two: a hit for a reading that decided an atom, also before a stop, or ended in Conflict.
             if matches!(end, Ok(false)) || region.decided_since(&unread).next().is_some() {
                 tier.hit(position);
@@ -518,12 +525,17 @@ fn apply(
     tier: &Tier,
     position: usize,
     region: &mut Region,
+    named: &mut Option<u64>,
     work: &mut Work<'_>,
 ) -> Metered<bool> {
     let (held, cut) = region.decision_words();
     match tier.deduction(position, held, cut, work)? {
         Deduced::Nothing => Ok(true),
-        Deduced::Require(literal) => Ok(mark(region, literal)),
+        Deduced::Require(literal) => {
+            // Of the region as it is now, before the literal is marked.
+            *named = Some(contradicted(&tier.shape(position).outputs, (held, cut)));
+            Ok(mark(region, literal))
+        }
         Deduced::Force => publish(tier, position, region, work),
     }
 }
@@ -579,13 +591,27 @@ fn masks_of(region: &Region) -> Masks {
     }
 }
 
-/// The answer of a deduction; none is a stop.
-pub(crate) fn deduced(result: Option<Deduced>) -> Answer {
+/// The output that a Require names, which the Rust does not say: document 02, Six. Of the row's outputs whose opposite the region marks
+/// it is the one with the least code.
+pub(crate) fn contradicted(outputs: &[Literal], (held, cut): (&[u64], &[u64])) -> u64 {
+    let against = |&&(atom, present): &&Literal| {
+        let opposite = if present { cut } else { held };
+        opposite[atom / 64] >> (atom % 64) & 1 == 1
+    };
+    let codes = outputs.iter().filter(against).copied().map(code);
+    codes.min().expect("some output is contradicted")
+}
+
+/// The answer of a deduction, and of a Require the output that it names; none is a stop.
+pub(crate) fn deduced(result: Option<Deduced>, named: impl FnOnce() -> u64) -> Answer {
     match result {
         None => Answer::Stopped,
         Some(Deduced::Nothing) => Answer::Nothing,
         Some(Deduced::Force) => Answer::Force,
-        Some(Deduced::Require(literal)) => Answer::Require(code(literal)),
+        Some(Deduced::Require(literal)) => Answer::Require {
+            required: code(literal),
+            contradicted: named(),
+        },
     }
 }
 
@@ -595,6 +621,16 @@ fn done(answer: Answer, charge: u64) -> Done {
 
 fn refused(number: u64) -> Done {
     done(Answer::Refused(number), 0)
+}
+
+/// A refused closing or decision: the region as it was given.
+fn unclosed(number: u64, region: Masks) -> Closed {
+    Closed {
+        answer: Answer::Refused(number),
+        charge: 0,
+        region,
+        contradicted: None,
+    }
 }
 
 fn finished(result: Option<()>, charge: u64) -> Done {

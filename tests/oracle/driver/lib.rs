@@ -4,8 +4,8 @@
 //! - `leaves`: the single functions of rows, regions and words.
 //! - `script`: the script language, a line in and an answer line out.
 //!
-//! What document 01 adds to the Rust (refusals, Shut, closing, the numbers of a store) is restated here; all else is the
-//! Rust's own.
+//! What the documents add to the Rust (refusals, Shut, closing, the numbers of a store, the output that a Require names) is
+//! restated here; all else is the Rust's own.
 
 #![forbid(unsafe_code)]
 #![warn(missing_docs)]

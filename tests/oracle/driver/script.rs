@@ -287,6 +287,7 @@ impl Script {
             format_args!("close {place} {} charge={}", closed.answer, closed.charge),
         );
         region(out, &closed);
+        named(out, &closed);
         tail(out, closed.answer, ledger);
         Some(())
     }
@@ -393,6 +394,17 @@ fn region(out: &mut String, closed: &Closed) {
     list(out, &atoms_of(&closed.region.held));
     out.push_str(" cut=");
     list(out, &atoms_of(&closed.region.cut));
+}
+
+/// The output that a closing names, but not after a refusal.
+fn named(out: &mut String, closed: &Closed) {
+    if matches!(closed.answer, Answer::Refused(_)) {
+        return;
+    }
+    match closed.contradicted {
+        None => out.push_str(" contradicted=none"),
+        Some(code) => put(out, format_args!(" contradicted={code}")),
+    }
 }
 
 /// The header. Truth values are 0 and 1.

@@ -2,7 +2,7 @@
 use mathlib.Core.Path.{_∙_}
 use mathlib.Core.Logic.{⊎-map}
 use borrow.Author.Needs.{needs}
-use Rattle.close_publish.specs.Turns.{ledgerOf}
+use Rattle.close_publish.specs.Turns.{ledgerOf, beside}
 use Rattle.close_publish.proofs.Standing.{Hits, hits-length, slot-fits, stored-part, hits-stand, decided-stands}
 use Rattle.close_publish.proofs.Acting.{act-stopped, act-nothing, part-row, act-reads}
 use Rattle.close_publish.proofs.act.Statement.{statement}
@@ -86,7 +86,7 @@ returns c =
     let t = at-start deduction in
     let a = t .args in
     let d = deduction .deduction in (
-      λ h. act-stopped (a .atoms) (a .position) (ledgerOf h (a .rows) (a .slots .now)) (a .held .now) (a .cut .now) (a .work) _
+      λ h. act-stopped (a .atoms) (a .position) (beside (ledgerOf h (a .rows) (a .slots .now)) (a .before)) (a .held .now) (a .cut .now) (a .work) _
           (part-row (a .atoms) (a .rows) (a .position) (a .slots .now) (a .held .now) (a .cut .now) (a .work) (t .pre .0 .holds) (t .pre .1)
           h)
           (d .result) (d .ensures) (c .if1 .taken),
@@ -111,7 +111,7 @@ returns-2 c =
     let t = at-start deduction in
     let a = t .args in
     let d = deduction .deduction in (
-      λ h. act-nothing (a .atoms) (a .position) (ledgerOf h (a .rows) (a .slots .now)) (a .held .now) (a .cut .now) (a .work) _
+      λ h. act-nothing (a .atoms) (a .position) (beside (ledgerOf h (a .rows) (a .slots .now)) (a .before)) (a .held .now) (a .cut .now) (a .work) _
           (part-row (a .atoms) (a .rows) (a .position) (a .slots .now) (a .held .now) (a .cut .now) (a .work) (t .pre .0 .holds) (t .pre .1)
           h)
           (d .result) (d .ensures) (c .before .before .if1 .left) (c .enum-told .given .1),

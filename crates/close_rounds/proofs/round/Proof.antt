@@ -8,11 +8,11 @@ use Rattle.close_rounds.proofs.round.Statement.{statement}
 use Rattle.close_rounds.proofs.round.Tie as tie
 
 abbrev Inv-loop : tie.InvT-loop
-Inv-loop atoms rows slots₀ positions held₀ cut₀ meter₀ i₀ slots held cut meter i =
-    Reading atoms rows positions slots₀ held₀ cut₀ meter₀ slots held cut meter i
+Inv-loop atoms rows slots₀ positions held₀ cut₀ meter₀ contradicted₀ i₀ slots held cut meter contradicted i =
+    Reading atoms rows positions slots₀ held₀ cut₀ meter₀ contradicted₀ slots held cut meter contradicted i
 
 abbrev μ-loop : tie.MeasureT-loop
-μ-loop atoms rows slots₀ positions held₀ cut₀ meter₀ i₀ slots held cut meter i = length positions - i
+μ-loop atoms rows slots₀ positions held₀ cut₀ meter₀ contradicted₀ i₀ slots held cut meter contradicted i = length positions - i
 
 -- back from each place to the one before it that the proof names
 abbrev at-start-from-slice-known3 : tie.After-slice-known3 Inv-loop μ-loop → tie.Start Inv-loop μ-loop
@@ -43,7 +43,7 @@ loop-holds : tie.Need-loop-holds Inv-loop μ-loop
 loop-holds c =
     let t = c .before .before .before .before in
     let a = t .args in
-    read-start (a .atoms) (a .rows) (a .positions .now) (a .slots .now) (a .held .now) (a .cut .now) (a .work) (t .pre .0)
+    read-start (a .atoms) (a .rows) (a .positions .now) (a .slots .now) (a .held .now) (a .cut .now) (a .work) (a .before) (t .pre .0)
 
 mul-act : tie.Need-mul-act Inv-loop μ-loop
 mul-act c = search needs
@@ -58,7 +58,7 @@ act-requires c κs =
     let t = at-start loop in
     let l = loop .loop in (
       read-here (t .args .atoms) (t .args .rows) (t .args .positions .now) (t .args .slots .now) (t .args .held .now) (t .args .cut .now)
-          (t .args .work) (l .slots) (l .held) (l .cut) (l .meter) (l .i) (l .inv),
+          (t .args .work) (t .args .before) (l .slots) (l .held) (l .cut) (l .meter) (l .contradicted) (l .i) (l .inv),
       each-at (λ p. p < t .args .rows) (t .args .positions .now) (l .i) (t .pre .1) (in-loop .loop-test .taken),
     )
 
@@ -81,7 +81,7 @@ loop-again c =
     let l = loop .loop in
     let x = in-loop .loop-test .taken in
     read-on (t .args .atoms) (t .args .rows) (t .args .positions .now) (t .args .slots .now) (t .args .held .now) (t .args .cut .now)
-    (t .args .work) (l .slots) (l .held) (l .cut) (l .meter) (l .i) (l .inv) x (g .result) _ _ _ (g .ensures .0) (g .ensures .1)
+    (t .args .work) (t .args .before) (l .slots) (l .held) (l .cut) (l .meter) (l .contradicted) (l .i) (l .inv) x (g .result) _ _ _ (g .ensures .0) (g .ensures .1)
     (c .enum-told .given .1) (g .kept .1 .1 .0) (g .kept .1 .1 .1 .1 .0) (g .kept .1 .1 .1 .1 .1 .0)
 
 same-length : tie.Need-same-length Inv-loop μ-loop
@@ -103,10 +103,10 @@ returns c =
     let l = loop .loop in
     let x = in-loop .loop-test .taken in (
       read-ended (t .args .atoms) (t .args .rows) (t .args .positions .now) (t .args .slots .now) (t .args .held .now) (t .args .cut .now)
-          (t .args .work) (l .slots) (l .held) (l .cut) (l .meter) (l .i) (l .inv) x (g .result) _ _ _ (g .ensures .0) (g .ensures .1)
+          (t .args .work) (t .args .before) (l .slots) (l .held) (l .cut) (l .meter) (l .contradicted) (l .i) (l .inv) x (g .result) _ _ _ (g .ensures .0) (g .ensures .1)
           (c .match .keys2),
       read-stands (t .args .atoms) (t .args .rows) (t .args .positions .now) (t .args .slots .now) (t .args .held .now) (t .args .cut .now)
-          (t .args .work) (l .slots) (l .held) (l .cut) (l .meter) (l .i) (l .inv) x (g .result) _ _ _ (g .ensures .0) (g .ensures .1),
+          (t .args .work) (t .args .before) (l .slots) (l .held) (l .cut) (l .meter) (l .contradicted) (l .i) (l .inv) x (g .result) _ _ _ (g .ensures .0) (g .ensures .1),
     )
 
 same-length-4 : tie.Need-same-length-4 Inv-loop μ-loop
@@ -124,7 +124,7 @@ returns-2 c =
     let t = at-start loop in
     let l = loop .loop in (
       read-done (t .args .atoms) (t .args .rows) (t .args .positions .now) (t .args .slots .now) (t .args .held .now) (t .args .cut .now)
-          (t .args .work) (l .slots) (l .held) (l .cut) (l .meter) (l .i) (l .inv) (c .loop-test .left),
+          (t .args .work) (t .args .before) (l .slots) (l .held) (l .cut) (l .meter) (l .contradicted) (l .i) (l .inv) (c .loop-test .left),
       l .inv .stands,
     )
 

@@ -2,17 +2,19 @@
 use mathlib.Core.Path.{_∙_}
 use borrow.Author.Needs.{needs}
 use Rattle.words.specs.Region.{region}
+use Rattle.model.specs.declared.Contradicted.the-variants.{None}
 use Rattle.model.proofs.Priority.Rounds.{opens}
 use Rattle.close_rounds.proofs.Repeating.{Repeating, repeat-start, repeat-ended, repeat-closed, repeat-less, repeat-on}
 use Rattle.close_rounds.proofs.rounds.Statement.{statement}
 use Rattle.close_rounds.proofs.rounds.Tie as tie
 
 abbrev Inv-loop : tie.InvT-loop
-Inv-loop slots₀ postings₀ held₀ cut₀ places₀ noted₀ head₀ meter₀ given₀ slots postings held cut places noted head meter given =
-    Repeating head₀ slots₀ postings₀ held₀ cut₀ places₀ noted₀ meter₀ head slots postings held cut places noted meter given
+Inv-loop slots₀ postings₀ held₀ cut₀ places₀ noted₀ head₀ meter₀ contradicted₀ given₀ slots postings held cut places noted head meter contradicted given =
+    Repeating head₀ slots₀ postings₀ held₀ cut₀ places₀ noted₀ meter₀ contradicted₀ head slots postings held cut places noted meter
+    contradicted given
 
 abbrev μ-loop : tie.MeasureT-loop
-μ-loop slots₀ postings₀ held₀ cut₀ places₀ noted₀ head₀ meter₀ given₀ slots postings held cut places noted head meter given =
+μ-loop slots₀ postings₀ held₀ cut₀ places₀ noted₀ head₀ meter₀ contradicted₀ given₀ slots postings held cut places noted head meter contradicted given =
     opens (head₀ .limits .atoms) (region held cut)
 
 -- back from each place to the one before it that the proof names
@@ -59,7 +61,7 @@ loop-holds : tie.Need-loop-holds Inv-loop μ-loop
 loop-holds c =
     let t = at-start-from-slice-known6 c in
     let a = t .args in
-    repeat-start (a .header) (a .slots .now) (a .postings .now) (a .held .now) (a .cut .now) (a .places .now) (a .noted .now) (a .work)
+    repeat-start (a .header) (a .slots .now) (a .postings .now) (a .held .now) (a .cut .now) (a .places .now) (a .noted .now) (a .work) None
     (t .pre .0) (t .pre .1 .0) (t .pre .1 .1)
 
 one-round-requires : tie.Need-one-round-requires Inv-loop μ-loop
@@ -105,8 +107,8 @@ returns c =
     let g = k .one-round in
     let l = loop .loop in
     let a = at-start loop .args in (
-      repeat-ended (a .header) (a .slots .now) (a .postings .now) (a .held .now) (a .cut .now) (a .places .now) (a .noted .now) (a .work)
-          (l .head) (l .slots) (l .postings) (l .held) (l .cut) (l .places) (l .noted) (l .meter) (l .given) (l .inv) (g .result) _ _ _
+      repeat-ended (a .header) (a .slots .now) (a .postings .now) (a .held .now) (a .cut .now) (a .places .now) (a .noted .now) (a .work) None
+          (l .head) (l .slots) (l .postings) (l .held) (l .cut) (l .places) (l .noted) (l .meter) (l .contradicted) (l .given) (l .inv) (g .result) _ _ _
           (g .ensures .0) (c .match .keys2),
       g .ensures .1 .0,
     )
@@ -148,8 +150,8 @@ returns-2 c =
     let g = k .one-round in
     let l = loop .loop in
     let a = at-start loop .args in (
-      repeat-closed (a .header) (a .slots .now) (a .postings .now) (a .held .now) (a .cut .now) (a .places .now) (a .noted .now) (a .work)
-          (l .head) (l .slots) (l .postings) (l .held) (l .cut) (l .places) (l .noted) (l .meter) (l .given) (l .inv) (g .result) _ _ _
+      repeat-closed (a .header) (a .slots .now) (a .postings .now) (a .held .now) (a .cut .now) (a .places .now) (a .noted .now) (a .work) None
+          (l .head) (l .slots) (l .postings) (l .held) (l .cut) (l .places) (l .noted) (l .meter) (l .contradicted) (l .given) (l .inv) (g .result) _ _ _
           (g .ensures .0) (c .before .before .enum-told .given .1) _ (g .ensures .1 .1 .1) (c .if1 .taken),
       g .ensures .1 .0,
     )
@@ -161,8 +163,8 @@ loop-less c =
     let g = k .one-round in
     let l = loop .loop in
     let a = at-start loop .args in
-    repeat-less (a .header) (a .slots .now) (a .postings .now) (a .held .now) (a .cut .now) (a .places .now) (a .noted .now) (a .work)
-    (l .head) (l .slots) (l .postings) (l .held) (l .cut) (l .places) (l .noted) (l .meter) (l .given) (l .inv) (g .result) _ _ _
+    repeat-less (a .header) (a .slots .now) (a .postings .now) (a .held .now) (a .cut .now) (a .places .now) (a .noted .now) (a .work) None
+    (l .head) (l .slots) (l .postings) (l .held) (l .cut) (l .places) (l .noted) (l .meter) (l .contradicted) (l .given) (l .inv) (g .result) _ _ _
     (g .ensures .0) (c .before .before .before .before .enum-told .given .1) _ (g .ensures .1 .1 .1) (c .before .before .if1 .left)
 
 loop-again : tie.Need-loop-again Inv-loop μ-loop
@@ -172,8 +174,8 @@ loop-again c =
     let g = k .one-round in
     let l = loop .loop in
     let a = at-start loop .args in
-    repeat-on (a .header) (a .slots .now) (a .postings .now) (a .held .now) (a .cut .now) (a .places .now) (a .noted .now) (a .work)
-    (l .head) (l .slots) (l .postings) (l .held) (l .cut) (l .places) (l .noted) (l .meter) (l .given) (l .inv) (g .result) _ _ _
+    repeat-on (a .header) (a .slots .now) (a .postings .now) (a .held .now) (a .cut .now) (a .places .now) (a .noted .now) (a .work) None
+    (l .head) (l .slots) (l .postings) (l .held) (l .cut) (l .places) (l .noted) (l .meter) (l .contradicted) (l .given) (l .inv) (g .result) _ _ _
     (g .ensures .0) (c .before .before .before .before .enum-told .given .1) _ (g .ensures .1 .1 .1) (c .before .before .if1 .left) _ _
     (g .ensures .1 .0) (g .ensures .1 .1 .0)
     (g .kept .1 .0) (g .kept .1 .1 .0) (g .kept .1 .1 .1 .0) (g .kept .1 .1 .1 .1 .0) (g .kept .1 .1 .1 .1 .1 .0)

@@ -13,9 +13,9 @@ use Rattle.lists.proofs.Bools.{T-true, or-l, or-r}
 use Rattle.words.specs.Literal.{atom, opposite}
 use Rattle.words.specs.Region.{Region, holds, contradicts}
 use Rattle.model.specs.declared.Deduction.{Deduction}
-use Rattle.model.specs.declared.Deduction.the-variants.{Nothing, Force, Require}
+use Rattle.model.specs.declared.Deduction.the-variants.{Nothing, Force}
 use Rattle.model.specs.Records.{Row}
-use Rattle.model.specs.Deduction.{failing, contradicted, idle, deduceFrom, deduction}
+use Rattle.model.specs.Deduction.{failing, contradicted, idle, requiring, deduceFrom, deduction}
 use Rattle.model.specs.Priority.{In, Gives, Covers, Says, ClosedFor}
 use Rattle.model.proofs.Cover.{or-split}
 use Rattle.model.proofs.Priority.Steps.{Over}
@@ -95,15 +95,13 @@ T-false : (b : Bool) → (T b → ⊥) → b ≡ false
 T-false true f = absurd (f tt)
 T-false false f = refl
 
-pub require-one : (r : Region) (s : Row) (c : ℕ) → Requires r s c → deduction r s ≡ Require (record { 0 = opposite c })
+pub require-one : (r : Region) (s : Row) (c : ℕ) → Requires r s c → deduction r s ≡ requiring r s c
 unfolding deduction deduceFrom idle
 require-one r s c q =
     ap (deduceFrom r s) (q .one)
-    ∙ ap (λ (b : Bool). elim (not b && contradicted r (s .outputs)) as (λ k. Deduction) [
-      | true ↦ Require (record { 0 = opposite c })
-      | false ↦ Nothing
-    ]) (no-idle (q .free))
-    ∙ ap (λ (b : Bool). elim b as (λ k. Deduction) [ true ↦ Require (record { 0 = opposite c }) | false ↦ Nothing ])
+    ∙ ap (λ (b : Bool). elim (not b && contradicted r (s .outputs)) as (λ k. Deduction) [ true ↦ requiring r s c | false ↦ Nothing ])
+    (no-idle (q .free))
+    ∙ ap (λ (b : Bool). elim b as (λ k. Deduction) [ true ↦ requiring r s c | false ↦ Nothing ])
     (T-true (contradicted r (s .outputs)) (q .clash))
   where
     no-idle : (T (contradicts r c) → ⊥) → (leb 2 (length (c ∷ [])) || contradicted r (c ∷ [])) ≡ false
@@ -150,7 +148,7 @@ says-from r s x [] e m = inl (λ c i. holding c i (holds r c) refl, m)
 says-from r s x (c ∷ cs) e m = go (not (idle r (c ∷ cs))) (contradicted r (s .outputs)) refl refl m
   where
     go : (a b : Bool) → not (idle r (c ∷ cs)) ≡ a → contradicted r (s .outputs) ≡ b
-        → Says (elim (a && b) as (λ k. Deduction) [ true ↦ Require (record { 0 = opposite c }) | false ↦ Nothing ]) s x → Saying r s x
+        → Says (elim (a && b) as (λ k. Deduction) [ true ↦ requiring r s c | false ↦ Nothing ]) s x → Saying r s x
     go true true p q n =
         let h = not-idle r c cs (subst T (sym p) tt) in
         inr (c, record { one = e ∙ ap (λ (l : List ℕ). c ∷ l) (h .0); free = h .1; clash = subst T (sym q) tt }, n)

@@ -24,8 +24,8 @@ use Rattle.model.specs.declared.OutputCursor.{OutputCursor}
 use Rattle.model.specs.Records.{Row, isRowOver}
 use Rattle.model.specs.Deduction.{Next, Published, startCursor, nextOutput, deduction, deductionTicks}
 use Rattle.model.specs.Deduction as deducing
-use Rattle.model.specs.Closing.{State, Turn, going, conflict, halted, onGoing, withMeter, decideOn, publish, follow, reading}
-use Rattle.model.specs.Closing.{decidedAnew, decides, earns}
+use Rattle.model.specs.Closing.{State, Turn, going, conflict, halted, onGoing, withMeter, withRegion, decideOn, publish, follow}
+use Rattle.model.specs.Closing.{withNamed, reading, decidedAnew, decides, earns}
 use Rattle.model.specs.Priority.{In, Contains, Says}
 use Rattle.model.proofs.Packing.{Asc}
 use Rattle.model.proofs.Priority.Steps.{tick-elim}
@@ -93,13 +93,13 @@ unfolding decideOn earns
 decided-earns n c s q e =
     ap (λ (o : Option Region). earns n (s .region) (elim o as (λ k. Turn) [
       | none ↦ conflict s
-      | some r ↦ going (record { ledger = s .ledger; region = r; meter = s .meter })
+      | some r ↦ going (withRegion r s)
     ])) e
 
-pub require-earns : (n : ℕ) (r : Row) (c : Literal) (s : State) → Sound n (s .region) → T (isRowOver n r)
-    → deduction (s .region) r ≡ Require c → earns n (s .region) (follow n r (Require c) s) ≡ true
+pub require-earns : (n : ℕ) (r : Row) (c x : Literal) (s : State) → Sound n (s .region) → T (isRowOver n r)
+    → deduction (s .region) r ≡ Require c x → earns n (s .region) (follow n r (Require c x) s) ≡ true
 unfolding follow
-require-earns n r c s so o e = go (says q r (c .0) (subst (λ (d : Deduction). Says d r (c .0)) (sym e) refl))
+require-earns n r c x s so o e = go (says q r (c .0) (subst (λ (d : Deduction). Says d r (c .0)) (sym e) refl))
   where
     q : Region
     q = s .region
@@ -143,7 +143,7 @@ module _ (n : ℕ) (r : Region) (so : Sound n r) where
   decide-idle c s e t =
       subst (λ (o : Option Region). Idle r (elim o as (λ k. Turn) [
         | none ↦ conflict s
-        | some q ↦ going (record { ledger = s .ledger; region = q; meter = s .meter })
+        | some q ↦ going (withRegion q s)
       ])) (sym again) refl
     where
       h : holds r c ≡ true
@@ -157,7 +157,7 @@ module _ (n : ℕ) (r : Region) (so : Sound n r) where
 
   publish-idle : (fuel : ℕ) (t : Row) (k : OutputCursor) (s : State) → Asc 0 (t .outputs)
       → ((c : ℕ) → In c (t .outputs) → T (holds r c)) → Good t k → s .region ≡ r → Idle r (publish fuel n t k s)
-  unfolding publish withMeter
+  unfolding publish
   publish-idle zero t k s a f g e = e
   publish-idle (suc fuel) t k s a f g e =
       go (nextOutput (s .region) t k (s .meter)) (next-gives (s .region) t k (s .meter) a g) (λ l u h q. publish-idle fuel t l u a f h q)
@@ -165,15 +165,15 @@ module _ (n : ℕ) (r : Region) (so : Sound n r) where
       go : (x : Published) → Given t x
           → ((l : OutputCursor) (u : State) → Good t l → u .region ≡ r → Idle r (publish fuel n t l u))
           → Idle r (elim (x .next) as (λ z. Turn) [
-            | deducing.stopped ↦ halted (record { ledger = s .ledger; region = s .region; meter = x .meter })
-            | deducing.end ↦ going (record { ledger = s .ledger; region = s .region; meter = x .meter })
-            | deducing.output c ↦ onGoing (decideOn n c (record { ledger = s .ledger; region = s .region; meter = x .meter }))
+            | deducing.stopped ↦ halted (withMeter (x .meter) s)
+            | deducing.end ↦ going (withMeter (x .meter) s)
+            | deducing.output c ↦ onGoing (decideOn n c (withMeter (x .meter) s))
                 (publish fuel n t (x .cursor))
           ])
       go x y ih = by (x .next) refl
         where
           u : State
-          u = record { ledger = s .ledger; region = s .region; meter = x .meter }
+          u = withMeter (x .meter) s
 
           by : (z : Next) → x .next ≡ z
               → Idle r (elim z as (λ z. Turn) [
@@ -192,12 +192,12 @@ module _ (n : ℕ) (r : Region) (so : Sound n r) where
   unfolding follow
   follow-idle t Nothing s a f e = e
   follow-idle t Force s a f e = publish-idle (suc (length (t .outputs))) t startCursor s a f (start-good t) e
-  follow-idle t (Require c) s a f e = decide-idle (c .0) s e (f (c .0) refl)
+  follow-idle t (Require c o) s a f e = decide-idle (c .0) s e (f (c .0) refl)
 
 pub settled-earns : (n : ℕ) (t : Row) (s : State) → Sound n (s .region) → Asc 0 (t .outputs) → Settled t (s .region)
     → earns n (s .region) (reading n t s) ≡ false
-unfolding reading withMeter
+unfolding reading
 settled-earns n t s so a f =
     idle-earns n (s .region) _
     (tick-elim (Idle (s .region)) (ticks (deductionTicks (s .region) t) (s .meter)) _ _ (λ m. refl)
-    (λ m. follow-idle n (s .region) so t (deduction (s .region) t) (record { ledger = s .ledger; region = s .region; meter = m }) a f refl))
+    (λ m. follow-idle n (s .region) so t (deduction (s .region) t) (withNamed (deduction (s .region) t) (withMeter m s)) a f refl))

@@ -13,8 +13,8 @@ use Rattle.meter.specs.declared.Meter.{Meter}
 use Rattle.model.specs.declared.CloseAnswer.the-variants.{Stopped, Conflict, Closed}
 use Rattle.model.specs.Records.{Row, rowsOf, limitsOk}
 use Rattle.model.specs.Refusals.{Lent, ledgerIn, refusal, accepts}
-use Rattle.model.specs.Answers.{Reply, refused, answered, closeReply}
-use Rattle.model.specs.Operations.{CloseEnd, closeEnd, close, regionOk}
+use Rattle.model.specs.Answers.{Reply, refused, answered, named, closeReply}
+use Rattle.model.specs.Operations.{CloseEnd, closeEnd, unclosed, closedBy, close, regionOk}
 use Rattle.model.specs.Closing.{Turn, going, conflict, halted, closing}
 use Rattle.model.specs.Priority.{Contains, ClosedFor, NoneClosed}
 use Rattle.model.proofs.Cover.{and-left}
@@ -36,20 +36,18 @@ abbrev pub IsClosed : Reply → Type 0
 IsClosed (refused k) = ⊥
 IsClosed (answered zero v) = Unit {0}
 IsClosed (answered (suc c) v) = ⊥
+IsClosed (named c v o) = ⊥
 
 abbrev pub IsConflict : Reply → Type 0
 IsConflict (refused k) = ⊥
 IsConflict (answered zero v) = ⊥
 IsConflict (answered (suc zero) v) = Unit {0}
 IsConflict (answered (suc (suc c)) v) = ⊥
+IsConflict (named c v o) = ⊥
 
 turn-end : (n : ℕ) (rows : List Row) (over : Over n rows) (fine : Fine rows) (r : Region) (x y : List ℕ) (m : Meter) (t : Turn)
     → T (atomsOk n) → TurnIn n rows over fine r t
-    → EndOk n rows r (elim t as (λ k. CloseEnd) [
-      | going u ↦ closeEnd Closed u x y m
-      | conflict u ↦ closeEnd Conflict u x y m
-      | halted u ↦ closeEnd Stopped u x y m
-    ])
+    → EndOk n rows r (closedBy t x y m)
 unfolding closeEnd
 turn-end n rows over fine r x y m (going u) a i = record {
   ifClosed = λ e. record {
@@ -97,25 +95,11 @@ close-end s held cut x y m = go (refusal tests) refl
         ((regionOk s held cut, 6) ∷ [])
 
     go : (o : Option ℕ) → refusal tests ≡ o
-        → EndOk (s .header .limits .atoms) (rowsE (ledgerIn s .entries)) (region held cut) (elim o as (λ k. CloseEnd) [
-          | some n ↦ record {
-            answer = refused n;
-            ledger = s;
-            region = region held cut;
-            rowScratch = x;
-            atomScratch = y;
-            meter = m;
-            ticks = 0;
-          }
-          | none ↦ elim (closing (ledgerIn s) (region held cut) m) [
-            | going t ↦ closeEnd Closed t x y m
-            | conflict t ↦ closeEnd Conflict t x y m
-            | halted t ↦ closeEnd Stopped t x y m
-          ]
-        ])
+        → EndOk (s .header .limits .atoms) (rowsE (ledgerIn s .entries)) (region held cut) (elim o as (λ k. CloseEnd)
+        [ some n ↦ unclosed n s held cut x y m | none ↦ closedBy (closing (ledgerIn s) (region held cut) m) x y m ])
     go (some k) e =
         refused-end (s .header .limits .atoms) (rowsE (ledgerIn s .entries)) (region held cut)
-        (record { answer = refused k; ledger = s; region = region held cut; rowScratch = x; atomScratch = y; meter = m; ticks = 0 }) k refl
+        (unclosed k s held cut x y m) k refl
     go none e =
         let a = accepted s (eqb (length x) (s .header .limits .«tier_rows») && eqb (length y) (s .header .limits .atoms))
         ((regionOk s held cut, 6) ∷ []) e in

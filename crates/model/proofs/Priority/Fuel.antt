@@ -29,11 +29,11 @@ use Rattle.model.specs.Deduction.{Next, Published, published, pending, l
 use Rattle.model.specs.Deduction.{deductionTicks, startCursor}
 use Rattle.model.specs.Deduction as deducing
 use Rattle.model.specs.Postings.{Search, searched, rebuilt, searchTicks, postingsOf, candidates as search}
-use Rattle.model.specs.Closing.{State, Turn, going, conflict, halted, onGoing, withMeter, withHeader, counted, decideOn, publish}
-use Rattle.model.specs.Closing.{withHit, follow, reading, act, round, decidedSince, rounds, closing}
+use Rattle.model.specs.Closing.{State, Turn, going, conflict, halted, onGoing, withMeter, withHeader, decideOn, publish}
+use Rattle.model.specs.Closing.{withNamed, begun, withHit, follow, reading, act, round, decidedSince, rounds, closing}
 use Rattle.model.specs.Refusals.{Lent, ledgerIn, refusal, accepts}
-use Rattle.model.specs.Answers.{Reply, refused, answered, closeReply}
-use Rattle.model.specs.Operations.{CloseEnd, closeEnd, close, regionOk}
+use Rattle.model.specs.Answers.{Reply, refused, answered, named, closeReply}
+use Rattle.model.specs.Operations.{CloseEnd, closeEnd, unclosed, closedBy, close, regionOk}
 use Rattle.model.specs.Priority.{In}
 use Rattle.model.proofs.Packing.{Asc}
 use Rattle.model.proofs.Priority.Covering.{rowsE}
@@ -51,7 +51,7 @@ module _ (n : ℕ) (rows : List Row) (fine : Fine rows) where
   pub publish-fuel : (f g : ℕ) (r : Row) (w : Resting r) (k : OutputCursor) (s : State) → Asc 0 (r .outputs) → Good r k
       → Step n rows fine s s → length (w .rest k) < f → length (w .rest k) < g
       → publish f n r k s ≡ publish g n r k s
-  unfolding publish withMeter
+  unfolding publish
   publish-fuel zero g r w k s a o i h l = absurd (not-suc-le-zero h)
   publish-fuel (suc f) zero r w k s a o i h l = absurd (not-suc-le-zero l)
   publish-fuel (suc f) (suc g) r w k s a o i h l =
@@ -62,20 +62,20 @@ module _ (n : ℕ) (rows : List Row) (fine : Fine rows) where
           → ((x : OutputCursor) (t : State) → Good r x → Step n rows fine t t → length (w .rest x) < f → length (w .rest x) < g
           → publish f n r x t ≡ publish g n r x t)
           → _≡_ {A = Turn} (elim (x .next) as (λ z. Turn) [
-            | deducing.stopped ↦ halted (record { ledger = s .ledger; region = s .region; meter = x .meter })
-            | deducing.end ↦ going (record { ledger = s .ledger; region = s .region; meter = x .meter })
-            | deducing.output c ↦ onGoing (decideOn n c (record { ledger = s .ledger; region = s .region; meter = x .meter }))
+            | deducing.stopped ↦ halted (withMeter (x .meter) s)
+            | deducing.end ↦ going (withMeter (x .meter) s)
+            | deducing.output c ↦ onGoing (decideOn n c (withMeter (x .meter) s))
                 (publish f n r (x .cursor))
           ]) (elim (x .next) as (λ z. Turn) [
-            | deducing.stopped ↦ halted (record { ledger = s .ledger; region = s .region; meter = x .meter })
-            | deducing.end ↦ going (record { ledger = s .ledger; region = s .region; meter = x .meter })
-            | deducing.output c ↦ onGoing (decideOn n c (record { ledger = s .ledger; region = s .region; meter = x .meter }))
+            | deducing.stopped ↦ halted (withMeter (x .meter) s)
+            | deducing.end ↦ going (withMeter (x .meter) s)
+            | deducing.output c ↦ onGoing (decideOn n c (withMeter (x .meter) s))
                 (publish g n r (x .cursor))
           ])
       go x y v ih = by (x .next) (v .after)
         where
           t : State
-          t = record { ledger = s .ledger; region = s .region; meter = x .meter }
+          t = withMeter (x .meter) s
 
           by : (z : Next) → After (s .region) (w .rest k) z (w .rest (x .cursor))
               → _≡_ {A = Turn} (elim z as (λ z. Turn) [
@@ -99,18 +99,14 @@ module _ (n : ℕ) (rows : List Row) (fine : Fine rows) where
 
   pub rounds-fuel : (f g : ℕ) (as′ : List ℕ) (s : State) → Step n rows fine s s → opens n (s .region) < f → opens n (s .region) < g
       → rounds f n as′ s ≡ rounds g n as′ s
-  unfolding rounds withMeter withHeader
+  unfolding rounds
   rounds-fuel zero g as′ s i h k = absurd (not-suc-le-zero h)
   rounds-fuel (suc f) zero as′ s i h k = absurd (not-suc-le-zero k)
   rounds-fuel (suc f) (suc g) as′ s i h k = go (search (s .ledger) as′ (s .meter) .found) (λ bs u j a b. rounds-fuel f g bs u j a b)
     where
       t : State
       t =
-          record {
-            ledger = record { header = search (s .ledger) as′ (s .meter) .header; entries = s .ledger .entries };
-            region = s .region;
-            meter = search (s .ledger) as′ (s .meter) .meter;
-          }
+          withMeter (search (s .ledger) as′ (s .meter) .meter) (withHeader (search (s .ledger) as′ (s .meter) .header) s)
 
       next : ℕ → State → Turn
       next fuel u = elim (decidedSince n (s .region) (u .region)) as (λ k. Turn) [ [] ↦ going u | a ∷ bs ↦ rounds fuel n (a ∷ bs) u ]
@@ -280,22 +276,22 @@ unfolding decideOn
 decide-halts n c s = opt-elim Halts (decide n (s .region) c) _ _ (λ e. tt) (λ r. tt)
 
 publish-halts : (fuel n : ℕ) (r : Row) (k : OutputCursor) (s : State) → Halts (publish fuel n r k s)
-unfolding publish withMeter
+unfolding publish
 publish-halts zero n r k s = tt
 publish-halts (suc fuel) n r k s =
     go (nextOutput (s .region) r k (s .meter)) (next-stop (s .region) r k (s .meter)) (λ l t. publish-halts fuel n r l t)
   where
     go : (x : Published) → Stops x → ((l : OutputCursor) (t : State) → Halts (publish fuel n r l t))
         → Halts (elim (x .next) as (λ z. Turn) [
-          | deducing.stopped ↦ halted (record { ledger = s .ledger; region = s .region; meter = x .meter })
-          | deducing.end ↦ going (record { ledger = s .ledger; region = s .region; meter = x .meter })
-          | deducing.output c ↦ onGoing (decideOn n c (record { ledger = s .ledger; region = s .region; meter = x .meter }))
+          | deducing.stopped ↦ halted (withMeter (x .meter) s)
+          | deducing.end ↦ going (withMeter (x .meter) s)
+          | deducing.output c ↦ onGoing (decideOn n c (withMeter (x .meter) s))
               (publish fuel n r (x .cursor))
         ])
     go x o ih = by (x .next) (o .stop)
       where
         t : State
-        t = record { ledger = s .ledger; region = s .region; meter = x .meter }
+        t = withMeter (x .meter) s
 
         by : (z : Next) → StopOk z (x .meter)
             → Halts (elim z as (λ z. Turn) [
@@ -313,22 +309,22 @@ follow-halts : (n : ℕ) (r : Row) (d : Deduction) (s : State) → Halts (follow
 unfolding follow
 follow-halts n r Nothing s = tt
 follow-halts n r Force s = publish-halts (suc (length (r .outputs))) n r startCursor s
-follow-halts n r (Require c) s = decide-halts n (c .0) s
+follow-halts n r (Require c o) s = decide-halts n (c .0) s
 
 reading-halts : (n : ℕ) (r : Row) (s : State) → Halts (reading n r s)
-unfolding reading withMeter
+unfolding reading
 reading-halts n r s = go (ticks (deductionTicks (s .region) r) (s .meter)) (ticks-spent (deductionTicks (s .region) r) (s .meter))
   where
-    at : Meter → State
-    at m = record { ledger = s .ledger; region = s .region; meter = m }
+    d : Deduction
+    d = deduction (s .region) r
 
     go : (t : Tick) → TickOk t
-        → Halts (elim t as (λ k. Turn) [ Stopped m ↦ halted (at m) | Ticked m ↦ follow n r (deduction (s .region) r) (at m) ])
+        → Halts (elim t as (λ k. Turn) [ Stopped m ↦ halted (withMeter m s) | Ticked m ↦ follow n r d (withNamed d (withMeter m s)) ])
     go (Stopped m) o = o
-    go (Ticked m) o = follow-halts n r (deduction (s .region) r) (at m)
+    go (Ticked m) o = follow-halts n r d (withNamed d (withMeter m s))
 
 hit-halts : (p : ℕ) (t : Turn) → Halts t → Halts (withHit p t)
-unfolding withHit counted
+unfolding withHit
 hit-halts p (going s) h = tt
 hit-halts p (conflict s) h = tt
 hit-halts p (halted s) h = h
@@ -343,7 +339,7 @@ round-halts n (p ∷ ps) s = halts-on Any (act n p s) (round n ps) (act-halts n 
 
 module _ (n : ℕ) (rows : List Row) (fine : Fine rows) where
   pub rounds-halts : (fuel : ℕ) (as′ : List ℕ) (s : State) → Step n rows fine s s → opens n (s .region) < fuel → Halts (rounds fuel n as′ s)
-  unfolding rounds withMeter withHeader
+  unfolding rounds
   rounds-halts zero as′ s i h = absurd (not-suc-le-zero h)
   rounds-halts (suc fuel) as′ s i h =
       go (search (s .ledger) as′ (s .meter)) (search-finds (s .ledger) as′ (s .meter)) (λ bs u j l. rounds-halts fuel bs u j l)
@@ -353,16 +349,16 @@ module _ (n : ℕ) (rows : List Row) (fine : Fine rows) where
           → Halts (elim (x .found) as (λ k. Turn) [
             | none
                 ↦ halted
-                (record { ledger = record { header = x .header; entries = s .ledger .entries }; region = s .region; meter = x .meter })
+                (withMeter (x .meter) (withHeader (x .header) s))
             | some ps
                 ↦ onGoing (round n ps
-                (record { ledger = record { header = x .header; entries = s .ledger .entries }; region = s .region; meter = x .meter }))
+                (withMeter (x .meter) (withHeader (x .header) s)))
                 (λ u. elim (decidedSince n (s .region) (u .region)) as (λ k. Turn) [ [] ↦ going u | a ∷ bs ↦ rounds fuel n (a ∷ bs) u ])
           ])
       go x o ih = by (x .found) (o .find)
         where
           t : State
-          t = record { ledger = record { header = x .header; entries = s .ledger .entries }; region = s .region; meter = x .meter }
+          t = withMeter (x .meter) (withHeader (x .header) s)
 
           next : State → Turn
           next u = elim (decidedSince n (s .region) (u .region)) as (λ k. Turn) [ [] ↦ going u | a ∷ bs ↦ rounds fuel n (a ∷ bs) u ]
@@ -388,28 +384,21 @@ module _ (n : ℕ) (rows : List Row) (fine : Fine rows) where
   closing-halts l r m e q s =
       subst (λ (k : ℕ). Halts
       (rounds (suc k) k []
-      (record { ledger = record { header = withFull (l .header) true; entries = l .entries }; region = r; meter = m }))) (sym e)
+      (begun l r m))) (sym e)
       (rounds-halts (suc n) []
-      (record { ledger = record { header = withFull (l .header) true; entries = l .entries }; region = r; meter = m })
+      (begun l r m)
       (record { sound = s; grown = λ x t. t; same = q }) (suc-le-suc (opens-le n r)))
 
 -- ---- Close answers Stopped only on a spent meter
 abbrev IsStopped : Reply → Type 0
 IsStopped (refused k) = ⊥
 IsStopped (answered c v) = c ≡ 2
+IsStopped (named c v o) = ⊥
 
 turn-spent : (x y : List ℕ) (m : Meter) (t : Turn) → Halts t
-    → (elim t as (λ k. CloseEnd) [
-      | going u ↦ closeEnd close-answer.Closed u x y m
-      | conflict u ↦ closeEnd close-answer.Conflict u x y m
-      | halted u ↦ closeEnd close-answer.Stopped u x y m
-    ]) .answer ≡ closeReply close-answer.Stopped
+    → (closedBy t x y m) .answer ≡ closeReply close-answer.Stopped
     → Spent
-    ((elim t as (λ k. CloseEnd) [
-      | going u ↦ closeEnd close-answer.Closed u x y m
-      | conflict u ↦ closeEnd close-answer.Conflict u x y m
-      | halted u ↦ closeEnd close-answer.Stopped u x y m
-    ]) .meter)
+    ((closedBy t x y m) .meter)
 unfolding closeEnd
 turn-spent x y m (going u) i e = absurd (let z : _≡_ {A = ℕ} 0 2 = subst IsStopped (sym e) refl in omega arith)
 turn-spent x y m (conflict u) i e = absurd (let z : _≡_ {A = ℕ} 1 2 = subst IsStopped (sym e) refl in omega arith)
@@ -426,22 +415,8 @@ close-stopped s held cut x y m = go (refusal tests) refl
         ((regionOk s held cut, 6) ∷ [])
 
     ending : Option ℕ → CloseEnd
-    ending o = elim o as (λ k. CloseEnd) [
-      | some n ↦ record {
-        answer = refused n;
-        ledger = s;
-        region = region held cut;
-        rowScratch = x;
-        atomScratch = y;
-        meter = m;
-        ticks = 0;
-      }
-      | none ↦ elim (closing (ledgerIn s) (region held cut) m) [
-        | going t ↦ closeEnd close-answer.Closed t x y m
-        | conflict t ↦ closeEnd close-answer.Conflict t x y m
-        | halted t ↦ closeEnd close-answer.Stopped t x y m
-      ]
-    ]
+    ending o = elim o as (λ k. CloseEnd)
+        [ some n ↦ unclosed n s held cut x y m | none ↦ closedBy (closing (ledgerIn s) (region held cut) m) x y m ]
 
     go : (o : Option ℕ) → refusal tests ≡ o → ending o .answer ≡ closeReply close-answer.Stopped → Spent (ending o .meter)
     go (some k) e q = absurd (subst IsStopped (sym q) refl)

@@ -14,8 +14,9 @@ use Rattle.words.specs.Region.{Region, decide}
 use Rattle.meter.specs.declared.Meter.{Meter}
 use Rattle.meter.specs.Meter.{ticks}
 use Rattle.model.specs.Records.{Row, Ledger, rowsOf, rowAt, within}
-use Rattle.model.specs.Records.{withFull, hitEntry}
-use Rattle.model.specs.Closing.{State, Turn, going, conflict, halted, onGoing, withMeter, withHeader, hitAt, counted, decideOn}
+use Rattle.model.specs.Records.{hitEntry}
+use Rattle.model.specs.Closing.{State, Turn, going, conflict, halted, onGoing, withMeter, withRegion, withContradicted}
+use Rattle.model.specs.Closing.{withHeader, hitAt, counted, decideOn, naming, begun}
 use Rattle.model.specs.Closing.{withHit, publish, follow, reading, act, round, decidedSince, rounds, closing}
 use Rattle.model.specs.Priority.{In}
 use Rattle.model.proofs.Cover.{and-left, and-right}
@@ -24,6 +25,7 @@ use Rattle.model.proofs.Priority.Covering.{rowsE}
 use Rattle.model.proofs.Priority.Fine.{Fine}
 use Rattle.model.proofs.Priority.Steps.{opt-elim, tick-elim, Over}
 use Rattle.model.specs.declared.Deduction.{Deduction}
+use Rattle.model.specs.declared.Contradicted.{Contradicted}
 use Rattle.model.specs.declared.Deduction.the-variants.{Nothing, Force, Require}
 use Rattle.model.specs.declared.OutputCursor.{OutputCursor}
 use Rattle.model.specs.Deduction.{Next, Published, nextOutput, deduction, deductionTicks}
@@ -37,7 +39,7 @@ use Rattle.words.specs.Literal.{opposite}
 use Rattle.words.specs.Region.{holds, contradicts, markLiteral}
 use Rattle.words.proofs.Regions.{Sound}
 use Rattle.words.proofs.Deciding.{sound-apart, sound-inside}
-use Rattle.model.specs.Deduction.{failing, contradicted, deduceFrom}
+use Rattle.model.specs.Deduction.{failing, contradicted, requiring, deduceFrom}
 use Rattle.model.specs.Priority.{Contains, ClosedFor, Says}
 use Rattle.model.proofs.Cover.{or-split}
 use Rattle.model.proofs.Priority.Conditions.{row-clean, mark-sound, holds-mark}
@@ -71,7 +73,7 @@ fold-con r o t = t
 abbrev pub IsForce : Deduction → Type 0
 IsForce Nothing = ⊥
 IsForce Force = Unit {0}
-IsForce (Require c) = ⊥
+IsForce (Require c o) = ⊥
 
 pub force-holds : (q : Region) (r : Row) → deduction q r ≡ Force → (c : ℕ) → In c (r .conditions) → T (holds q c)
 unfolding deduction deduceFrom
@@ -85,7 +87,7 @@ force-holds q r e c m = go (failing q (r .conditions)) refl e
         each false w = absurd (subst (In c) z (failing-has q (r .conditions) c m (λ t. subst T w t)))
     go (x ∷ xs) z f = absurd (never (not (deducing.idle q (x ∷ xs)) && contradicted q (r .outputs)) f)
       where
-        never : (b : Bool) → (elim b as (λ k. Deduction) [ true ↦ Require (record { 0 = opposite x }) | false ↦ Nothing ]) ≡ Force → ⊥
+        never : (b : Bool) → (elim b as (λ k. Deduction) [ true ↦ requiring q r x | false ↦ Nothing ]) ≡ Force → ⊥
         never true g = subst IsForce (sym g) tt
         never false g = subst IsForce (sym g) tt
 
@@ -142,7 +144,7 @@ module _ (n : ℕ) (rows : List Row) (over : Over n rows) (fine : Fine rows) (r�
     where
       go : (b : Bool) → (ltb (atom c) n && not (contradicts (s .region) c)) ≡ b
           → TurnIn (elim (elim b as (λ k. Option Region) [ true ↦ some (markLiteral (s .region) c) | false ↦ none ]) as (λ k. Turn)
-          [ none ↦ conflict s | some r ↦ going (record { ledger = s .ledger; region = r; meter = s .meter }) ])
+          [ none ↦ conflict s | some r ↦ going (withRegion r s) ])
       go true e =
           let t = T-of e in
           let h : c < 2 * n = double n c (ltb→lt (atom c) n (and-left (ltb (atom c) n) _ t)) in
@@ -227,22 +229,22 @@ module _ (n : ℕ) (rows : List Row) (over : Over n rows) (fine : Fine rows) (r�
   -- ---- publishing: every closed region above has the outputs
   publish-in : (fuel : ℕ) (r : Row) (k : OutputCursor) (s : State) → Asc 0 (r .outputs)
       → ((c : ℕ) → In c (r .outputs) → (d : Region) → Above d → T (holds d c)) → Good r k → Inside s → TurnIn (publish fuel n r k s)
-  unfolding publish withMeter
+  unfolding publish
   publish-in zero r k s a f g i = i
   publish-in (suc fuel) r k s a f g i =
       go (nextOutput (s .region) r k (s .meter)) (next-gives (s .region) r k (s .meter) a g) (λ l t h j. publish-in fuel r l t a f h j)
     where
       go : (x : Published) → Given r x → ((l : OutputCursor) (t : State) → Good r l → Inside t → TurnIn (publish fuel n r l t))
           → TurnIn (elim (x .next) as (λ z. Turn) [
-            | deducing.stopped ↦ halted (record { ledger = s .ledger; region = s .region; meter = x .meter })
-            | deducing.end ↦ going (record { ledger = s .ledger; region = s .region; meter = x .meter })
-            | deducing.output c ↦ onGoing (decideOn n c (record { ledger = s .ledger; region = s .region; meter = x .meter }))
+            | deducing.stopped ↦ halted (withMeter (x .meter) s)
+            | deducing.end ↦ going (withMeter (x .meter) s)
+            | deducing.output c ↦ onGoing (decideOn n c (withMeter (x .meter) s))
                 (publish fuel n r (x .cursor))
           ])
       go x y ih = by (x .next) refl
         where
           t : State
-          t = record { ledger = s .ledger; region = s .region; meter = x .meter }
+          t = withMeter (x .meter) s
 
           it : Inside t
           it = record { sound = i .sound; grown = i .grown; within = i .within; same = i .same }
@@ -264,7 +266,7 @@ module _ (n : ℕ) (rows : List Row) (over : Over n rows) (fine : Fine rows) (r�
   unfolding follow
   follow-in r Nothing s e a h i = i
   follow-in r Force s e a h i = publish-in _ r _ s a (λ c j. h c (inl (force-holds (s .region) r e, j))) (start-good r) i
-  follow-in r (Require c) s e a h i =
+  follow-in r (Require c o) s e a h i =
       decide-in (c .0) s i (h (c .0) (says (s .region) r (c .0) (subst (λ (k : Deduction). Says k r (c .0)) (sym e) refl)))
 
   heard-at : (s : State) → Inside s → (r : Row) → In r rows ⊎ (r ≡ empty-row) → Heard s r
@@ -278,16 +280,22 @@ module _ (n : ℕ) (rows : List Row) (over : Over n rows) (fine : Fine rows) (r�
       ⊎ (getD (rowsE (s .ledger .entries)) p empty-row ≡ empty-row)) (i .same) (row-in (rowsE (s .ledger .entries)) p empty-row)
 
   reading-in : (r : Row) (s : State) → In r rows ⊎ (r ≡ empty-row) → Inside s → TurnIn (reading n r s)
-  unfolding reading withMeter
+  unfolding reading
   reading-in r s w i =
-      tick-elim TurnIn (ticks (deductionTicks (s .region) r) (s .meter)) _ _ (λ m. it m)
-      (λ m. follow-in r (deduction (s .region) r) _ refl (asc-row rows fine r w) (heard-at _ (it m) r w) (it m))
+      tick-elim TurnIn (ticks (deductionTicks (s .region) r) (s .meter)) _ _ (λ m. it m (s .contradicted))
+      (λ m. follow-in r d _ refl (asc-row rows fine r w) (heard-at _ (it m after) r w) (it m after))
     where
-      it : (m : Meter) → Inside (record { ledger = s .ledger; region = s .region; meter = m })
-      it m = record { sound = i .sound; grown = i .grown; within = i .within; same = i .same }
+      d : Deduction
+      d = deduction (s .region) r
+
+      after : Contradicted
+      after = naming d (s .contradicted)
+
+      it : (m : Meter) (o : Contradicted) → Inside (withContradicted o (withMeter m s))
+      it m o = record { sound = i .sound; grown = i .grown; within = i .within; same = i .same }
 
   hit-in : (p : ℕ) (t : Turn) → TurnIn t → TurnIn (withHit p t)
-  unfolding withHit counted hitAt
+  unfolding withHit hitAt
   hit-in p t i = go t i
     where
       more : (s : State) → Inside s → Inside (counted p s)
@@ -318,7 +326,7 @@ module _ (n : ℕ) (rows : List Row) (over : Over n rows) (fine : Fine rows) (r�
   list-in (y ∷ ys) a f p q = q y ys
 
   pub rounds-in : (fuel : ℕ) (as′ : List ℕ) (s : State) → Inside s → TurnIn (rounds fuel n as′ s)
-  unfolding rounds withMeter withHeader
+  unfolding rounds
   rounds-in zero as′ s i = i
   rounds-in (suc fuel) as′ s i =
       opt-elim TurnIn (search (s .ledger) as′ (s .meter) .found) _ _ (λ e. it)
@@ -326,11 +334,7 @@ module _ (n : ℕ) (rows : List Row) (over : Over n rows) (fine : Fine rows) (r�
       (λ u j. list-in (decidedSince n (s .region) (u .region)) _ _ j (λ y ys. rounds-in fuel (y ∷ ys) u j)))
     where
       it : Inside
-          (record {
-            ledger = record { header = search (s .ledger) as′ (s .meter) .header; entries = s .ledger .entries };
-            region = s .region;
-            meter = search (s .ledger) as′ (s .meter) .meter;
-          })
+          (withMeter (search (s .ledger) as′ (s .meter) .meter) (withHeader (search (s .ledger) as′ (s .meter) .header) s))
       it = record { sound = i .sound; grown = i .grown; within = i .within; same = i .same }
 
   pub closing-in : (l : Ledger) (m : Meter) → l .header .limits .atoms ≡ n → rowsE (l .entries) ≡ rows → Sound n r₀
@@ -339,5 +343,5 @@ module _ (n : ℕ) (rows : List Row) (over : Over n rows) (fine : Fine rows) (r�
   closing-in l m e q s =
       subst (λ (k : ℕ). TurnIn
       (rounds (suc k) k []
-      (record { ledger = record { header = withFull (l .header) true; entries = l .entries }; region = r₀; meter = m }))) (sym e)
+      (begun l r₀ m))) (sym e)
       (rounds-in (suc n) [] _ (record { sound = s; grown = λ x t. t; within = λ c a x t. a .above x t; same = q }))

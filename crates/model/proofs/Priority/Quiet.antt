@@ -16,7 +16,7 @@ use Rattle.model.specs.Records.{Row, Entry, Ledger, rowsOf, rowAt}
 use Rattle.model.specs.Records.{withStale, withFull, hitEntry}
 use Rattle.model.specs.Refusals.{Lent, refusal, ledgerIn, lentOf, accepts}
 use Rattle.model.specs.Operations.{positionOk, hit, begin}
-use Rattle.model.specs.Closing.{State, Turn, going, conflict, halted, onGoing, withMeter, withHeader, hitAt, counted, decideOn}
+use Rattle.model.specs.Closing.{State, Turn, going, conflict, halted, onGoing, hitAt, decideOn}
 use Rattle.model.specs.Closing.{withHit, publish, follow, reading, earns, act, round, decidedSince, rounds, closing}
 use Rattle.model.proofs.Priority.Covering.{rowsE}
 use Rattle.model.proofs.Priority.Steps.{if-elim, opt-elim, tick-elim}
@@ -29,7 +29,7 @@ use Rattle.model.specs.declared.OutputCursor.{OutputCursor}
 use Rattle.model.specs.Deduction.{Next, nextOutput, deduction, deductionTicks}
 use Rattle.model.specs.Deduction as deducing
 use Rattle.model.specs.Postings.{Search, searched, rebuilt, candidates as search, postingsOf, searchTicks}
-use Rattle.model.specs.Operations.{HitEnd, BeginEnd, CandidatesEnd, CloseEnd, closeEnd, candidates, close}
+use Rattle.model.specs.Operations.{HitEnd, BeginEnd, CandidatesEnd, CloseEnd, closeEnd, closedBy, candidates, close}
 use Rattle.model.proofs.Entries.{hit-row}
 
 -- ---- rows stay where entries are changed in their counts alone
@@ -132,7 +132,7 @@ next-elim P deducing.end a b f pa pb pf = pb
 next-elim P (deducing.output c) a b f pa pb pf = pf c
 
 publish-same : (l : Ledger) (fuel n : ℕ) (r : Row) (k : OutputCursor) (s : State) → Same l (s .ledger) → TurnSame l (publish fuel n r k s)
-unfolding publish withMeter
+unfolding publish
 publish-same l zero n r k s p = p
 publish-same l (suc fuel) n r k s p =
     next-elim (TurnSame l) (nextOutput (s .region) r k (s .meter) .next) _ _ _ p p
@@ -142,10 +142,10 @@ follow-same : (l : Ledger) (n : ℕ) (r : Row) (d : Deduction) (s : State) → S
 unfolding follow
 follow-same l n r Nothing s q = q
 follow-same l n r Force s q = publish-same l _ n r _ s q
-follow-same l n r (Require c) s q = decide-same l n (c .0) s q
+follow-same l n r (Require c o) s q = decide-same l n (c .0) s q
 
 reading-same : (l : Ledger) (n : ℕ) (r : Row) (s : State) → Same l (s .ledger) → TurnSame l (reading n r s)
-unfolding reading withMeter
+unfolding reading
 reading-same l n r s q =
     tick-elim (TurnSame l) (ticks (deductionTicks (s .region) r) (s .meter)) _ _ (λ m. q)
     (λ m. follow-same l n r (deduction (s .region) r) _ q)
@@ -157,7 +157,7 @@ unfolding act
 act-by P n p s a b = if-elim P (earns n (s .region) (reading n (rowAt p (s .ledger)) s)) _ _ (λ t. b) a
 
 turn-hit : (l : Ledger) (p : ℕ) (t : Turn) → TurnSame l t → TurnSame l (withHit p t)
-unfolding withHit counted
+unfolding withHit
 turn-hit l p t q = go t q
   where
     more : (k : Ledger) → Same l k → Same l (hitAt p k)
@@ -182,7 +182,7 @@ list-elim P [] a f pa pf = pa
 list-elim P (y ∷ ys) a f pa pf = pf y ys
 
 rounds-same : (l : Ledger) (fuel n : ℕ) (as′ : List ℕ) (s : State) → Same l (s .ledger) → TurnSame l (rounds fuel n as′ s)
-unfolding rounds withMeter withHeader
+unfolding rounds
 rounds-same l zero n as′ s q = q
 rounds-same l (suc fuel) n as′ s q =
     let h : Same l (record { header = search (s .ledger) as′ (s .meter) .header; entries = s .ledger .entries }) =
@@ -201,11 +201,7 @@ closing-same l r m = rounds-same l _ _ [] _ (full-same l true)
 
 turn-step : (s : Lent) (x y : List ℕ) (m : Meter) (t : Turn) → Accepted s → TurnSame (ledgerIn s) t
     → StepOk s
-    ((elim t as (λ k. CloseEnd) [
-      | going u ↦ closeEnd close-answer.Closed u x y m
-      | conflict u ↦ closeEnd close-answer.Conflict u x y m
-      | halted u ↦ closeEnd close-answer.Stopped u x y m
-    ]) .ledger) [] false
+    ((closedBy t x y m) .ledger) [] false
 unfolding closeEnd
 turn-step s x y m (going u) a q = same-step s (u .ledger) a q
 turn-step s x y m (conflict u) a q = same-step s (u .ledger) a q

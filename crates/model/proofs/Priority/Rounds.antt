@@ -24,8 +24,8 @@ use Rattle.model.specs.Records.{Row, Ledger, rowsOf, rowAt, hitEntry, wi
 use Rattle.model.specs.Deduction.{Next, Published, nextOutput, deduction, deductionTicks, startCursor}
 use Rattle.model.specs.Deduction as deducing
 use Rattle.model.specs.Postings.{candidates as search}
-use Rattle.model.specs.Closing.{State, Turn, going, conflict, halted, onGoing, withMeter, withHeader, hitAt, counted, decideOn}
-use Rattle.model.specs.Closing.{withHit, publish, follow, reading, act, round, decidedSince, rounds, closing}
+use Rattle.model.specs.Closing.{State, Turn, going, conflict, halted, onGoing, withMeter, withHeader, withRegion, hitAt, decideOn}
+use Rattle.model.specs.Closing.{withNamed, begun, withHit, publish, follow, reading, act, round, decidedSince, rounds, closing}
 use Rattle.model.specs.Priority.{In, Contains, ClosedFor, Says}
 use Rattle.model.proofs.Cover.{and-left, and-right}
 use Rattle.model.proofs.Packing.{Asc}
@@ -170,7 +170,7 @@ module _ (n : ℕ) (rows : List Row) (fine : Fine rows) where
     where
       go : (b : Bool) → (ltb (atom c) n && not (contradicts (s .region) c)) ≡ b
           → OnGoing (Decides c s) (elim (elim b as (λ k. Option Region) [ true ↦ some (markLiteral (s .region) c) | false ↦ none ])
-          as (λ k. Turn) [ none ↦ conflict s | some r ↦ going (record { ledger = s .ledger; region = r; meter = s .meter }) ])
+          as (λ k. Turn) [ none ↦ conflict s | some r ↦ going (withRegion r s) ])
       go true e =
           let t = T-of e in
           let h : c < 2 * n = double n c (ltb→lt (atom c) n (and-left (ltb (atom c) n) _ t)) in
@@ -191,7 +191,7 @@ module _ (n : ℕ) (rows : List Row) (fine : Fine rows) where
   publish-step : (fuel : ℕ) (r : Row) (w : Resting r) (k : OutputCursor) (s : State) → Asc 0 (r .outputs) → Good r k → Step s s
       → length (w .rest k) < fuel
       → ((y : ℕ) → In y (r .outputs) → In y (w .rest k) ⊎ T (holds (s .region) y)) → OnGoing (AllOut r s) (publish fuel n r k s)
-  unfolding publish withMeter
+  unfolding publish
   publish-step zero r w k s a g i l f = absurd (not-suc-le-zero l)
   publish-step (suc fuel) r w k s a g i l f =
       go (nextOutput (s .region) r k (s .meter)) (next-gives (s .region) r k (s .meter) a g) (w .turn (s .region) k (s .meter) g)
@@ -201,15 +201,15 @@ module _ (n : ℕ) (rows : List Row) (fine : Fine rows) where
           → ((x : OutputCursor) (t : State) → Good r x → Step t t → length (w .rest x) < fuel
           → ((y : ℕ) → In y (r .outputs) → In y (w .rest x) ⊎ T (holds (t .region) y)) → OnGoing (AllOut r t) (publish fuel n r x t))
           → OnGoing (AllOut r s) (elim (x .next) as (λ z. Turn) [
-            | deducing.stopped ↦ halted (record { ledger = s .ledger; region = s .region; meter = x .meter })
-            | deducing.end ↦ going (record { ledger = s .ledger; region = s .region; meter = x .meter })
-            | deducing.output c ↦ onGoing (decideOn n c (record { ledger = s .ledger; region = s .region; meter = x .meter }))
+            | deducing.stopped ↦ halted (withMeter (x .meter) s)
+            | deducing.end ↦ going (withMeter (x .meter) s)
+            | deducing.output c ↦ onGoing (decideOn n c (withMeter (x .meter) s))
                 (publish fuel n r (x .cursor))
           ])
       go x y v ih = by (x .next) (v .after)
         where
           t : State
-          t = record { ledger = s .ledger; region = s .region; meter = x .meter }
+          t = withMeter (x .meter) s
 
           st : Step s t
           st = record { sound = i .sound; grown = λ y h. h; same = i .same }
@@ -269,7 +269,7 @@ module _ (n : ℕ) (rows : List Row) (fine : Fine rows) where
       on-map (AllOut r s) (Settles r s) (publish (suc (length (r .outputs))) n r startCursor s)
       (λ t z. (z .0, settled-forced r (s .region) (t .region) e (z .0 .grown) (z .1)))
       (publish-step (suc (length (r .outputs))) r w startCursor s a (start-good r) i (suc-le-suc (w .short)) (λ y j. inl (w .all y j)))
-  follow-step r (Require c) s e a i =
+  follow-step r (Require c o) s e a i =
       on-map (Decides (c .0) s) (Settles r s) (decideOn n (c .0) s)
       (λ t z. (
         z .0,
@@ -281,7 +281,7 @@ module _ (n : ℕ) (rows : List Row) (fine : Fine rows) where
       (decide-step (c .0) s i)
 
   reading-step : (r : Row) (s : State) → Asc 0 (r .outputs) → Step s s → OnGoing (Settles r s) (reading n r s)
-  unfolding reading withMeter
+  unfolding reading
   reading-step r s a i =
       tick-elim (OnGoing (Settles r s)) (ticks (deductionTicks (s .region) r) (s .meter)) _ _ (λ m. tt)
       (λ m. on-map (Settles r (at m)) (Settles r s) (follow n r (deduction (s .region) r) (at m))
@@ -289,11 +289,11 @@ module _ (n : ℕ) (rows : List Row) (fine : Fine rows) where
       (follow-step r (deduction (s .region) r) (at m) refl a (record { sound = i .sound; grown = λ y h. h; same = i .same })))
     where
       at : Meter → State
-      at m = record { ledger = s .ledger; region = s .region; meter = m }
+      at m = withNamed (deduction (s .region) r) (withMeter m s)
 
   -- a hit changes no row and no region
   hit-step : (p : ℕ) (r : Row) (s : State) (t : Turn) → OnGoing (Settles r s) t → OnGoing (Settles r s) (withHit p t)
-  unfolding withHit counted hitAt
+  unfolding withHit hitAt
   hit-step p r s (going t) z = (
     record {
       sound = z .0 .sound;
@@ -415,7 +415,7 @@ module _ (n : ℕ) (rows : List Row) (fine : Fine rows) where
 
   pub rounds-closed : (fuel : ℕ) (as′ : List ℕ) (s : State) → length rows ≤ maxRows → Step s s → Ready s as′
       → OnGoing Ended (rounds fuel n as′ s)
-  unfolding rounds withMeter withHeader
+  unfolding rounds
   rounds-closed zero as′ s few i y = tt
   rounds-closed (suc fuel) as′ s few i y =
       go (search (s .ledger) as′ (s .meter) .found)
@@ -425,11 +425,7 @@ module _ (n : ℕ) (rows : List Row) (fine : Fine rows) where
     where
       t : State
       t =
-          record {
-            ledger = record { header = search (s .ledger) as′ (s .meter) .header; entries = s .ledger .entries };
-            region = s .region;
-            meter = search (s .ledger) as′ (s .meter) .meter;
-          }
+          withMeter (search (s .ledger) as′ (s .meter) .meter) (withHeader (search (s .ledger) as′ (s .meter) .header) s)
 
       next : State → Turn
       next u = elim (decidedSince n (s .region) (u .region)) as (λ k. Turn) [ [] ↦ going u | a ∷ bs ↦ rounds fuel n (a ∷ bs) u ]
@@ -462,5 +458,5 @@ module _ (n : ℕ) (rows : List Row) (fine : Fine rows) where
   closing-closed l r m few e q s =
       subst (λ (k : ℕ). OnGoing Ended
       (rounds (suc k) k []
-      (record { ledger = record { header = withFull (l .header) true; entries = l .entries }; region = r; meter = m }))) (sym e)
+      (begun l r m))) (sym e)
       (rounds-closed (suc n) [] _ few (record { sound = s; grown = λ x t. t; same = q }) (inl (T-of (full-true l))))

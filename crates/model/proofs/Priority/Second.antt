@@ -20,8 +20,8 @@ use Rattle.model.specs.declared.CloseAnswer.the-variants.{Stopped, Confl
 use Rattle.model.specs.Records.{Row, rowsOf, limitsOk, slotWords, maxRows}
 use Rattle.model.specs.Slots.{entriesIn}
 use Rattle.model.specs.Refusals.{Lent, ledgerIn, refusal, accepts, contentsOk, countsOk}
-use Rattle.model.specs.Answers.{Reply, refused, answered, closeReply}
-use Rattle.model.specs.Operations.{CloseEnd, closeEnd, close, regionOk}
+use Rattle.model.specs.Answers.{Reply, refused, answered, named, closeReply}
+use Rattle.model.specs.Operations.{CloseEnd, closeEnd, unclosed, closedBy, close, regionOk}
 use Rattle.model.specs.Closing.{Turn, going, conflict, halted, closing}
 use Rattle.model.specs.Priority.{Contains, ClosedFor, NoneClosed, Ended, Right, ClosesRight, CloseAlike, SecondHalf, Demand3}
 use Rattle.model.proofs.Cover.{and-left, and-right}
@@ -64,23 +64,16 @@ few-rows s a =
 abbrev NotRefused : Reply → Type 0
 NotRefused (refused k) = ⊥
 NotRefused (answered c v) = Unit {0}
+NotRefused (named c v o) = Unit {0}
 
 pub record Shut (s : Lent) (e : CloseEnd) : Type 0 where
   pub closed : e .answer ≡ closeReply Closed → ClosedFor (rowsE (ledgerIn s .entries)) (e .region)
   pub taken : NotRefused (e .answer) → Accepted s
 
 turn-closed : (rows : List Row) (x y : List ℕ) (m : Meter) (t : Turn) → OnGoing (λ u. ClosedFor rows (u .region)) t
-    → (elim t as (λ k. CloseEnd) [
-      | going u ↦ closeEnd Closed u x y m
-      | conflict u ↦ closeEnd Conflict u x y m
-      | halted u ↦ closeEnd Stopped u x y m
-    ]) .answer ≡ closeReply Closed
+    → (closedBy t x y m) .answer ≡ closeReply Closed
     → ClosedFor rows
-    ((elim t as (λ k. CloseEnd) [
-      | going u ↦ closeEnd Closed u x y m
-      | conflict u ↦ closeEnd Conflict u x y m
-      | halted u ↦ closeEnd Stopped u x y m
-    ]) .region)
+    ((closedBy t x y m) .region)
 unfolding closeEnd
 turn-closed rows x y m (going u) i e = i
 turn-closed rows x y m (conflict u) i e = absurd (subst IsClosed (sym e) tt)
@@ -95,14 +88,8 @@ close-shut s held cut x y m = go (refusal tests) refl
         accepts s (eqb (length x) (s .header .limits .«tier_rows») && eqb (length y) (s .header .limits .atoms))
         ((regionOk s held cut, 6) ∷ [])
 
-    go : (o : Option ℕ) → refusal tests ≡ o → Shut s (elim o as (λ k. CloseEnd) [
-      | some n ↦ record { answer = refused n; ledger = s; region = region held cut; rowScratch = x; atomScratch = y; meter = m; ticks = 0 }
-      | none ↦ elim (closing (ledgerIn s) (region held cut) m) [
-        | going t ↦ closeEnd Closed t x y m
-        | conflict t ↦ closeEnd Conflict t x y m
-        | halted t ↦ closeEnd Stopped t x y m
-      ]
-    ])
+    go : (o : Option ℕ) → refusal tests ≡ o → Shut s (elim o as (λ k. CloseEnd)
+        [ some n ↦ unclosed n s held cut x y m | none ↦ closedBy (closing (ledgerIn s) (region held cut) m) x y m ])
     go (some k) e = record { closed = λ q. absurd (subst IsClosed (sym q) tt); taken = λ z. absurd z }
     go none e =
         let a = accepted s (eqb (length x) (s .header .limits .«tier_rows») && eqb (length y) (s .header .limits .atoms))
