@@ -19,6 +19,8 @@ pub enum Spoil {
     Alike,
     /// A stopped closing is awaited to have stopped one tick later.
     Stopped,
+    /// The output of the first Require is awaited in place of the last one's.
+    Named,
 }
 
 pub struct Run {
@@ -38,13 +40,18 @@ pub struct Subject {
 }
 
 /// What must occur for a run to count.
-const MUST_OCCUR: [&str; 16] = [
+const MUST_OCCUR: [&str; 21] = [
     "Closed with nothing decided",
     "Closed with something decided",
     "Closed with a round by postings",
     "Conflict",
     "Stopped with nothing decided",
     "Stopped with something decided",
+    "Closed with an output named",
+    "Conflict with an output named",
+    "Stopped with an output named",
+    "an output named by the last of several Requires",
+    "an output named that is not the least at the end",
     "a ledger that evicted",
     "a ledger with a packed row",
     "a ledger of more than 64 rows",
@@ -128,8 +135,9 @@ impl Run {
         let fault = subject.fault(&before, given, &closing, &told);
         self.expect(fault, &subject.rows, given);
         self.count(subject, given, closing.ending());
+        self.count_named(&closing, &told);
         if self.random.chance(1, 200) {
-            self.stop_everywhere(&before, &closing, &subject.rows, given);
+            self.stop_everywhere(&before, &closing, &subject.rows, &told);
         }
         closing.ending()
     }
@@ -145,8 +153,29 @@ impl Run {
         self.occurs("Conflict", conflict);
     }
 
+    fn count_named(&mut self, closing: &Closing, told: &Told) {
+        let named = closing.named.is_some();
+        let first = told.requires.first().map(|first| first.output);
+        let least = told.named().map(|last| last.row.contradicted(told.region));
+        let least = least.and_then(Literals::least);
+        let closed = closing.case == Case::Closed;
+        self.occurs("Closed with an output named", named && closed);
+        self.occurs("Conflict with an output named", named && !closed);
+        self.occurs(
+            "an output named by the last of several Requires",
+            first != closing.named,
+        );
+        self.occurs(
+            "an output named that is not the least at the end",
+            least != closing.named,
+        );
+    }
+
     fn told(&self, rows: &[Row], given: Literals) -> Told {
         let mut told = rounds::close(rows, given);
+        if self.spoil == Spoil::Named {
+            told.requires.truncate(1);
+        }
         let first = told.hits.iter().position(|hits| *hits > 0);
         if let (Spoil::Hits, Some(first)) = (self.spoil, first) {
             told.hits[first] += 1;
@@ -155,21 +184,26 @@ impl Run {
     }
 
     /// The same closing with every limit up to its ticks. Below them it is Stopped at the limit, and the region lies between that of the limit before
-    /// and the one that the whole closing leaves.
-    fn stop_everywhere(&mut self, ledger: &Ledger, whole: &Closing, rows: &[Row], given: Literals) {
+    /// and the one that the whole closing leaves: so many atoms are decided, and it stands where the rounds stand after as many.
+    fn stop_everywhere(&mut self, ledger: &Ledger, whole: &Closing, rows: &[Row], told: &Told) {
         let late = u64::from(self.spoil == Spoil::Stopped);
+        let given = told.steps[0].region;
         let mut least = given;
         for limit in 0..=whole.ticks {
             let mut after = ledger.clone();
             let closing = after.close(given, limit, limit);
-            let decided = closing.region.without(given).codes().len() as u64;
+            let decided = u64::from(closing.region.without(given).count());
             let hits = after.hits() - ledger.hits();
             let stopped = Closing {
                 case: Case::Stopped,
                 ticks: limit + late,
                 region: closing.region,
+                named: closing.named,
                 scratch_is_zero: true,
             };
+            let step = told.steps.get(decided as usize);
+            let stands = step.is_some_and(|step| step.region == closing.region);
+            let named = step.and_then(|step| step.named).map(|last| last.output);
             let between = closing.region.contains(least) && whole.region.contains(closing.region);
             let ended = limit == whole.ticks;
             let right = closing == if ended { *whole } else { stopped };
@@ -177,7 +211,11 @@ impl Run {
             let earned = ended || hits <= decided && (hits > 0) == (decided > 0);
             let fault = first_fault(&[
                 (right, "a limit does not stop a closing"),
-                (between, "stopped with another region"),
+                (between && stands, "stopped with another region"),
+                (
+                    named == closing.named,
+                    "stopped with another output named than by the last Require",
+                ),
                 (
                     earned,
                     "stopped with other hits than the atoms decided earn",
@@ -192,6 +230,7 @@ impl Run {
                 "Stopped with something decided",
                 !ended && closing.region != given,
             );
+            self.occurs("Stopped with an output named", !ended && named.is_some());
             least = closing.region;
         }
     }
@@ -225,6 +264,10 @@ impl Subject {
             (
                 told.region == closing.region,
                 "another region than the rounds leave",
+            ),
+            (
+                told.named().map(|last| last.output) == closing.named,
+                "another output named than by the last Require",
             ),
             (closing.scratch_is_zero, "scratch is not zero"),
             (

@@ -1,7 +1,7 @@
 //! A ledger behind the C boundary (include/ledger.h), with the rows that it took.
 
 use crate::book::Book;
-use crate::boundary::{Answer, HEADER_WORDS, POSTING_WORDS, SLOT_WORDS};
+use crate::boundary::{ANSWER_WORDS, Answer, HEADER_WORDS, POSTING_WORDS, SLOT_WORDS};
 use crate::rows::{Ending, Literals, Row};
 
 pub const ROWS: usize = 11;
@@ -26,6 +26,7 @@ pub struct Closing {
     pub case: Case,
     pub ticks: u64,
     pub region: Literals,
+    pub named: Option<u64>,
     pub scratch_is_zero: bool,
 }
 
@@ -35,6 +36,7 @@ impl Closing {
             case: [Case::Closed, Case::Conflict, Case::Stopped][answer[0] as usize],
             ticks: answer[2],
             region,
+            named: named(answer),
             scratch_is_zero: scratch.iter().all(|word| *word == 0),
         }
     }
@@ -45,6 +47,15 @@ impl Closing {
             Case::Closed => Ending::Closed(self.region),
             _ => Ending::Conflict,
         }
+    }
+}
+
+/// The output that a closing names. Where there is none the word of its code is 0.
+fn named(answer: Answer) -> Option<u64> {
+    match (answer[1], answer[3]) {
+        (0, 0) => None,
+        (1, code) => Some(code),
+        other => panic!("no words of a closing: {other:?}"),
     }
 }
 
@@ -85,21 +96,21 @@ impl Ledger {
             slots: vec![1; SLOT_WORDS * tier_rows as usize],
             postings: vec![1; POSTING_WORDS * tier_rows as usize],
         };
-        let refusal = book.make(&words, 1, &mut [0; 3]);
+        let refusal = book.make(&words, 1, &mut [0; ANSWER_WORDS]);
         assert_eq!(refusal, 0, "make is refused");
         let taken = Vec::new();
         Ledger { atoms, book, taken }
     }
 
     pub fn hit(&mut self, position: u64) {
-        let refusal = self.book.hit(position, &mut [0; 3]);
+        let refusal = self.book.hit(position, &mut [0; ANSWER_WORDS]);
         assert_eq!(refusal, 0, "hit is refused");
     }
 
     /// Offers a row, with a meter that allows so many ticks.
     pub fn offer(&mut self, row: Row, limit: u64) {
         let (conditions, outputs) = (row.conditions.codes(), row.outputs.codes());
-        let mut answer = [0; 3];
+        let mut answer = [0; ANSWER_WORDS];
         let meter = &mut [0, limit];
         let refusal = self.book.offer(&conditions, &outputs, &mut answer, meter);
         assert_eq!(refusal, 0, "an offer is refused");
@@ -108,12 +119,13 @@ impl Ledger {
         }
     }
 
-    /// Closes a region, with a meter that allows so many ticks. What stands in the scratch before does not matter: it is `fill`.
+    /// Closes a region, with a meter that allows so many ticks. What stands in the answer and the scratch before does not matter: it is
+    /// `fill`.
     pub fn close(&mut self, region: Literals, limit: u64, fill: u64) -> Closing {
         let (mut held, mut cut) = region.held_and_cut();
         let tier_rows = self.book.slots.len() / SLOT_WORDS;
         let mut scratch = vec![fill; tier_rows + self.atoms as usize];
-        let (mut answer, mut meter) = ([0; 3], [0, limit]);
+        let (mut answer, mut meter) = ([fill; ANSWER_WORDS], [0, limit]);
         let lent = (
             std::slice::from_mut(&mut held),
             std::slice::from_mut(&mut cut),
@@ -127,7 +139,7 @@ impl Ledger {
 
     /// Takes the rows of a store. The meter and the account pay for all of them, and each finds a place: all are taken.
     pub fn seed(&mut self, store: &mut Ledger) {
-        let mut answer = [0; 3];
+        let mut answer = [0; ANSWER_WORDS];
         let meter = &mut [0, u64::MAX];
         let refusal = self.book.seed(&mut store.book, &mut answer, meter);
         assert_eq!(
@@ -140,7 +152,7 @@ impl Ledger {
 
     /// Gives its rows to a store, which takes all of them.
     pub fn deliver(&mut self, store: &mut Ledger) {
-        let mut answer = [0; 3];
+        let mut answer = [0; ANSWER_WORDS];
         let meter = &mut [0, u64::MAX];
         let refusal = self.book.deliver(&mut store.book, &mut answer, meter);
         assert_eq!(

@@ -1,6 +1,6 @@
 //! Closings through the compiled operation, held against brute force.
 //!
-//!     closings CLOSINGS SEED [drop|hits|alike|stopped]
+//!     closings CLOSINGS SEED [drop|hits|alike|stopped|named]
 //!
 //! Random ledgers over 1 to 4 atoms, and all 3^atoms regions of each. The last line is 'N closings, M differ'; the exit code is 0 only if M is 0
 //! and all that must occur did. The last word makes the comparison wrong, to show that it finds what differs.
@@ -51,6 +51,7 @@ fn spoil_named(name: Option<&str>) -> Option<Spoil> {
         Some("hits") => Spoil::Hits,
         Some("alike") => Spoil::Alike,
         Some("stopped") => Spoil::Stopped,
+        Some("named") => Spoil::Named,
         Some(_) => return None,
     })
 }
@@ -74,7 +75,7 @@ fn main() -> ExitCode {
         number(1),
         spoil_named(words.get(2).map(String::as_str)),
     ) else {
-        println!("closings CLOSINGS SEED [drop|hits|alike|stopped]");
+        println!("closings CLOSINGS SEED [drop|hits|alike|stopped|named]");
         return ExitCode::from(2);
     };
     let mut run = Run::start(seed, spoil);

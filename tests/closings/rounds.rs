@@ -1,14 +1,33 @@
-//! Document 01's rounds with 02's hits, for what brute force does not tell: the hits of each row, and what a Conflict keeps.
+//! Document 01's rounds with 02's hits and names, for what brute force does not tell: the hits of each row, what a Conflict keeps, and the
+//! output that the last Require names, also where a closing is stopped.
 
 use crate::rows::{Deduction, Ending, Literals, Row};
 
 /// Up to so many rows every round takes all of them.
 pub const SCAN_ROWS: usize = 64;
 
+/// A Require that was acted on: the row, and the least output that was contradicted when it was read.
+#[derive(Clone, Copy)]
+pub struct Named {
+    pub row: Row,
+    pub output: u64,
+}
+
+/// What stands after an atom was decided: the region, and the last Require.
+#[derive(Clone, Copy)]
+pub struct Step {
+    pub region: Literals,
+    pub named: Option<Named>,
+}
+
 pub struct Told {
     pub ending: Ending,
     pub region: Literals,
     pub hits: Vec<u64>,
+    /// The Requires so far.
+    pub requires: Vec<Named>,
+    /// The region that was given, and then a step for each atom decided, in turn: a stopped closing stands at one of them.
+    pub steps: Vec<Step>,
 }
 
 /// The two signs of every atom of a set: what a row with such an atom meets.
@@ -17,6 +36,23 @@ fn atoms_of(set: Literals) -> Literals {
 }
 
 impl Told {
+    /// The last Require.
+    pub fn named(&self) -> Option<Named> {
+        self.requires.last().copied()
+    }
+
+    /// Marks a literal, whose opposite is not marked.
+    fn mark(&mut self, literal: Literals) {
+        if self.region.contains(literal) {
+            return;
+        }
+        self.region = self.region.with(literal);
+        self.steps.push(Step {
+            region: self.region,
+            named: self.named(),
+        });
+    }
+
     /// Marks the literals in the order of their codes; false at the first whose opposite is marked.
     fn decide(&mut self, literals: Literals) -> bool {
         let fits = |region: Literals, code: u64| !region.contains(Literals::of(&[code]).opposite());
@@ -24,7 +60,7 @@ impl Told {
             if !fits(self.region, code) {
                 return false;
             }
-            self.region = self.region.with(Literals::of(&[code]));
+            self.mark(Literals::of(&[code]));
         }
         true
     }
@@ -34,7 +70,14 @@ impl Told {
         let literals = match row.deduction(self.region) {
             Deduction::Nothing => return true,
             Deduction::Force => row.outputs,
-            Deduction::Require(literal) => literal,
+            Deduction::Require {
+                literal,
+                contradicted,
+            } => {
+                let output = contradicted.least().expect("a contradicted output");
+                self.requires.push(Named { row, output });
+                literal
+            }
         };
         let before = self.region;
         let goes_on = self.decide(literals);
@@ -59,6 +102,11 @@ pub fn close(rows: &[Row], given: Literals) -> Told {
         ending: Ending::Conflict,
         region: given,
         hits: vec![0; rows.len()],
+        requires: Vec::new(),
+        steps: vec![Step {
+            region: given,
+            named: None,
+        }],
     };
     let (mut all, mut decided) = (true, Literals::NONE);
     loop {

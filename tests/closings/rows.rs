@@ -43,6 +43,11 @@ impl Literals {
         self.0.count_ones()
     }
 
+    /// The least code, if there is one.
+    pub fn least(self) -> Option<u64> {
+        self.codes().first().copied()
+    }
+
     /// The words that the ledger is lent.
     pub fn held_and_cut(self) -> (u64, u64) {
         let bits = |first: u32| {
@@ -92,20 +97,33 @@ impl fmt::Debug for Row {
 pub enum Deduction {
     Nothing,
     Force,
-    Require(Literals),
+    Require {
+        literal: Literals,
+        contradicted: Literals,
+    },
 }
 
 impl Row {
+    /// The outputs whose opposites the region has.
+    pub fn contradicted(self, region: Literals) -> Literals {
+        let open = self.outputs.without(region.opposite());
+        self.outputs.without(open)
+    }
+
     /// Force if all conditions hold; Require the opposite of the only undecided condition if the others hold and some output is contradicted.
     pub fn deduction(self, region: Literals) -> Deduction {
         let open = self.conditions.without(region);
+        let contradicted = self.contradicted(region);
         if open.count() == 0 {
             Deduction::Force
         } else if open.count() == 1
             && !region.contains(open.opposite())
-            && region.opposite().meets(self.outputs)
+            && contradicted != Literals::NONE
         {
-            Deduction::Require(open.opposite())
+            Deduction::Require {
+                literal: open.opposite(),
+                contradicted,
+            }
         } else {
             Deduction::Nothing
         }
@@ -116,7 +134,7 @@ impl Row {
         match self.deduction(region) {
             Deduction::Nothing => true,
             Deduction::Force => region.contains(self.outputs),
-            Deduction::Require(literal) => region.contains(literal),
+            Deduction::Require { literal, .. } => region.contains(literal),
         }
     }
 }

@@ -46,9 +46,8 @@ pub fn shapes(outputs: &[u64], packed: bool, contradicted: &[u64]) -> [bool; SHA
     let [first, last, several] = of_form(false);
     let [packed_first, packed_last, packed_several] = of_form(true);
     let named = contradicted.first().copied();
-    let both = |sign: u64| {
-        named.is_some_and(|code| code % 2 == sign && outputs.contains(&(code ^ 1)))
-    };
+    let both =
+        |sign: u64| named.is_some_and(|code| code % 2 == sign && outputs.contains(&(code ^ 1)));
     [
         first,
         last,

@@ -421,11 +421,11 @@ module _ (r : Region) where
   contradicted-under t s n o k u e =
       go (contradictions r (s .outputs)) (ticks (outputLooks r (chunks (packed s) (s .outputs))) n)
       (select-under (contradicts r) t (s .outputs) u)
-      (e ∙ clashing-is r (chunks (packed s) (s .outputs)) n
+      (ap (λ (x : OutputsRead). x .state) (e ∙ clashing-is r (chunks (packed s) (s .outputs)) n
       ∙ ap (λ (l : List ℕ). outputsReadBy (contradictions r l) (ticks (outputLooks r (chunks (packed s) (s .outputs))) n))
-      (concat-chunks (packed s) (s .outputs)))
+      (concat-chunks (packed s) (s .outputs))))
     where
-      go : (os : List ℕ) (tick : Tick) → Under t os → outputsRead (output.Contradicted o) k ≡ outputsReadBy os tick → o < t
+      go : (os : List ℕ) (tick : Tick) → Under t os → output.Contradicted o ≡ outputsReadBy os tick .state → o < t
       go [] (Ticked i) v q = (let z : _≡_ {A = ℕ} 0 1 = cc in absurd (omega arith))
       go (p ∷ ps) (Ticked i) v q = (let z : o ≡ p = cc in let h = v .0 in omega arith)
       go os (Stopped i) v q = (let z : _≡_ {A = ℕ} 0 1 = cc in absurd (omega arith))

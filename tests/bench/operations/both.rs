@@ -54,9 +54,9 @@ impl Offered {
             tier.capture(&self.conditions, &self.outputs, work)
         });
         match retained.expect("the meter does not run out") {
-            Retention::Declined => [3, 0, ticks],
-            Retention::Subsumed(position) => [4, position as u64, ticks],
-            Retention::Added(position) => [5, position as u64, ticks],
+            Retention::Declined => [3, 0, ticks, 0],
+            Retention::Subsumed(position) => [4, position as u64, ticks, 0],
+            Retention::Added(position) => [5, position as u64, ticks, 0],
         }
     }
 }

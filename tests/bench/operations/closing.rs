@@ -68,7 +68,9 @@ fn agree(both: &mut Both, regions: &[Marks]) -> [f64; 3] {
         let answer = both
             .lent
             .close(&mut closed.held, &mut closed.cut, &mut rows, &mut atoms);
-        assert_eq!(answer, [u64::from(rounds.is_none()), 0, ticks], "a closing");
+        // No mark is against an output's value, so nothing is required, and no output named.
+        let expected = [u64::from(rounds.is_none()), 0, ticks, 0];
+        assert_eq!(answer, expected, "a closing");
         assert_eq!(
             (&closed.held[..], &closed.cut[..]),
             region.decision_words(),

@@ -1,7 +1,7 @@
 //! The verified ledger by the functions for C: its header and the two slices that are lent to every call.
 
 use crate::book::Book;
-use crate::boundary::{Answer, HEADER_WORDS, Limits, POSTING_WORDS, SLOT_WORDS};
+use crate::boundary::{ANSWER_WORDS, Answer, HEADER_WORDS, Limits, POSTING_WORDS, SLOT_WORDS};
 
 const ROWS: usize = 11;
 const STALE: usize = 20;
@@ -19,7 +19,7 @@ fn meter() -> [u64; 2] {
 
 /// The answer of a call that must not be refused.
 fn given(call: impl FnOnce(&mut Answer) -> u64) -> Answer {
-    let mut answer = [0; 3];
+    let mut answer = [0; ANSWER_WORDS];
     let refusal = call(&mut answer);
     assert_eq!(refusal, 0, "the call is not refused");
     answer

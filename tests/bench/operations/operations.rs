@@ -111,7 +111,8 @@ fn searches(name: &str, rows: &[Row]) {
     let (_, ticks) = metered(u64::MAX, |work| {
         built.tier.candidates_into(&places, &mut positions, work)
     });
-    assert_eq!(answer, [0, positions.len() as u64, ticks], "a search");
+    let expected = [0, positions.len() as u64, ticks, 0];
+    assert_eq!(answer, expected, "a search");
     assert!(
         positions
             .iter()

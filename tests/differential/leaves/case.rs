@@ -146,7 +146,8 @@ pub enum Answer {
     Yes,
     Nothing,
     Force,
-    Require(u64),
+    /// The literal that is required, and the output that is named.
+    Require(u64, u64),
     End,
     Output(u64),
     At(u64),

@@ -3,6 +3,7 @@
 
 use crate::case::{Case, Function, Row};
 use crate::random::Random;
+use crate::requires::{self, Place};
 use crate::rust;
 
 /// Numbers of atoms that are tried: tiny ones, both sides of a word's end, and the most.
@@ -267,6 +268,24 @@ pub fn case(random: &mut Random, function: Function) -> Case {
             case.number = random.below(64 * case.held.len() as u64 + 70);
         }
     }
+    case
+}
+
+/// A deduction of a row of 64 outputs, on a region under which it requires something.
+pub fn required(random: &mut Random) -> Case {
+    let mut case = Case::new(Function::Deduction, random.pick(&requires::ATOMS));
+    let packed = random.chance(1, 2);
+    let wide = requires::row(random, case.atoms, packed);
+    let words = mask_words(case.atoms);
+    (case.held, case.cut) = (vec![0; words], vec![0; words]);
+    let place = random.pick(&Place::ALL);
+    for code in wide.marks(random, place) {
+        mark(&mut case.held, &mut case.cut, code);
+    }
+    case.row = Row {
+        conditions: wide.conditions,
+        outputs: wide.outputs,
+    };
     case
 }
 

@@ -6,11 +6,15 @@
 //! It ends with 'N calls compared, M differ', and with exit code 0 only if M is 0 and all that must occur did.
 
 mod case;
+#[path = "../contradicted.rs"]
+mod contradicted;
 mod generate;
 mod library;
 #[path = "../../random.rs"]
 mod random;
 mod rattle;
+#[path = "../requires.rs"]
+mod requires;
 mod rust;
 mod shapes;
 mod shrink;
@@ -172,6 +176,10 @@ impl Comparison {
             if function == Function::NextOutput {
                 let case = generate::case(random, function);
                 self.publish(random, case);
+            }
+            if function == Function::Deduction {
+                let case = generate::required(random);
+                self.sweep(random, case);
             }
             let mut damaged = generate::case(random, function);
             generate::damage(random, &mut damaged);

@@ -81,10 +81,21 @@ fn call(case: &Case) -> Given {
     }
 }
 
+/// Whether the third word of an answer says something: the account left, or the output that a Require names. In others it is 0; of contains
+/// and insert, which answer no words, it is not looked at.
+fn says_third(function: Function, number: u64) -> bool {
+    let requires = function == Function::Deduction && number == 3;
+    let wordless = matches!(function, Function::Contains | Function::Insert);
+    function.pays() || requires || wordless
+}
+
 /// How the verified functions end the call. A number that is no answer of theirs ends the program.
 pub fn run(case: &Case) -> End {
-    let given = call(case);
+    let mut given = call(case);
     let [number, value, left, charged] = given.answer;
+    if given.result == 0 && !says_third(case.function, number) && left != 0 {
+        given.words.push(left);
+    }
     let ended = |answer: Answer, account: u64, charge: u64| End {
         answer,
         account,
@@ -103,7 +114,7 @@ pub fn run(case: &Case) -> End {
         (_, 0) => Answer::Stopped,
         (Function::Deduction, 1) => Answer::Nothing,
         (Function::Deduction, 2) => Answer::Force,
-        (Function::Deduction, 3) => Answer::Require(value),
+        (Function::Deduction, 3) => Answer::Require(value, left),
         (Function::NextOutput, 1) => Answer::End,
         (Function::NextOutput, 2) => Answer::Output(value),
         (_, 1) => Answer::Declined,

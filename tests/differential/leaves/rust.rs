@@ -5,6 +5,7 @@ use oracle::literals::{MOST_ATOMS, is_region, is_row};
 use oracle::{Cursor, Masks};
 
 use crate::case::{Answer, Case, End, Function, Row, SLOT_WORDS};
+use crate::contradicted::contradicted;
 
 /// The most conditions, and the most outputs, of a row.
 pub const MOST: (u64, u64) = (16, 64);
@@ -125,12 +126,22 @@ fn plain(answer: oracle::Answer) -> Answer {
         oracle::Answer::Stopped => Answer::Stopped,
         oracle::Answer::Nothing => Answer::Nothing,
         oracle::Answer::Force => Answer::Force,
-        oracle::Answer::Require(code) => Answer::Require(code),
         oracle::Answer::Output(code) => Answer::Output(code),
         oracle::Answer::End => Answer::End,
         oracle::Answer::True => Answer::Yes,
         oracle::Answer::False => Answer::No,
         other => panic!("no leaf answers {other:?}"),
+    }
+}
+
+/// The Rust's deduction. It does not say which output a Require names: that is read here, and not by the oracle's driver.
+fn deduced(case: &Case, answer: oracle::Answer) -> Answer {
+    match answer {
+        oracle::Answer::Require { required, .. } => {
+            let outputs = contradicted(&case.row.outputs, &case.held, &case.cut);
+            Answer::Require(required, outputs[0])
+        }
+        other => plain(other),
     }
 }
 
@@ -158,7 +169,7 @@ pub fn run(case: &Case) -> End {
         }
         Function::Deduction => {
             let done = leaves::deduction(row, &case.held, &case.cut, limit);
-            ended(plain(done.answer), done.charge, Vec::new())
+            ended(deduced(case, done.answer), done.charge, Vec::new())
         }
         Function::NextOutput => {
             let [next, word, present, absent] = case.cursor;

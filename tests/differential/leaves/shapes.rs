@@ -1,6 +1,7 @@
 //! What occurred in the calls, counted; and what must occur.
 
 use crate::case::{Answer, Case, End, Function, Row};
+use crate::contradicted;
 use crate::generate::GROUPS;
 use crate::rust;
 
@@ -16,7 +17,7 @@ fn ending(end: &End) -> &'static str {
         Answer::Yes => "Yes",
         Answer::Nothing => "Nothing",
         Answer::Force => "Force",
-        Answer::Require(_) => "Require",
+        Answer::Require(..) => "Require",
         Answer::End => "End",
         Answer::Output(_) => "Output",
         Answer::At(_) => "At",
@@ -127,7 +128,7 @@ fn united(row: &Row, other: &Row) -> u64 {
     outputs.len() as u64
 }
 
-/// The shapes of a case that has a row, and is fit: a bit for each of `SHAPES`.
+/// The shapes of a case that has a row, and is fit: a bit for each of `SHAPES`, and behind them for each of those of Requires.
 pub fn of_case(case: &Case) -> u32 {
     if !case.function.ticks() || rust::unfit(case).is_some() {
         return 0;
@@ -147,25 +148,34 @@ pub fn of_case(case: &Case) -> u32 {
         case.limit < case.charged,
         case.function.pays() && case.sharing,
     ];
-    let bit = |place: usize, found: bool| u32::from(found) << place;
-    let first = row
-        .iter()
-        .enumerate()
-        .map(|(place, &found)| bit(place, found))
-        .sum::<u32>();
-    first
-        + more
-            .iter()
-            .enumerate()
-            .map(|(place, &found)| bit(row.len() + place, found))
-            .sum::<u32>()
+    let found = row.into_iter().chain(more).chain(of_require(case));
+    let bits = found.enumerate();
+    bits.map(|(place, found)| u32::from(found) << place).sum()
+}
+
+/// The end of a call where nothing runs out.
+fn paid(case: &Case) -> End {
+    let mut paid = case.clone();
+    (paid.charged, paid.limit) = (0, u64::MAX);
+    rust::run(&paid)
+}
+
+/// The shapes of a deduction that is a Require.
+fn of_require(case: &Case) -> [bool; contradicted::SHAPES.len()] {
+    let requires =
+        case.function == Function::Deduction && matches!(paid(case).answer, Answer::Require(..));
+    if !requires {
+        return [false; contradicted::SHAPES.len()];
+    }
+    let outputs = &case.row.outputs;
+    let found = contradicted::contradicted(outputs, &case.held, &case.cut);
+    let packed = !rust::form(&case.row).groups.is_empty();
+    contradicted::shapes(outputs, packed, &found)
 }
 
 /// Whether the next output lies beyond a group whose outputs are all true.
 fn passes_over(case: &Case) -> bool {
-    let mut paid = case.clone();
-    (paid.charged, paid.limit) = (0, u64::MAX);
-    let after = rust::run(&paid).words[0];
+    let after = paid(case).words[0];
     after > case.cursor[0] + 1 && !rust::form(&case.row).groups.is_empty()
 }
 
@@ -174,7 +184,7 @@ fn passes_over(case: &Case) -> bool {
 pub struct Counts {
     calls: [u64; Function::ALL.len()],
     endings: [[u64; 7]; Function::ALL.len()],
-    shapes: [u64; SHAPES.len()],
+    shapes: [u64; SHAPES.len() + contradicted::SHAPES.len()],
 }
 
 impl Counts {
@@ -219,8 +229,9 @@ impl Counts {
                 .count();
         }
         println!("calls with");
-        for (name, count) in SHAPES.iter().zip(&self.shapes) {
-            println!("  {name:40}{count:9}");
+        let names = SHAPES.iter().chain(&contradicted::SHAPES);
+        for (name, count) in names.zip(&self.shapes) {
+            println!("  {name:58}{count:9}");
             missing += usize::from(*count == 0);
         }
         missing

@@ -12,6 +12,7 @@ use crate::generate::Ledgers;
 use crate::host::{self, Books};
 use crate::layout::{self, SLOT};
 use crate::rust::{self, Ended};
+use crate::told::{Told, told};
 use crate::unfit;
 
 /// The ledgers of a script on both sides.
@@ -36,6 +37,8 @@ pub struct Made {
     pub decided: u32,
     /// The hits that a closing counted.
     pub hits: u64,
+    /// The Requires of a deduction or a closing.
+    pub told: Told,
     /// What differs, in words.
     pub difference: Option<String>,
 }
@@ -85,15 +88,18 @@ impl World {
         let before = (self.header(places.0), self.header(places.1));
         let given = End::lent(call, &self.ledgers);
         let (marked, hits) = (given.marked(), self.hits(call));
+        let told = told(call, &self.ledgers, &given);
         let Ended { answer, end } = rust::run(call, &mut self.ledgers)?;
         let mut lent = host::lend(call, &mut self.books, given)?;
         let head = lent.tier.head;
         host::pass(call, &mut lent);
         if let Some(fault) = self.fault {
-            fault.alter(call, &head, &mut lent);
+            fault.alter(call, &head, &told, &mut lent);
         }
         let got = host::give_back(call, lent, &mut self.books);
-        let difference = end_difference(&end, &got).or_else(|| self.after(call, answer));
+        let difference = end_difference(&end, &got)
+            .or_else(|| told_difference(call, &told, &end))
+            .or_else(|| self.after(call, answer));
         let after = (self.header(places.0), self.header(places.1));
         Some(Made {
             answer,
@@ -102,6 +108,7 @@ impl World {
             store: before.1.zip(after.1),
             decided: end.marked() - marked,
             hits: self.hits(call).wrapping_sub(hits),
+            told,
             difference,
         })
     }
@@ -169,6 +176,16 @@ fn end_difference(end: &End, got: &End) -> Option<String> {
         .or_else(|| one("cut", &end.region.cut, &got.region.cut))
         .or_else(|| one("found", &end.found, &got.found))
         .or_else(|| Some(format!("scratch: {:?}, not {:?}", got.scratch, end.scratch)))
+}
+
+/// Whether the driver of the oracle names another output than is told apart from it. The words of both sides are the same.
+fn told_difference(call: &Call, told: &Told, end: &End) -> Option<String> {
+    let value = match call {
+        Call::Close { .. } => u64::from(told.named().is_some()),
+        _ => end.answer[1],
+    };
+    let same = end.result != 0 || (end.answer[1], end.answer[3]) == (value, told.word());
+    (!same).then(|| format!("both name {}, not {:?}", end.answer[3], told.named()))
 }
 
 /// The first word that differs. After the expected words there are zeros.

@@ -4,6 +4,8 @@ use oracle::{Answer, Header, Ledger};
 
 use crate::call::{Call, Meter};
 use crate::compare::{Made, World};
+use crate::contradicted;
+use crate::told::{Require, Told};
 
 const OPERATIONS: usize = Call::NAMES.len();
 
@@ -97,7 +99,7 @@ fn ending(answer: Answer, charge: u64) -> String {
 }
 
 /// The shapes that must occur.
-const SHAPES: [&str; 51] = [
+const SHAPES: [&str; 57] = [
     "1 atom",
     "2 to 130 atoms",
     "4,096 atoms or more",
@@ -136,6 +138,12 @@ const SHAPES: [&str; 51] = [
     "a closing that counts fewer hits than it decides atoms",
     "a closing stopped after it counted a hit",
     "a Conflict with nothing decided, and its hit",
+    "a closing that decides, and names no output",
+    "a closing that names an output",
+    "a closing that names by the last of several Requires",
+    "a closing that names what is not the least at its end",
+    "a Conflict after a Require",
+    "a closing stopped after a Require",
     "a deduction of a packed row",
     "a deduction of a scalar row",
     "a cursor inside a group",
@@ -151,19 +159,27 @@ const SHAPES: [&str; 51] = [
     "a tier that was delivered to",
 ];
 
+/// All shapes: those of Requires behind the others.
+const ALL_SHAPES: usize = SHAPES.len() + contradicted::SHAPES.len();
+
 /// The counts: by operation and ending, and by shape.
 pub struct Counts {
     endings: [[u64; MOST_ENDINGS]; OPERATIONS],
-    shapes: [u64; SHAPES.len()],
+    shapes: [u64; ALL_SHAPES],
 }
 
 impl Default for Counts {
     fn default() -> Self {
         Self {
             endings: Default::default(),
-            shapes: [0; SHAPES.len()],
+            shapes: [0; ALL_SHAPES],
         }
     }
+}
+
+/// The names of all shapes.
+fn shape_names() -> impl Iterator<Item = &'static str> {
+    SHAPES.into_iter().chain(contradicted::SHAPES)
 }
 
 /// The shapes of a call.
@@ -251,6 +267,39 @@ impl Shapes {
         self.note(stopped, "a closing stopped after it counted a hit");
         let against = made.answer == Answer::Conflict && decided == 0 && made.hits == 1;
         self.note(against, "a Conflict with nothing decided, and its hit");
+        self.of_naming(made);
+    }
+
+    /// The output that a closing names, or none.
+    fn of_naming(&mut self, made: &Made) {
+        let Told { requires, late } = &made.told;
+        let named = made.told.named();
+        let none = named.is_none() && made.decided > 0;
+        self.note(none, "a closing that decides, and names no output");
+        self.note(named.is_some(), "a closing that names an output");
+        let last = requires.first().map(Require::named) != named;
+        self.note(last, "a closing that names by the last of several Requires");
+        let earlier = late.first().copied() != named;
+        self.note(
+            earlier,
+            "a closing that names what is not the least at its end",
+        );
+        let after = |answer: Answer| named.is_some() && made.answer == answer;
+        self.note(after(Answer::Conflict), "a Conflict after a Require");
+        self.note(after(Answer::Stopped), "a closing stopped after a Require");
+    }
+
+    /// A Require of a deduction.
+    fn of_require(&mut self, require: &Require) {
+        let Require {
+            outputs,
+            packed,
+            contradicted,
+        } = require;
+        let found = contradicted::shapes(outputs, *packed, contradicted);
+        for (name, has) in contradicted::SHAPES.into_iter().zip(found) {
+            self.note(has, name);
+        }
     }
 
     fn of_seeding(&mut self, made: &Made, tier: (Header, Header), store: (Header, Header)) {
@@ -316,6 +365,10 @@ impl Shapes {
                 let packed = ledger.row(*position as usize).is_packed();
                 self.note(packed, "a deduction of a packed row");
                 self.note(!packed, "a deduction of a scalar row");
+                made.told
+                    .requires
+                    .iter()
+                    .for_each(|one| self.of_require(one));
             }
             Call::Next { cursor, .. } => {
                 self.note(cursor[2] | cursor[3] != 0, "a cursor inside a group");
@@ -373,7 +426,7 @@ impl Counts {
             return;
         }
         for shape in shapes(call, world, made) {
-            let place = SHAPES.iter().position(|other| *other == shape);
+            let place = shape_names().position(|other| other == shape);
             self.shapes[place.expect("a shape that is listed")] += 1;
         }
     }
@@ -404,8 +457,8 @@ impl Counts {
             println!("{name:12}{calls:10}: {}", parts.join(", "));
         }
         println!("calls with");
-        for (name, count) in SHAPES.iter().zip(&self.shapes) {
-            println!("  {name:56}{count:10}");
+        for (name, count) in shape_names().zip(&self.shapes) {
+            println!("  {name:58}{count:10}");
         }
         self.missing()
     }

@@ -3,7 +3,8 @@
 use crate::call::Call;
 use crate::end::Scratch;
 use crate::host::Lent;
-use crate::layout::{HEAD, SLOT};
+use crate::layout::{ANSWER, HEAD, SLOT};
+use crate::told::{Require, Told};
 
 #[derive(Clone, Copy, Debug, PartialEq, Eq)]
 pub enum Fault {
@@ -13,6 +14,16 @@ pub enum Fault {
     Meter,
     /// A required literal has the wrong sign.
     Sign,
+    /// The greatest contradicted output is named.
+    Greatest,
+    /// The atom of an output is named.
+    Atom,
+    /// A closing names what its first Require does.
+    First,
+    /// A closing names the least that is contradicted at its end.
+    Late,
+    /// A closing that does not end Closed names none.
+    Unnamed,
     /// An eviction is not counted.
     Evicted,
     /// An offer that is Stopped gives its attempt back.
@@ -44,10 +55,15 @@ pub enum Fault {
 }
 
 impl Fault {
-    pub const ALL: [Self; 17] = [
+    pub const ALL: [Self; 22] = [
         Self::Ticks,
         Self::Meter,
         Self::Sign,
+        Self::Greatest,
+        Self::Atom,
+        Self::First,
+        Self::Late,
+        Self::Unnamed,
         Self::Evicted,
         Self::Attempts,
         Self::Hits,
@@ -65,11 +81,14 @@ impl Fault {
     ];
 
     /// Alters what a call left. `head` is the tier's header before it.
-    pub fn alter(self, call: &Call, head: &[u64; HEAD], lent: &mut Lent) {
+    pub fn alter(self, call: &Call, head: &[u64; HEAD], told: &Told, lent: &mut Lent) {
         let answer = &mut lent.end.answer;
         if lent.end.result != 0 {
             answer[0] ^= u64::from(self == Self::Refused);
             return;
+        }
+        if let Some(last) = told.requires.last() {
+            self.alter_named(last, told, answer);
         }
         match call {
             Call::Offer { .. } => self.alter_offer(head, lent),
@@ -85,9 +104,23 @@ impl Fault {
         }
     }
 
+    /// Of a deduction that is a Require, or of a closing that acted on one.
+    fn alter_named(self, last: &Require, told: &Told, answer: &mut [u64; ANSWER]) {
+        match self {
+            Self::Greatest => answer[3] = last.contradicted[last.contradicted.len() - 1],
+            Self::Atom => answer[3] /= 2,
+            Self::First => answer[3] = told.requires[0].named(),
+            // A deduction has no later end.
+            Self::Late if !told.late.is_empty() => answer[3] = told.late[0],
+            // 3 is a deduction's Require.
+            Self::Unnamed if (1..3).contains(&answer[0]) => (answer[1], answer[3]) = (0, 0),
+            _ => {}
+        }
+    }
+
     fn alter_offer(self, head: &[u64; HEAD], lent: &mut Lent) {
         let (tier, end) = (&mut lent.tier, &mut lent.end);
-        let [case, value, _] = end.answer;
+        let [case, value, ..] = end.answer;
         match self {
             Self::Ticks if case == 4 => end.answer[2] -= 1,
             Self::Meter if case == 4 => end.meter[0] -= 1,

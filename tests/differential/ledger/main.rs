@@ -13,6 +13,8 @@ mod book;
 mod boundary;
 mod call;
 mod compare;
+#[path = "../contradicted.rs"]
+mod contradicted;
 mod counts;
 mod end;
 mod fault;
@@ -23,10 +25,14 @@ mod layout;
 mod parts;
 #[path = "../../random.rs"]
 mod random;
+mod required;
+#[path = "../requires.rs"]
+mod requires;
 mod run;
 mod rust;
 mod shrink;
 mod sweep;
+mod told;
 mod unfit;
 #[path = "../verdict.rs"]
 mod verdict;

@@ -6,6 +6,7 @@ use crate::counts::Counts;
 use crate::fault::Fault;
 use crate::generate::{Author, Kind};
 use crate::random::Random;
+use crate::required;
 use crate::shrink;
 use crate::sweep::Sweep;
 use crate::unfit;
@@ -83,8 +84,36 @@ impl Comparison {
         difference.is_none()
     }
 
+    /// A random script, and in some rounds one of Requires.
+    pub fn round(&mut self, random: Random) {
+        let mut other = Random(!random.0);
+        self.script(random);
+        if other.chance(1, 50) {
+            self.requires(other);
+        }
+    }
+
+    /// A script of Requires, of which some calls are swept over.
+    fn requires(&mut self, mut random: Random) {
+        let mut world = World::new(self.fault);
+        let mut history = Vec::new();
+        for call in required::script(&mut random) {
+            if random.chance(1, 4) {
+                let sweep = Sweep {
+                    world: &world,
+                    history: &history,
+                    call: &call,
+                };
+                sweep.run(self, &mut random);
+            }
+            if !self.advance(&mut world, &mut history, call) {
+                return;
+            }
+        }
+    }
+
     /// A random script, of which some calls are swept over and some are tried with unfit words.
-    pub fn round(&mut self, mut random: Random) {
+    fn script(&mut self, mut random: Random) {
         let kind = match random.below(400) {
             0..12 => Kind::Many,
             12..28 => Kind::Wide,

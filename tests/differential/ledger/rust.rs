@@ -106,12 +106,7 @@ fn made(ledgers: &mut Ledgers, place: usize, result: Result<Ledger, u64>) -> Don
 }
 
 /// A call of one ledger. `named` is the output that a closing names.
-fn one(
-    call: &Call,
-    ledger: &mut Ledger,
-    end: &mut End,
-    named: &mut Option<u64>,
-) -> Option<Done> {
+fn one(call: &Call, ledger: &mut Ledger, end: &mut End, named: &mut Option<u64>) -> Option<Done> {
     let room = call.meter().map_or(0, Meter::room);
     let done = match call {
         Call::Offer {

@@ -11,6 +11,7 @@ use crate::end::{End, lengths};
 use crate::host::{self, Lent};
 use crate::layout::{self, POSTINGS, SLOT};
 use crate::random::Random;
+use crate::told::Told;
 
 /// The most conditions and outputs of a row.
 const MOST: (u64, u64) = (16, 64);
@@ -32,7 +33,7 @@ pub fn step(world: &World, call: &Call, wounds: &[Wound]) -> Option<Made> {
     let head = lent.tier.head;
     host::pass(call, &mut lent);
     if let Some(fault) = world.fault {
-        fault.alter(call, &head, &mut lent);
+        fault.alter(call, &head, &Told::default(), &mut lent);
     }
     let difference = (lent != expected).then(|| {
         let (got, result) = (lent.end.result, expected.end.result);
@@ -49,6 +50,7 @@ pub fn step(world: &World, call: &Call, wounds: &[Wound]) -> Option<Made> {
         store: None,
         decided: 0,
         hits: 0,
+        told: Told::default(),
         difference,
     })
 }

@@ -1,17 +1,21 @@
 -- `row_deduce::deduction`: one law for each end of the walks. Assumes nothing.
 use mathlib.Core.Path.{_≡_, refl, sym, ap, _∙_}
+use mathlib.Core.Bool.{true}
 use mathlib.Core.List.{[]}
 use Prim.Native.Nat.{_*_, _≤_, _<_}
 use native.Mathlib.Omega.{arith}
 use borrow.Author.Needs.{needs}
+use Rattle.lists.specs.Lists.{ascending}
+use Rattle.lists.proofs.Bools.{T-true}
 use Rattle.words.specs.Region.{Region, region, maxAtoms}
 use Rattle.meter.specs.declared.Meter.{Meter}
 use Rattle.meter.specs.declared.Tick.the-variants.{Ticked}
 use Rattle.meter.specs.Meter.{tickOf}
-use Rattle.model.specs.Records.{Row}
+use Rattle.model.specs.Records.{Row, isRow}
 use Rattle.model.specs.Rows.{packed}
 use Rattle.model.specs.Slots.{rowIn}
 use Rattle.model.specs.Deduction.{chunks}
+use Rattle.model.proofs.Rows.{row-parts}
 use Rattle.slots.proofs.Storing.{row-under}
 use Rattle.row_deduce.specs.declared.ConditionState.{ConditionState}
 use Rattle.row_deduce.specs.declared.ConditionState.the-variants as condition
@@ -40,6 +44,10 @@ module _ (c : tie.After-conditions) where
 
   made : Ticked first ≡ tickOf (start .args .work)
   made = sym (c .before .before .m2 .given .1) ∙ c .before .before .before .before .tick .ensures
+
+  rise : ascending (row .outputs) ≡ true
+  rise =
+      row-parts (start .pre .holds .atoms) row (T-true (isRow (start .pre .holds .atoms) row) (start .pre .holds .stored .row)) .outputsRise
 
   -- what was seen, where it is l
   seen : (l : ConditionState) → c .conditions .result .state ≡ l
@@ -104,19 +112,19 @@ returns c =
 returns-2 : tie.Need-returns-2
 returns-2 c =
     let k = c .before .before .before in
-    c .ended2 .ensures ∙ deduced-halted (r k) (row k) (start k .args .work) (first k) (made k)
+    c .ended2 .ensures ∙ deduced-halted (r k) (row k) (start k .args .work) (first k) (made k) (rise k)
     (seen k condition.Stopped (c .before .enum-told .given .1))
 
 returns-3 : tie.Need-returns-3
 returns-3 c =
     let k = c .before .before .before in
-    c .ended3 .ensures ∙ deduced-idle (r k) (row k) (start k .args .work) (first k) (made k)
+    c .ended3 .ensures ∙ deduced-idle (r k) (row k) (start k .args .work) (first k) (made k) (rise k)
     (seen k condition.Idle (c .before .enum-told2 .given .1))
 
 returns-4 : tie.Need-returns-4
 returns-4 c =
     let k = c .before .before .before in
-    c .ended4 .ensures ∙ deduced-force (r k) (row k) (start k .args .work) (first k) (made k)
+    c .ended4 .ensures ∙ deduced-force (r k) (row k) (start k .args .work) (first k) (made k) (rise k)
     (seen k condition.Holds (c .before .enum-told3 .given .1))
 
 returns-5 : tie.Need-returns-5
@@ -124,7 +132,7 @@ returns-5 c =
     let k = c .before .before .before .before in
     let code = c .before .before .state .given .0 .0 in
     c .concluded .ensures
-    ∙ deduced-open (r k) (row k) (start k .args .work) (first k) (made k) code (k .conditions .result .meter)
+    ∙ deduced-open (r k) (row k) (start k .args .work) (first k) (made k) (rise k) code (k .conditions .result .meter)
     (seen k (condition.Undecided code) (c .before .before .state .given .1)) _ refl
 
 pub deduction-spec : {M : Type 1} → statement M

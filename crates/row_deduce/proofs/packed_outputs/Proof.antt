@@ -1,6 +1,6 @@
 -- `row_deduce::packed_outputs`: the walk from here on is the walk from the start, group by group. Assumes nothing.
 use mathlib.Core.Path.{_≡_, sym, _∙_, subst}
-use Prim.Native.Nat.{_-_, _^_, _≤_, _<_}
+use Prim.Native.Nat.{_-_, _≤_, _<_}
 use native.Mathlib.Omega.{arith}
 use lib.ListN.{length}
 use borrow.Author.Needs.{needs}
@@ -35,6 +35,9 @@ at-group-at-from-struct-known3 c = c .before .before .before .before
 
 abbrev at-group-at : tie.Then2 Inv-loop μ-loop → tie.After-group-at Inv-loop μ-loop
 at-group-at c = at-group-at-from-struct-known3 (c .before)
+
+abbrev at-then2 : tie.After-take Inv-loop μ-loop → tie.Then2 Inv-loop μ-loop
+at-then2 c = c .before
 
 abbrev at-group-at-from-else2 : tie.Else2 Inv-loop μ-loop → tie.After-group-at Inv-loop μ-loop
 at-group-at-from-else2 c = at-group-at-from-struct-known3 (c .before)
@@ -72,14 +75,6 @@ module _ (c : tie.After-group-at Inv-loop μ-loop) where
       subst (λ (k : Group). k .index < length (s .args .held .now)) (sym (c .group-at .ensures))
       (s .pre .index (l .loop .g) (more (c .before)))
 
-  present-lt : c .group-at .result .present < 2 ^ 64
-  present-lt =
-      subst (λ (k : Group). k .present < 2 ^ 64) (sym (c .group-at .ensures)) (l .before .before .before .shared-slice-known .given _ .fits)
-
-  absent-lt : c .group-at .result .absent < 2 ^ 64
-  absent-lt =
-      subst (λ (k : Group). k .absent < 2 ^ 64) (sym (c .group-at .ensures)) (l .before .before .before .shared-slice-known .given _ .fits)
-
 loop-holds : tie.Need-loop-holds Inv-loop μ-loop
 loop-holds c =
     let a = c .before .before .before .args in
@@ -107,28 +102,35 @@ returns c =
 group-at-requires : tie.Need-group-at-requires Inv-loop μ-loop
 group-at-requires c κs = (start c .pre .whole, more c)
 
-mul-if2 : tie.Need-mul-if2 Inv-loop μ-loop
-mul-if2 c = omega (arith, index-lt c)
+mul-absent : tie.Need-mul-absent Inv-loop μ-loop
+mul-absent c = omega (arith, index-lt c)
 
-shared-slice-read-if2 : tie.Need-shared-slice-read-if2 Inv-loop μ-loop
-shared-slice-read-if2 c = index-lt (c .before)
+shared-slice-read-absent : tie.Need-shared-slice-read-absent Inv-loop μ-loop
+shared-slice-read-absent c = index-lt (c .before)
 
-mul-if2-2 : tie.Need-mul-if2-2 Inv-loop μ-loop
-mul-if2-2 c = omega (arith, index-lt (c .before .before))
+mul-present : tie.Need-mul-present Inv-loop μ-loop
+mul-present c = omega (arith, index-lt (c .before .before))
 
-shared-slice-read-if2-2 : tie.Need-shared-slice-read-if2-2 Inv-loop μ-loop
-shared-slice-read-if2-2 c = omega (arith, index-lt (c .before .before .before), s (c .before .before .before) .pre .same)
+shared-slice-read-present : tie.Need-shared-slice-read-present Inv-loop μ-loop
+shared-slice-read-present c = omega (arith, index-lt (c .before .before .before), s (c .before .before .before) .pre .same)
+
+take-requires : tie.Need-take-requires Inv-loop μ-loop
+take-requires c κs =
+    let k = at-group-at c in
+    let few = s k .pre .few in
+    let f = c .if2 .taken in
+    (omega (arith, index-lt k, few), omega (arith, f))
 
 returns-2 : tie.Need-returns-2 Inv-loop μ-loop
 returns-2 c =
-    let k = at-group-at c in
+    let k = at-group-at (at-then2 c) in
     let loop = at-loop (at-tick k) in
     let start-place = at-start loop in
     let a = start-place .args in
     let b = loop .loop in
     pass-hit (r (k .before)) (a .slot .now) (a .side) (a .work) (b .g) (b .meter) (b .inv .1) (more (k .before)) (made (k .before))
     (packed-hit (r (k .before)) (a .slot .now) (a .side) (b .g) (k .group-at .result) (start-place .pre .packed) (k .group-at .ensures)
-    (present-lt k) (absent-lt k) (c .if2 .taken))
+    (c .take .ensures))
 
 add-g : tie.Need-add-g Inv-loop μ-loop
 add-g c = search needs
@@ -146,8 +148,7 @@ loop-again c =
       omega (arith, more (k .before)),
       pass-on (r (k .before)) (a .slot .now) (a .side) (a .work) (b .g) (b .meter) (b .inv .1) (more (k .before)) (made (k .before))
           (packed-miss (r (k .before)) (a .slot .now) (a .side) (b .g) (k .group-at .result) (start-place .pre .packed)
-          (k .group-at .ensures)
-          (present-lt k) (absent-lt k) (c .if2 .left)),
+          (k .group-at .ensures) (c .if2 .left)),
     )
 
 returns-3 : tie.Need-returns-3 Inv-loop μ-loop
@@ -169,10 +170,11 @@ packed-outputs-spec =
     enum-known-m-2
     returns
     group-at-requires
-    mul-if2
-    shared-slice-read-if2
-    mul-if2-2
-    shared-slice-read-if2-2
+    mul-absent
+    shared-slice-read-absent
+    mul-present
+    shared-slice-read-present
+    take-requires
     returns-2
     add-g
     loop-less

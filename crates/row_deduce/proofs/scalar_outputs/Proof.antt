@@ -7,7 +7,7 @@ use Rattle.words.specs.Region.{Region, region}
 use Rattle.meter.specs.declared.Tick.the-variants.{Ticked}
 use Rattle.meter.specs.Meter.{tickOf}
 use Rattle.row_deduce.proofs.Turns.{Passing, pass-start, pass-end, pass-stopped, pass-hit, pass-on}
-use Rattle.row_deduce.proofs.Scalar.{code-clash}
+use Rattle.row_deduce.proofs.Scalar.{code-hit, code-miss}
 use Rattle.row_deduce.proofs.scalar_outputs.Statement.{statement}
 use Rattle.row_deduce.proofs.scalar_outputs.Tie as tie
 
@@ -72,11 +72,11 @@ returns c =
 add-at : tie.Need-add-at Inv-loop μ-loop
 add-at c = search needs
 
-mul-contradicts : tie.Need-mul-contradicts Inv-loop μ-loop
-mul-contradicts c = search needs
+mul-literal : tie.Need-mul-literal Inv-loop μ-loop
+mul-literal c = search needs
 
-shared-slice-read-contradicts : tie.Need-shared-slice-read-contradicts Inv-loop μ-loop
-shared-slice-read-contradicts c = search needs
+shared-slice-read-literal : tie.Need-shared-slice-read-literal Inv-loop μ-loop
+shared-slice-read-literal c = search needs
 
 contradicts-requires : tie.Need-contradicts-requires Inv-loop μ-loop
 contradicts-requires c κs = search needs
@@ -87,7 +87,7 @@ returns-2 c =
     let a = start k .args in
     let b = state k .loop in
     pass-hit (r k) (a .slot .now) (a .side) (a .work) (b .g) (b .meter) (b .inv .1) (more k) (made k)
-    (code-clash (r k) (a .slot .now) (a .side) (b .g) (start k .pre .0) ∙ sym (c .before .contradicts .ensures) ∙ c .if2 .taken)
+    (code-hit (r k) (a .slot .now) (a .side) (b .g) (start k .pre .0) (sym (c .before .contradicts .ensures) ∙ c .if2 .taken))
 
 add-g : tie.Need-add-g Inv-loop μ-loop
 add-g c = search needs
@@ -102,7 +102,7 @@ loop-again c =
     let b = state k .loop in (
       omega (arith, more k),
       pass-on (r k) (a .slot .now) (a .side) (a .work) (b .g) (b .meter) (b .inv .1) (more k) (made k)
-          (code-clash (r k) (a .slot .now) (a .side) (b .g) (start k .pre .0) ∙ sym (c .before .contradicts .ensures) ∙ c .if2 .left),
+          (code-miss (r k) (a .slot .now) (a .side) (b .g) (start k .pre .0) (sym (c .before .contradicts .ensures) ∙ c .if2 .left)),
     )
 
 returns-3 : tie.Need-returns-3 Inv-loop μ-loop
@@ -124,8 +124,8 @@ scalar-outputs-spec =
     enum-known-m-2
     returns
     add-at
-    mul-contradicts
-    shared-slice-read-contradicts
+    mul-literal
+    shared-slice-read-literal
     contradicts-requires
     returns-2
     add-g
