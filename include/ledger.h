@@ -18,7 +18,8 @@
  *   8  a cursor that is not of this row
  * They are tested in this order; the first that applies is the result. Of two ledgers the tier's 1, 2, 3 come first, then the store's.
  *
- * A call that is not refused writes `answer`: its case, a value where the case has one, and the ticks that it charged.
+ * A call that is not refused writes `answer`, all four words: its case, a value where the case has one, the ticks that it charged, and the
+ * code of a contradicted output where Deduce or Close names one. What an answer does not have is 0.
  */
 #ifndef LEDGER_H
 #define LEDGER_H
@@ -62,7 +63,7 @@ enum {
 };
 
 /* ---- The words of `answer`, and of `meter` (what is charged so far, and the limit that it may not pass). */
-enum { LEDGER_CASE = 0, LEDGER_VALUE = 1, LEDGER_TICKS = 2, LEDGER_ANSWER_WORDS = 3 };
+enum { LEDGER_CASE = 0, LEDGER_VALUE = 1, LEDGER_TICKS = 2, LEDGER_CONTRADICTED = 3, LEDGER_ANSWER_WORDS = 4 };
 enum { LEDGER_CHARGED = 0, LEDGER_LIMIT = 1, LEDGER_METER_WORDS = 2 };
 
 /* ---- The words of a cursor over a row's outputs; four zeros are the start. */
@@ -76,12 +77,13 @@ enum { LEDGER_DONE = 0, LEDGER_STOPPED = 2 };                                /* 
 enum { LEDGER_NOTHING = 0, LEDGER_FORCE = 1, LEDGER_REQUIRE = 3 };           /* deduce */
 enum { LEDGER_SHUT = 1, LEDGER_DECLINED = 3, LEDGER_SUBSUMED = 4, LEDGER_ADDED = 5 }; /* offer */
 enum { LEDGER_CLOSED = 0, LEDGER_CONFLICT = 1 };                             /* close */
+enum { LEDGER_NONE = 0, LEDGER_NAMED = 1 };                                  /* the value of a close: is a contradicted output named? */
 enum { LEDGER_END = 0, LEDGER_OUTPUT = 1 };                                  /* next output */
 enum { LEDGER_FALSE = 0, LEDGER_TRUE = 1 };                                  /* decide */
 
 /*
  * Make. Lent: `limits`, ten words in the header's order; `number`, given to the ledger for good.
- * Back: `head` is the fresh header, every word of `slots` and `postings` is 0, `answer` is 0, 0, 0. What they held before does not matter.
+ * Back: `head` is the fresh header, every word of `slots`, `postings` and `answer` is 0. What they held before does not matter.
  * Refused: 1, 2.
  */
 uint64_t ledger_make(const uint64_t limits[LEDGER_LIMIT_WORDS], uint64_t number,
@@ -90,7 +92,7 @@ uint64_t ledger_make(const uint64_t limits[LEDGER_LIMIT_WORDS], uint64_t number,
 
 /*
  * Begin. Lent: a ledger.
- * Back: `head` with full 1: the next search takes all rows; `answer` is 0, 0, 0.
+ * Back: `head` with full 1: the next search takes all rows; every word of `answer` is 0.
  * Refused: 1, 2, 3.
  */
 uint64_t ledger_begin(uint64_t head[LEDGER_HEAD_WORDS], uint64_t answer[LEDGER_ANSWER_WORDS],
@@ -99,7 +101,7 @@ uint64_t ledger_begin(uint64_t head[LEDGER_HEAD_WORDS], uint64_t answer[LEDGER_A
 /*
  * Hit. Lent: a ledger, a position.
  * Back: the row there has one hit more, and one more that is not shared yet, both at most 2^64 - 1; `head` is written, its numbers as they
- * were; `answer` is 0, 0, 0.
+ * were; every word of `answer` is 0.
  * Refused: 1, 2, 3, 5.
  */
 uint64_t ledger_hit(uint64_t head[LEDGER_HEAD_WORDS], uint64_t answer[LEDGER_ANSWER_WORDS],
@@ -108,7 +110,8 @@ uint64_t ledger_hit(uint64_t head[LEDGER_HEAD_WORDS], uint64_t answer[LEDGER_ANS
 /*
  * Deduce. Lent: a ledger, a position, a region, a meter.
  * Back: what the row there says of the region. `answer` is 0 Nothing; 1 Force, all its conditions hold; 2 Stopped; 3 Require, with the code
- * required as its value. `meter` has the ticks charged.
+ * required as its value and, as its contradicted word, the least code among the row's outputs whose opposite is marked in the region.
+ * `meter` has the ticks charged.
  * Refused: 1, 2, 3, 5, 6.
  */
 uint64_t ledger_deduce(const uint64_t head[LEDGER_HEAD_WORDS], uint64_t answer[LEDGER_ANSWER_WORDS], uint64_t meter[LEDGER_METER_WORDS],
@@ -161,7 +164,9 @@ uint64_t ledger_candidates(uint64_t head[LEDGER_HEAD_WORDS], uint64_t answer[LED
  * Close. Lent: a ledger, a meter, a region, and two buffers to work in: `rows`, tier_rows words, and `atoms`, as many words as there are
  * atoms.
  * Back: `held` and `cut` with all that the rows force or require. `answer` is 0 Closed; 1 Conflict, a row decides against the region; 2
- * Stopped. Conflict and Stopped keep what was decided so far. Every word of `rows` and `atoms` is 0; what they held before does not matter.
+ * Stopped. Conflict and Stopped keep what was decided so far. Its value is 0 if no row required anything; else 1, and its contradicted word
+ * is the output that the last Require named, as Deduce would have at that time; so too at Conflict and Stopped. A Conflict is never a
+ * Require's own: the output that ended the closing is not named. Every word of `rows` and `atoms` is 0; what they held before does not matter.
  * `head`, `slots` and `postings` are the ledger after it: a row has one hit more, and one more that is not shared yet, for each time that
  * reading it decided at least one atom or ended in Conflict. `meter` has the ticks charged.
  * Refused: 1, 2, 3, 6.

@@ -1,5 +1,5 @@
 /* A ledger over 128 points with room for two rows: made, asked for a hit where there is no row, a point decided, two rules
- * offered, and the plan closed under them. */
+ * offered, and the plan closed under them. Then another plan, that a rule's output is against: what the row requires, and by which output. */
 #include "ledger.h"
 #include <inttypes.h>
 #include <stdio.h>
@@ -53,5 +53,17 @@ int main(void)
         if ((cut[point / 64] >> point % 64 & 1) != 0)
             printf("point %" PRIu64 " cut\n", point);
     }
+
+    /* A plan with points 70 and 71 held: the row would cut both, so point 3 cannot be held. The lesser of the two outputs is named. */
+    uint64_t other_held[REGION_WORDS] = {0, 1 << 6 | 1 << 7}, other_cut[REGION_WORDS] = {0};
+    refused = ledger_deduce(head, answer, meter, slots, ROWS * LEDGER_SLOT_WORDS, postings, ROWS * LEDGER_POSTING_WORDS, 0,
+                            other_held, REGION_WORDS, other_cut, REGION_WORDS);
+    if (refused == 0 && answer[LEDGER_CASE] == LEDGER_REQUIRE)
+        printf("deduce: %" PRIu64 " is required, %" PRIu64 " contradicted\n", answer[LEDGER_VALUE], answer[LEDGER_CONTRADICTED]);
+    refused = ledger_close(head, answer, meter, slots, ROWS * LEDGER_SLOT_WORDS, postings, ROWS * LEDGER_POSTING_WORDS, other_held, REGION_WORDS,
+                           other_cut, REGION_WORDS, row_scratch, ROWS, point_scratch, POINTS);
+    printf("close: refused by %" PRIu64 ", %" PRIu64 ", cut %" PRIx64 "\n", refused, answer[LEDGER_CASE], other_cut[0]);
+    if (answer[LEDGER_VALUE] == LEDGER_NAMED)
+        printf("contradicted: %" PRIu64 "\n", answer[LEDGER_CONTRADICTED]);
     return 0;
 }

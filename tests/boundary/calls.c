@@ -89,7 +89,15 @@ static void answer(struct lent *l, uint64_t number, uint64_t value, uint64_t tic
     l->answer[LEDGER_CASE] = number;
     l->answer[LEDGER_VALUE] = value;
     l->answer[LEDGER_TICKS] = ticks;
+    l->answer[LEDGER_CONTRADICTED] = 0;
     l->meter[LEDGER_CHARGED] += ticks;
+}
+
+/* A closing that names a contradicted output. */
+static void named(struct lent *l, uint64_t number, uint64_t output, uint64_t ticks)
+{
+    answer(l, number, LEDGER_NAMED, ticks);
+    l->answer[LEDGER_CONTRADICTED] = output;
 }
 
 /* Two rows over 128 atoms: 7 -> 140, scalar, and 1, 3 -> 140, 142, packed. Words that no call has written yet are odd ones. */
@@ -179,25 +187,28 @@ static void hits(void)
     same("hit, atoms", 1, hit(&l, 0), &l, &k);
 }
 
-/* What the row at p says of a region. */
-static void deduced(const char *what, uint64_t p, const uint64_t held[2], const uint64_t cut[2], uint64_t number, uint64_t value, uint64_t ticks)
+/* What the row at p says of a region: number, value, ticks, and the contradicted output. */
+static void deduced(const char *what, uint64_t p, const uint64_t held[2], const uint64_t cut[2], uint64_t number, uint64_t value, uint64_t ticks,
+                    uint64_t contradicted)
 {
     struct lent l = two_rows(), k;
     memcpy(l.held, held, sizeof l.held);
     memcpy(l.cut, cut, sizeof l.cut);
     k = l;
     answer(&k, number, value, ticks);
+    k.answer[LEDGER_CONTRADICTED] = contradicted;
     same(what, 0, deduce(&l, p), &l, &k);
 }
 
 static void deductions(void)
 {
-    const uint64_t none[2] = {0, 0}, three[2] = {8, 0}, seventy[2] = {0, 1 << 6}, both[2] = {1, 1 << 7};
-    deduced("deduce, held 3", 0, three, none, LEDGER_FORCE, 0, 2);
-    deduced("deduce, held 70", 0, seventy, none, LEDGER_REQUIRE, 6, 3);
-    deduced("deduce, cut 3", 0, none, three, LEDGER_NOTHING, 0, 2);
-    deduced("deduce, empty", 0, none, none, LEDGER_NOTHING, 0, 3);
-    deduced("deduce, packed", 1, both, none, LEDGER_REQUIRE, 2, 3);
+    const uint64_t none[2] = {0, 0}, three[2] = {8, 0}, seventy[2] = {0, 1 << 6}, both[2] = {1, 1 << 7}, all[2] = {1, 3 << 6};
+    deduced("deduce, held 3", 0, three, none, LEDGER_FORCE, 0, 2, 0);
+    deduced("deduce, held 70", 0, seventy, none, LEDGER_REQUIRE, 6, 3, 140);
+    deduced("deduce, cut 3", 0, none, three, LEDGER_NOTHING, 0, 2, 0);
+    deduced("deduce, empty", 0, none, none, LEDGER_NOTHING, 0, 3, 0);
+    deduced("deduce, packed", 1, both, none, LEDGER_REQUIRE, 2, 3, 142);
+    deduced("deduce, packed, two contradicted", 1, all, none, LEDGER_REQUIRE, 2, 3, 140);
     struct lent l = two_rows(), k;
     l.meter[LEDGER_LIMIT] = 1001;
     k = l;
@@ -321,9 +332,54 @@ static void closings(void)
     l.meter[LEDGER_CHARGED] = k.meter[LEDGER_CHARGED] = 1000;
     l.cut[1] = k.cut[1] = 0;
     l.held[1] = k.held[1] = 1 << 6;
-    answer(&k, LEDGER_CONFLICT, 0, 3); /* 2 to deduce the first row, 1 for its output */
+    answer(&k, LEDGER_CONFLICT, LEDGER_NONE, 3); /* 2 to deduce the first row, 1 for its output */
     k.slots[4] = k.slots[5] = 2;
     same("close, against the region", 0, close(&l, 128), &l, &k);
+}
+
+/* Atoms 0, 70 and 71 are held: the first row requires atom 3 cut by 140, then the second atom 1 cut, by 140 too. With 70 open the first
+ * row says nothing, and the second speaks by 142. */
+static void requires(void)
+{
+    struct lent l = two_rows(), k;
+    l.held[0] = 1;
+    l.held[1] = 3 << 6;
+    k = l;
+    struct lent stopped = l, after;
+    named(&k, LEDGER_CLOSED, 140, 10); /* two rounds: 3 to deduce each row, then 2 each */
+    k.head[LEDGER_FULL] = 0;
+    k.cut[0] = 1 << 3 | 1 << 1;
+    k.slots[4] = k.slots[5] = k.slots[LEDGER_SLOT_WORDS + 4] = k.slots[LEDGER_SLOT_WORDS + 5] = 1;
+    memset(k.found, 0, sizeof k.found);
+    memset(k.atoms, 0, sizeof k.atoms);
+    same("close, required", 0, close(&l, 128), &l, &k);
+    /* Stopped after the first row. */
+    stopped.meter[LEDGER_LIMIT] = 1003;
+    after = k;
+    after.meter[LEDGER_CHARGED] = 1000;
+    after.meter[LEDGER_LIMIT] = 1003;
+    named(&after, LEDGER_STOPPED, 140, 3);
+    after.cut[0] = 1 << 3;
+    after.slots[LEDGER_SLOT_WORDS + 4] = after.slots[LEDGER_SLOT_WORDS + 5] = 0;
+    same("close, stopped after a Require", 0, close(&stopped, 128), &stopped, &after);
+    l = two_rows();
+    l.held[0] = 1;
+    l.held[1] = 1 << 7;
+    k.held[1] = 1 << 7;
+    k.cut[0] = 1 << 1;
+    k.meter[LEDGER_CHARGED] = 1000;
+    named(&k, LEDGER_CLOSED, 142, 11);
+    k.slots[4] = k.slots[5] = 0;
+    same("close, required by another output", 0, close(&l, 128), &l, &k);
+    /* Atoms 0, 1 and 70: the first row requires, then the second is against the region. */
+    l = two_rows();
+    l.held[0] = k.held[0] = 3;
+    l.held[1] = k.held[1] = 1 << 6;
+    k.cut[0] = 1 << 3;
+    k.meter[LEDGER_CHARGED] = 1000;
+    named(&k, LEDGER_CONFLICT, 140, 7); /* 3 and 2 to deduce the rows, 2 for the second's output */
+    k.slots[4] = k.slots[5] = 1;
+    same("close, against the region after a Require", 0, close(&l, 128), &l, &k);
 }
 
 /* A store, number 4, and a tier, number 9, one with the two rows, the first hit five times, and one with none. */
@@ -422,6 +478,7 @@ int main(void)
     offers();
     searches();
     closings();
+    requires();
     seedings();
     deliveries();
     printf("%d calls, %d wrong\n", calls, wrong);

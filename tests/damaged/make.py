@@ -21,11 +21,11 @@ SLOT, POST = 168, 80
 (ATOMS, TIER, CONDITIONS_MOST, OUTPUTS_MOST, FLOOR, ATTEMPTS_MOST, WORK, SHARE_WORK, SHARE_CONDITIONS, SHARE_HITS, NUMBER, ROWS, BORN,
  EPOCH, ATTEMPTS, REMAINING, SHARING, EVICTED, DELIVERIES, SEEDED, STALE, FULL, MARK, MARK_NUMBER, MARK_BORN, HEAD) = range(26)
 STORE = HEAD
-# the answer (3 words), the meter (2), the cursor (4), make's number or a position, the atom and the value of decide
-ANSWER, METER, CURSOR, POSITION, ATOM, VALUE = 50, 53, 55, 59, 60, 61
+# the answer (4 words), the meter (2), the cursor (4), make's number or a position, the atom and the value of decide
+ANSWER, METER, CURSOR, POSITION, ATOM, VALUE = 50, 54, 56, 60, 61, 62
 # the lengths of the lent slices; scratch has no words here: as many words as its length says are lent, none of them 0
 (SLOTS_LEN, POSTINGS_LEN, HELD_LEN, CUT_LEN, CONDITIONS_LEN, OUTPUTS_LEN, GIVEN_LEN, FOUND_LEN, STORE_SLOTS_LEN, STORE_POSTINGS_LEN,
- ROW_SCRATCH_LEN, ATOM_SCRATCH_LEN, LENGTHS_END) = range(62, 75)
+ ROW_SCRATCH_LEN, ATOM_SCRATCH_LEN, LENGTHS_END) = range(63, 76)
 # the slices: GIVEN are the atoms that candidates is given, FOUND its answer buffer
 GIVEN, FOUND, CONDITIONS, OUTPUTS, HELD, CUT, SLOTS, POSTINGS, STORE_SLOTS, STORE_POSTINGS, SIZE = (
     80, 90, 100, 120, 190, 240, 290, 830, 1140, 1500, 1700)
@@ -248,7 +248,7 @@ def ledger(atoms, tier, rows, stale, position, held, cut, cursor, atom, given, o
     w = [0] * SIZE
     put_ledger(w, (0, SLOTS, POSTINGS), atoms, tier, 7, rows, stale)
     put_ledger(w, (STORE, STORE_SLOTS, STORE_POSTINGS), atoms, store[0], 3, store[1], store[2])
-    w[ANSWER:ANSWER + 3], w[METER:METER + 2], w[CURSOR:CURSOR + 4] = [11] * 3, [3, 100], cursor
+    w[ANSWER:METER], w[METER:CURSOR], w[CURSOR:POSITION] = [11] * (METER - ANSWER), [3, 100], cursor
     w[POSITION], w[ATOM], w[VALUE] = position, atom, 1
     w[ROW_SCRATCH_LEN], w[ATOM_SCRATCH_LEN] = tier, atoms
     words = (atoms + 63) // 64

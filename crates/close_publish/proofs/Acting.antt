@@ -171,7 +171,13 @@ module _ (n rows p : ℕ) (slots held cut : List ℕ) (m : Meter) (k : Held n ro
         go Stopped = ap (λ (l : Ledger). halted (at l)) hits
 
     -- one of the two
-    pub act-reads : (slots′ : List ℕ) → Hits (g .earned) p slots slots′
+    act-either : (slots′ : List ℕ) → Hits (g .earned) p slots slots′
         → turned (g .ended) (left slots′) held′ cut′ ≡ act n p (state given held cut m)
-    act-reads slots′ (inl w) = act-hit (w .0) slots′ (w .1)
-    act-reads slots′ (inr w) = ap (λ (ws : List ℕ). turned (g .ended) (left ws) held′ cut′) (w .1) ∙ act-read (w .0)
+    act-either slots′ (inl w) = act-hit (w .0) slots′ (w .1)
+    act-either slots′ (inr w) = ap (λ (ws : List ℕ). turned (g .ended) (left ws) held′ cut′) (w .1) ∙ act-read (w .0)
+
+    -- with the output that the code hands on
+    pub act-reads : (slots′ : List ℕ) → Hits (g .earned) p slots slots′ → (after : Contradicted) → after ≡ naming (f .deduction) before
+        → turned (g .ended) (beside (ledgerOf h rows slots′) after) held′ cut′ ≡ act n p (state given held cut m)
+    act-reads slots′ w after e =
+        ap (λ (x : Contradicted). turned (g .ended) (beside (ledgerOf h rows slots′) x) held′ cut′) e ∙ act-either slots′ w

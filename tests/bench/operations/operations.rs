@@ -72,7 +72,7 @@ fn transfers(name: &str, rows: &[Row]) {
         let answer = verified(&mut from.lent, &mut to.lent);
         assert_eq!(
             (answer, to.lent.rows()),
-            ([0, 0, ticks], moved),
+            ([0, 0, ticks, 0], moved),
             "a transfer"
         );
         let what = if delivers { "delivery" } else { "seeding" };

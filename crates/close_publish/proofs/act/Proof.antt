@@ -30,6 +30,9 @@ at-match-keys2 c = c .before .before .before .before
 abbrev at-follow : tie.After-slice-known5 → tie.After-follow
 at-follow c = c .before .before .before .before
 
+abbrev at-joined2 : tie.After-named → tie.Joined2
+at-joined2 c = c .before .before
+
 mul-a : tie.Need-mul-a
 mul-a c =
     let t = c .before .before .before in
@@ -153,6 +156,9 @@ hit-requires c κs =
     let f = slot-fits (a .atoms) (a .rows) _ (a .slots .now) (a .held .now) (a .cut .now) (t .pre .0) (a .position) (t .pre .1) in
     search needs
 
+named-requires : tie.Need-named-requires
+named-requires c κs = search needs
+
 -- the slots at the end: with the hit that was earned, or as they were
 module _ (c : tie.Joined2) where
   abbrev follow-place : tie.After-follow
@@ -165,7 +171,7 @@ module _ (c : tie.Joined2) where
   hits = ⊎-map (λ w. (w .0 .taken, w .5 ∙ w .2 .ensures)) (λ w. (w .0 .left, w .1)) (c .if2 .came)
 
 same-length-7 : tie.Need-same-length-7
-same-length-7 c = hits-length _ _ _ _ (hits (c .before))
+same-length-7 c = hits-length _ _ _ _ (hits (at-joined2 c))
 
 same-length-8 : tie.Need-same-length-8
 same-length-8 c = search needs
@@ -175,7 +181,7 @@ same-length-9 c = search needs
 
 returns-3 : tie.Need-returns-3
 returns-3 c =
-    let joined2 = c .before in
+    let joined2 = at-joined2 c in
     let place = follow-place joined2 in
     let match-keys2 = at-match-keys2 (place .before) in
     let deduction = at-deduction match-keys2 in
@@ -186,7 +192,8 @@ returns-3 c =
     let z = hits joined2 in
     let s = hits-stand (a .atoms) (a .rows) _ (a .slots .now) (a .held .now) (a .cut .now) (t .pre .0) _ (a .position) (t .pre .1) _ z in (
       λ h. act-reads (a .atoms) (a .rows) (a .position) (a .slots .now) (a .held .now) (a .cut .now) (a .work) (t .pre .0 .holds)
-          (t .pre .1) (d .result) (d .ensures) (match-keys2 .before .if1 .left) (g .result) _ _ (g .ensures .0) (g .ensures .1 .0) h _ z,
+          (t .pre .1) (d .result) (d .ensures) (match-keys2 .before .if1 .left) (g .result) _ _ (g .ensures .0) (g .ensures .1 .0)
+          (a .before) h _ z _ (c .named .ensures),
       decided-stands (a .atoms) (a .rows) _ _ (a .held .now) (a .cut .now) s _ _ (g .ensures .1 .1),
     )
 
@@ -216,6 +223,7 @@ act-spec =
     part-follow-end
     follow-requires
     hit-requires
+    named-requires
     same-length-7
     same-length-8
     same-length-9

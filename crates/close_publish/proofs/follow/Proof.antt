@@ -88,7 +88,8 @@ returns-3 c =
     let a = at-start-from-said said .args in
     let o = said .said .given in (
       λ l. k .decide-on .ensures .0 l
-          ∙ follow-require (a .atoms) (rowIn (a .slot .now)) (a .said) (state l (a .held .now) (a .cut .now) (a .work)) (o .0 .0) (o .1),
+          ∙ follow-require (a .atoms) (rowIn (a .slot .now)) (a .said) (state l (a .held .now) (a .cut .now) (a .work)) (o .0 .0)
+          (o .0 .1 .0) (o .1),
       k .decide-on .ensures .1,
     )
 
