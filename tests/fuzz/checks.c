@@ -154,6 +154,62 @@ static const char *after_candidates(const struct call *c)
     return NULL;
 }
 
+/* ---- The contradicted output that Deduce and Close name: document 02, Six */
+
+/* The output is the row's and contradicted in one region, and no lesser one is contradicted in the other. */
+static bool names(const struct row *row, uint64_t output, const struct words *in, const struct words *none_in)
+{
+    bool found = false;
+    for (size_t i = 0; i < row->outputs; i++) {
+        uint64_t code = row->output[i];
+        if (code < output && marked(&none_in[0], &none_in[1], code ^ 1))
+            return false;
+        found = found || (code == output && marked(&in[0], &in[1], code ^ 1));
+    }
+    return found;
+}
+
+/* The position's row is read from the slot's words. */
+static const char *after_deduce(const struct call *c)
+{
+    struct row row;
+    const struct words region[] = {c->given[HELD], c->given[CUT]};
+    if (c->lent[ANSWER][LEDGER_CASE] != LEDGER_REQUIRE)
+        return NULL;
+    if (!row_read(c->given[SLOTS].at + c->position * LEDGER_SLOT_WORDS, &row))
+        return "no row at the position";
+    return names(&row, c->lent[ANSWER][LEDGER_CONTRADICTED], region, region) ? NULL : "not the least contradicted output";
+}
+
+/* The row can have required something in this closing: all its conditions are marked after it but one, whose opposite is, and was not
+ * before. */
+static bool has_required(const struct row *row, const struct words *before, const struct words *after)
+{
+    size_t against = 0;
+    for (size_t i = 0; i < row->conditions; i++) {
+        uint64_t code = row->condition[i], opposite = code ^ 1;
+        if (marked(&after[0], &after[1], opposite) && !marked(&before[0], &before[1], opposite))
+            against++;
+        else if (!marked(&after[0], &after[1], code))
+            return false;
+    }
+    return against == 1;
+}
+
+/* Some row can have named the output. What is contradicted before stays so, so of its lesser outputs none was. */
+static const char *after_naming(const struct call *c)
+{
+    struct row row;
+    const struct words before[] = {c->given[HELD], c->given[CUT]}, after[] = {lent(c, HELD), lent(c, CUT)};
+    const uint64_t *slot = c->given[SLOTS].at, *answer = c->lent[ANSWER];
+    if (answer[LEDGER_VALUE] != LEDGER_NAMED)
+        return answer[LEDGER_VALUE] == LEDGER_NONE && answer[LEDGER_CONTRADICTED] == 0 ? NULL : "no output, and a word of one";
+    for (uint64_t p = 0; p < c->given[HEAD].at[LEDGER_ROWS]; p++, slot += LEDGER_SLOT_WORDS)
+        if (row_read(slot, &row) && has_required(&row, before, after) && names(&row, answer[LEDGER_CONTRADICTED], after, before))
+            return NULL;
+    return "an output that no row can have named";
+}
+
 static const char *after_close(const struct call *c)
 {
     struct words held = lent(c, HELD), cut = lent(c, CUT);
@@ -166,7 +222,7 @@ static const char *after_close(const struct call *c)
         return "scratch is not zero";
     if (c->lent[HEAD][LEDGER_FULL] != 0)
         return "full";
-    return only_hits(c) ? NULL : "more than hits changed";
+    return only_hits(c) ? after_naming(c) : "more than hits changed";
 }
 
 static const char *after_next_output(const struct call *c)
@@ -198,6 +254,7 @@ static const char *after(const struct call *c)
     case MAKE: return after_make(c);
     case HIT: return one_hit(c) ? NULL : "not one hit";
     case BEGIN: return c->lent[HEAD][LEDGER_FULL] == 1 ? NULL : "not full";
+    case DEDUCE: return after_deduce(c);
     case NEXT_OUTPUT: return after_next_output(c);
     case DECIDE: return after_decide(c);
     case OFFER: return after_offer(c);
@@ -232,6 +289,8 @@ static const char *answer_fault(const struct call *c)
         return "a case that the operation does not have";
     if (answer[LEDGER_VALUE] != 0 && !(o->valued & BIT(answer[LEDGER_CASE])))
         return "a value where there is none";
+    if (answer[LEDGER_CONTRADICTED] != 0 && !(o->naming & BIT(answer[LEDGER_CASE])))
+        return "an output named where there is none";
     if (o->lends & BIT(METER))
         return meter_fault(c);
     return answer[LEDGER_TICKS] == 0 ? NULL : "ticks without a meter";

@@ -48,6 +48,7 @@ struct operation {
     unsigned lends, writes;   /* a bit a buffer */
     unsigned refusals;        /* a bit a number */
     unsigned cases, valued;   /* a bit a case; those that come with a value */
+    unsigned naming;          /* a bit a case; those that can name a contradicted output */
     uint64_t (*run)(const struct call *);
 };
 extern const struct operation operations[OPERATIONS];
@@ -74,6 +75,7 @@ bool row_packed(const struct row *row);
 size_t groups_of(const uint64_t *codes, size_t length, struct group *groups);
 void postings_write(const uint64_t *head, const uint64_t *slots, struct words *postings);
 bool region_fits(uint64_t atoms, const struct words *held, const struct words *cut);
+bool marked(const struct words *held, const struct words *cut, uint64_t code); /* a code of the region's atoms */
 bool cursor_fits(const struct row *row, const uint64_t *cursor);
 bool contents_fit(const uint64_t *head, const uint64_t *slots, const uint64_t *postings);
 uint64_t refusal_of(const struct call *c); /* what document 01 says: 0, or the number */

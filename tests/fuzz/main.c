@@ -8,8 +8,8 @@
  *
  * A KIND shows that the checks can fail: of one call in eight something is spoiled after it, as a faulty library would have left it, and the exit
  * code is 0 only if each of these was found and no other. `refused` changes a word after a refusal, `kept` one that the call may not write,
- * `ticks` the ticks, `result` the result, `ledger` an unused word of the slots; `outside` reads the word after a buffer's last, which must end
- * the program. */
+ * `ticks` the ticks, `result` the result, `ledger` an unused word of the slots, `named` the contradicted output, of a closing to one that no
+ * row has; `outside` reads the word after a buffer's last, which must end the program. */
 #include "fuzz.h"
 #include <inttypes.h>
 #include <signal.h>
@@ -18,8 +18,8 @@
 #include <string.h>
 #include <unistd.h>
 
-enum spoil { NOTHING, REFUSED, KEPT, TICKS, RESULT, LEDGER, OUTSIDE, SPOILS };
-static const char *const spoil_names[SPOILS] = {"", "refused", "kept", "ticks", "result", "ledger", "outside"};
+enum spoil { NOTHING, REFUSED, KEPT, TICKS, RESULT, LEDGER, NAMED, OUTSIDE, SPOILS };
+static const char *const spoil_names[SPOILS] = {"", "refused", "kept", "ticks", "result", "ledger", "named", "outside"};
 
 static uint64_t calls, wrong, spoiled, found;
 static struct call call;
@@ -45,6 +45,7 @@ static bool spoil(enum spoil kind, uint64_t *result)
     case TICKS: return *result == 0 && ++call.lent[ANSWER][LEDGER_TICKS];
     case RESULT: *result = (*result + 1 + below(8)) % 9; return true;
     case LEDGER: return *result == 0 && o->lends & BIT(SLOTS) && call.lent[SLOTS][call.given[SLOTS].length - 1]++ == 0;
+    case NAMED: return *result == 0 && (call.lent[ANSWER][LEDGER_CONTRADICTED] += call.operation == CLOSE ? 2 * MOST_ATOMS : 1 + below(3));
     case OUTSIDE: return *(volatile uint64_t *)(call.lent[ANSWER] + LEDGER_ANSWER_WORDS) != 0;
     default: return false;
     }

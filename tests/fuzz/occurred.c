@@ -5,6 +5,7 @@
 
 enum shape {
     BY_POSTINGS, REBUILT, HALF_REBUILT, EVICTED, REPLACED, SATURATED, LARGE, LOADED, PAST_LIMIT, ALL_SEEDED, MARK_MET, DELIVERED_NEW,
+    REQUIRED_SCALAR, REQUIRED_PACKED, NAMED_CLOSED, NAMED_CONFLICT, NAMED_STOPPED,
     SHAPES
 };
 static const char *const shape_names[SHAPES] = {
@@ -20,6 +21,11 @@ static const char *const shape_names[SHAPES] = {
     [ALL_SEEDED] = "a whole seeding that adds rows",
     [MARK_MET] = "a seeding from a store that the mark names",
     [DELIVERED_NEW] = "a delivery that adds rows",
+    [REQUIRED_SCALAR] = "a Require of a scalar row",
+    [REQUIRED_PACKED] = "a Require of a packed row",
+    [NAMED_CLOSED] = "a whole closing that names an output",
+    [NAMED_CONFLICT] = "a Conflict after a Require",
+    [NAMED_STOPPED] = "a closing stopped after a Require",
 };
 static uint64_t results[OPERATIONS][9], cases[OPERATIONS][6], shapes[SHAPES];
 
@@ -54,6 +60,21 @@ static void searched(const struct call *c)
     shapes[HALF_REBUILT] += before[LEDGER_STALE] != 0 && now[LEDGER_STALE] != 0 && stopped && c->lent[ANSWER][LEDGER_TICKS] > 0;
 }
 
+static void required(const struct call *c)
+{
+    struct row row;
+    bool read = row_read(c->given[SLOTS].at + c->position * LEDGER_SLOT_WORDS, &row);
+    if (read && c->lent[ANSWER][LEDGER_CASE] == LEDGER_REQUIRE)
+        shapes[row_packed(&row) ? REQUIRED_PACKED : REQUIRED_SCALAR]++;
+}
+
+static void closed(const struct call *c)
+{
+    const enum shape named[] = {[LEDGER_CLOSED] = NAMED_CLOSED, [LEDGER_CONFLICT] = NAMED_CONFLICT, [LEDGER_STOPPED] = NAMED_STOPPED};
+    if (c->lent[ANSWER][LEDGER_VALUE] == LEDGER_NAMED)
+        shapes[named[c->lent[ANSWER][LEDGER_CASE]]]++;
+}
+
 void occurred(const struct call *c, uint64_t result)
 {
     results[c->operation][result]++;
@@ -67,6 +88,10 @@ void occurred(const struct call *c, uint64_t result)
         received(c, HEAD);
     if (c->operation == CANDIDATES)
         searched(c);
+    if (c->operation == DEDUCE)
+        required(c);
+    if (c->operation == CLOSE)
+        closed(c);
     if (c->operation == SEED || c->operation == DELIVER)
         transferred(c);
 }

@@ -196,6 +196,11 @@ bool region_fits(uint64_t atoms, const struct words *held, const struct words *c
     return common == 0 && (atoms % 64 == 0 || last >> (atoms % 64) == 0);
 }
 
+bool marked(const struct words *held, const struct words *cut, uint64_t code)
+{
+    return (code % 2 ? held : cut)->at[code / 128] >> (code / 2 % 64) & 1;
+}
+
 bool cursor_fits(const struct row *row, const uint64_t *cursor)
 {
     struct group groups[MOST_OUTPUTS];

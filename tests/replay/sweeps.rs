@@ -241,19 +241,11 @@ fn looks(lines: &mut Lines) {
     });
 }
 
-/// Closings in which a reading decides two atoms, one of two, one and then against the region, none; and two rows that say the same. Which
-/// of them counts a hit is document 02's Two.
-fn earned(lines: &mut Lines) {
-    let both: Codes<'_> = (&[1], &[140, 142]);
-    let cases: [(&str, &[Codes<'_>], Codes<'_>); 7] = [
-        ("packed", &[(&[], &[140, 142])], (&[], &[])),
-        ("two", &[both], (&[0], &[])),
-        ("one", &[both], (&[0], &[70])),
-        ("one_then_against", &[both], (&[0, 71], &[])),
-        ("against", &[both], (&[0, 70], &[])),
-        ("none", &[both], (&[0], &[70, 71])),
-        ("alike", &[(&[1], &[140]), (&[3], &[140])], (&[0, 1], &[])),
-    ];
+/// What a closing is about, its rows, and the atoms held and cut.
+type Closing<'a> = (&'a str, &'a [Codes<'a>], Codes<'a>);
+
+/// Closings of ledgers of one or two rows, at every limit.
+fn closings(lines: &mut Lines, what: &str, cases: &[Closing<'_>]) {
     for (about, rows, (held, cut)) in cases {
         let rows = rows.iter().enumerate();
         let given = Given {
@@ -267,13 +259,81 @@ fn earned(lines: &mut Lines) {
             held: held.to_vec(),
             cut: cut.to_vec(),
         };
-        meters(lines, &format!("earned:{about}"), &alone(&given), |meter| {
+        meters(lines, &format!("{what}:{about}"), &alone(&given), |meter| {
             Call::Close {
                 place: 0,
                 meter,
                 region: region.clone(),
             }
         });
+    }
+}
+
+/// Closings in which a reading decides two atoms, one of two, one and then against the region, none; and two rows that say the same. Which
+/// of them counts a hit is document 02's Two.
+fn earned(lines: &mut Lines) {
+    let both: Codes<'_> = (&[1], &[140, 142]);
+    let cases: [Closing<'_>; 7] = [
+        ("packed", &[(&[], &[140, 142])], (&[], &[])),
+        ("two", &[both], (&[0], &[])),
+        ("one", &[both], (&[0], &[70])),
+        ("one_then_against", &[both], (&[0, 71], &[])),
+        ("against", &[both], (&[0, 70], &[])),
+        ("none", &[both], (&[0], &[70, 71])),
+        ("alike", &[(&[1], &[140]), (&[3], &[140])], (&[0, 1], &[])),
+    ];
+    closings(lines, "earned", &cases);
+}
+
+/// Closings that act on Requires: by the one or the other sign of an atom; two in one round and in two; one before a Conflict; a packed row
+/// by the first of two outputs; a row by its greater output, of which the lesser is contradicted afterwards. Which output is named is
+/// document 02's Six.
+fn named(lines: &mut Lines) {
+    let (row, packed): (Codes<'_>, Codes<'_>) = ((&[7], &[140]), (&[1, 3], &[140, 142]));
+    let (signs, before): (Codes<'_>, Codes<'_>) = ((&[7], &[140, 141]), (&[9], &[7]));
+    let cases: [Closing<'_>; 8] = [
+        ("absent", &[signs], (&[70], &[])),
+        ("present", &[signs], (&[], &[70])),
+        ("two", &[row, before], (&[70], &[])),
+        ("two_rounds", &[before, row], (&[70], &[])),
+        ("conflict", &[row, packed], (&[0, 1, 70], &[])),
+        ("packed", &[packed], (&[0, 70, 71], &[])),
+        ("late", &[(&[7], &[20, 140]), (&[6], &[21])], (&[70], &[])),
+        ("none", &[(&[], &[140])], (&[70], &[])),
+    ];
+    closings(lines, "named", &cases);
+}
+
+/// Deductions of rows of 64 outputs, one in each word and all in one, contradicted at the first, at the last and at several places.
+fn wide(lines: &mut Lines) {
+    let scalar: Vec<u64> = (0..64).map(|word| 128 * word + 2 + word % 2).collect();
+    let packed: Vec<u64> = (0..64).map(|atom| 128 + 2 * atom + atom % 2).collect();
+    for (form, outputs) in [("scalar", scalar), ("packed", packed)] {
+        let given = Given {
+            limits: limits(4_096, 1, 64, 0),
+            header: header(7, 9),
+            rows: vec![entry(&[1], &outputs, (3, 1, 1, false))],
+        };
+        let places: [(&str, &[usize]); 3] =
+            [("first", &[0]), ("last", &[63]), ("several", &[17, 40, 62])];
+        for (about, places) in places {
+            let mut region = Region::default();
+            for place in places {
+                let atoms = match outputs[*place] % 2 {
+                    1 => &mut region.cut,
+                    _ => &mut region.held,
+                };
+                atoms.push(outputs[*place] / 2);
+            }
+            let deduce = Call::Deduce {
+                place: 0,
+                meter: ENDLESS,
+                position: 0,
+                region,
+            };
+            let about = format!("wide:{form}:{about}");
+            lines.call(&about, &deduce, &mut alone(&given));
+        }
     }
 }
 
@@ -380,6 +440,8 @@ pub fn write(lines: &mut Lines) {
     deliveries(lines);
     looks(lines);
     earned(lines);
+    named(lines);
+    wide(lines);
     porter(lines);
     groups(lines);
     floors(lines);

@@ -16,7 +16,7 @@ const SPREAD: u64 = 20;
 type Pair<'a> = (&'a [u64], &'a [u64]);
 
 /// Ledgers, and the regions that are closed under each: a number of atoms, rows, regions.
-const SMALL: [(u64, &[Pair<'_>], &[Pair<'_>]); 16] = [
+const SMALL: [(u64, &[Pair<'_>], &[Pair<'_>]); 20] = [
     // No row.
     (128, &[], &[(&[], &[]), (&[0, 127], &[64]), (&[], &[5])]),
     // The first card: forced, required, nothing, both decided against each other.
@@ -115,6 +115,33 @@ const SMALL: [(u64, &[Pair<'_>], &[Pair<'_>]); 16] = [
         65,
         &[(&[127], &[129]), (&[129], &[1, 3])],
         &[(&[63], &[]), (&[64], &[]), (&[], &[1]), (&[], &[64])],
+    ),
+    // The output that a Require names: of both signs of an atom, of two; the last of two Requires; a Conflict after one.
+    (
+        128,
+        &[(&[7], &[140, 141])],
+        &[(&[70], &[]), (&[], &[70]), (&[3], &[])],
+    ),
+    (
+        128,
+        &[(&[7], &[140]), (&[9], &[7]), (&[1, 3], &[140, 142])],
+        &[
+            (&[70], &[]),
+            (&[0, 70, 71], &[]),
+            (&[0, 71], &[]),
+            (&[0, 1, 70], &[]),
+        ],
+    ),
+    (
+        128,
+        &[(&[], &[9]), (&[9], &[7]), (&[7], &[140])],
+        &[(&[70], &[]), (&[70], &[4])],
+    ),
+    // Named is what was contradicted at the reading: 20 is so only afterwards.
+    (
+        128,
+        &[(&[7], &[20, 140]), (&[6], &[21])],
+        &[(&[70], &[]), (&[10, 70], &[])],
     ),
 ];
 

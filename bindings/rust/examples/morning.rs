@@ -1,7 +1,7 @@
 //! A morning at the bakery: the panel learns the house rules, closes the plan of the day under them, finds a plan that breaks
 //! one, and hands its rules on to the panel of the second shop.
 
-use ledger::{Charged, Closing, LearningLimits, Ledger, Literal, Meter, Refusal, Region};
+use ledger::{Charged, Closed, Closing, LearningLimits, Ledger, Literal, Meter, Refusal, Region};
 
 /// The points of a plan, an atom each.
 const POINTS: [&str; 6] = [
@@ -47,10 +47,15 @@ fn close(panel: &mut Ledger, meter: &mut Meter, decided: &[Literal]) -> Result<(
         return Ok(());
     }
     let Charged { answer, ticks } = panel.close(meter, &mut plan)?;
-    match answer {
+    let Closed { end, contradicted } = answer;
+    match end {
         Closing::Closed => println!("  {}; {ticks} ticks", names(plan.literals())),
         Closing::Conflict => println!("  breaks a rule; {ticks} ticks"),
         Closing::Stopped => println!("  not done in {ticks} ticks"),
+    }
+    // Why the last rule that was read backwards spoke: the plan is against this output of it.
+    if let Some(output) = contradicted {
+        println!("  because of {}", name(output));
     }
     Ok(())
 }
@@ -82,7 +87,7 @@ fn main() -> Result<(), Refusal> {
     // A plan over other points is none of this panel's.
     match panel.close(&mut meter, &mut Region::new(100)?) {
         Err(refusal) => println!("a plan over 100 points is {refusal}"),
-        Ok(closed) => println!("a plan over 100 points: {:?}", closed.answer),
+        Ok(closed) => println!("a plan over 100 points: {:?}", closed.answer.end),
     }
     println!("{} ticks in all", meter.charged());
     Ok(())

@@ -71,7 +71,7 @@ pub enum Offer {
 }
 
 impl Offer {
-    pub(crate) fn of([case, value, _]: Answer) -> Offer {
+    pub(crate) fn of([case, value, ..]: Answer) -> Offer {
         match case {
             1 => Offer::Shut,
             2 => Offer::Stopped,
@@ -100,17 +100,25 @@ pub enum Deduction {
     Force,
     /// The meter is at its limit.
     Stopped,
-    /// An output is contradicted and one condition is undecided: this literal, its opposite.
-    Require(Literal),
+    /// An output is contradicted and one condition is undecided.
+    Require {
+        /// The opposite of that condition.
+        required: Literal,
+        /// Of the outputs whose opposite the region marks the one with the least code.
+        contradicted: Literal,
+    },
 }
 
 impl Deduction {
-    pub(crate) fn of([case, value, _]: Answer) -> Deduction {
+    pub(crate) fn of([case, value, _, contradicted]: Answer) -> Deduction {
         match case {
             0 => Deduction::Nothing,
             1 => Deduction::Force,
             2 => Deduction::Stopped,
-            _ => Deduction::Require(Literal::from_code(value)),
+            _ => Deduction::Require {
+                required: Literal::from_code(value),
+                contradicted: Literal::from_code(contradicted),
+            },
         }
     }
 }
@@ -127,7 +135,7 @@ pub enum NextOutput {
 }
 
 impl NextOutput {
-    pub(crate) fn of([case, value, _]: Answer) -> NextOutput {
+    pub(crate) fn of([case, value, ..]: Answer) -> NextOutput {
         match case {
             0 => NextOutput::End,
             1 => NextOutput::Output(Literal::from_code(value)),
@@ -148,11 +156,31 @@ pub enum Closing {
 }
 
 impl Closing {
-    pub(crate) fn of([case, ..]: Answer) -> Closing {
+    fn of([case, ..]: Answer) -> Closing {
         match case {
             0 => Closing::Closed,
             1 => Closing::Conflict,
             _ => Closing::Stopped,
+        }
+    }
+}
+
+/// What a closing came to, beside the marks of the region.
+#[derive(Clone, Copy, Debug, PartialEq, Eq)]
+pub struct Closed {
+    /// How it ended.
+    pub end: Closing,
+    /// The contradicted output of the last Require that it acted on, as that was read; none if no row required anything. A Conflict is
+    /// no Require's: what ended the closing is not named, only what was required before.
+    pub contradicted: Option<Literal>,
+}
+
+impl Closed {
+    pub(crate) fn of(answer: Answer) -> Closed {
+        let [_, named, _, contradicted] = answer;
+        Closed {
+            end: Closing::of(answer),
+            contradicted: (named == 1).then_some(Literal::from_code(contradicted)),
         }
     }
 }

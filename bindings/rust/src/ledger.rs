@@ -1,7 +1,7 @@
 //! A ledger and its calls.
 
 use crate::answers::{
-    Candidates, Charged, Closing, Deduction, NextOutput, Offer, Refusal, Transfer, answered,
+    Candidates, Charged, Closed, Deduction, NextOutput, Offer, Refusal, Transfer, answered,
 };
 use crate::boundary::{
     CursorWords, HEADER_WORDS, Header, MeterWords, POSTING_WORDS, SLOT_WORDS, call, ledger_begin,
@@ -210,12 +210,13 @@ impl Ledger {
     }
 
     /// Closes a region under the rows: all that they force or require is marked in it. Each reading of a row that marks an atom or
-    /// ends in Conflict counts one hit for it. Refused by 6 for a region over another number of atoms.
+    /// ends in Conflict counts one hit for it. Of what was required the last is told by the output that was contradicted. Refused by 6
+    /// for a region over another number of atoms.
     pub fn close(
         &mut self,
         meter: &mut Meter,
         region: &mut Region,
-    ) -> Result<Charged<Closing>, Refusal> {
+    ) -> Result<Charged<Closed>, Refusal> {
         let (held, cut) = region.over_mut(self.atoms());
         let answer = answered(|answer| {
             call!(ledger_close(
@@ -223,7 +224,7 @@ impl Ledger {
                 [mut self.row_words], [mut self.atom_words]
             ))
         })?;
-        Ok(Charged::new(Closing::of(answer), answer))
+        Ok(Charged::new(Closed::of(answer), answer))
     }
 
     /// This ledger, the tier, takes the rows of a store, paid from its own sharing account. Rows up to its seed mark are passed

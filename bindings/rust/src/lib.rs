@@ -19,7 +19,9 @@ mod ledger;
 mod limits;
 mod region;
 
-pub use answers::{Candidates, Charged, Closing, Deduction, NextOutput, Offer, Refusal, Transfer};
+pub use answers::{
+    Candidates, Charged, Closed, Closing, Deduction, NextOutput, Offer, Refusal, Transfer,
+};
 pub use ledger::{Cursor, Ledger, Mark, Meter};
 pub use limits::LearningLimits;
 pub use region::{Literal, Region};

@@ -2,8 +2,8 @@
 //! That the functions meet their definitions is proved; what is tried here is that the wrapper lends the right words.
 
 use ledger::{
-    Candidates, Charged, Closing, Cursor, Deduction, LearningLimits, Ledger, Literal, Mark, Meter,
-    NextOutput, Offer, Refusal, Region, Transfer,
+    Candidates, Charged, Closed, Closing, Cursor, Deduction, LearningLimits, Ledger, Literal, Mark,
+    Meter, NextOutput, Offer, Refusal, Region, Transfer,
 };
 
 fn codes<const N: usize>(codes: [u64; N]) -> [Literal; N] {
@@ -12,6 +12,15 @@ fn codes<const N: usize>(codes: [u64; N]) -> [Literal; N] {
 
 fn charged<T>(answer: T, ticks: u64) -> Result<Charged<T>, Refusal> {
     Ok(Charged { answer, ticks })
+}
+
+/// A closing that ended so, and named this output or none.
+fn closed(
+    end: Closing,
+    contradicted: Option<Literal>,
+    ticks: u64,
+) -> Result<Charged<Closed>, Refusal> {
+    charged(Closed { end, contradicted }, ticks)
 }
 
 /// Limits over 128 atoms with room for so many rows.
@@ -263,9 +272,16 @@ fn rows_are_deduced() {
         deduced(1000, 0, &region(&[three])),
         charged(Deduction::Force, 2)
     );
+    let require = |required: Literal, contradicted: Literal| {
+        let answer = Deduction::Require {
+            required,
+            contradicted,
+        };
+        charged(answer, 3)
+    };
     assert_eq!(
         deduced(1000, 0, &region(&[seventy])),
-        charged(Deduction::Require(Literal::cut(3)), 3)
+        require(Literal::cut(3), Literal::cut(70))
     );
     assert_eq!(
         deduced(1000, 0, &region(&[Literal::cut(3)])),
@@ -278,7 +294,13 @@ fn rows_are_deduced() {
     let both = region(&[Literal::held(0), Literal::held(71)]);
     assert_eq!(
         deduced(1000, 1, &both),
-        charged(Deduction::Require(Literal::cut(1)), 3)
+        require(Literal::cut(1), Literal::cut(71))
+    );
+    // Of two contradicted outputs the one with the lesser code.
+    let all = region(&[Literal::held(0), seventy, Literal::held(71)]);
+    assert_eq!(
+        deduced(1000, 1, &all),
+        require(Literal::cut(1), Literal::cut(70))
     );
     assert_eq!(deduced(1, 0, &both), charged(Deduction::Stopped, 1));
     assert_eq!(deduced(1000, 2, &both), Err(Refusal(5)));
@@ -350,33 +372,75 @@ fn regions_are_closed() {
     // Two rounds: 2 to deduce each row, 1 for the output of the first.
     assert_eq!(
         ledger.close(&mut Meter::new(1000), &mut plan),
-        charged(Closing::Closed, 10)
+        closed(Closing::Closed, None, 10)
     );
     assert!(plan.literals().eq([Literal::held(3), Literal::cut(70)]));
     // The first round decides an atom, the second none; nor does a closing of what is closed.
     assert_eq!(ledger.slots()[4], 1);
     assert_eq!(
         ledger.close(&mut Meter::new(1000), &mut plan),
-        charged(Closing::Closed, 5)
+        closed(Closing::Closed, None, 5)
     );
     assert_eq!(ledger.slots()[4], 1);
     let mut against = region(&[Literal::held(3), Literal::held(70)]);
+    // 2 to deduce the first row, 1 for its output. A Conflict names nothing, but counts, though nothing was decided.
     assert_eq!(
-        ledger
-            .close(&mut Meter::new(1000), &mut against)
-            .map(|c| c.answer),
-        Ok(Closing::Conflict)
+        ledger.close(&mut Meter::new(1000), &mut against),
+        closed(Closing::Conflict, None, 3)
     );
-    // A Conflict counts, though nothing was decided.
     assert_eq!(ledger.slots()[4], 2);
     assert_eq!(
         ledger.close(&mut Meter::new(0), &mut plan),
-        charged(Closing::Stopped, 0)
+        closed(Closing::Stopped, None, 0)
     );
     assert_eq!(
         ledger.close(&mut Meter::new(1000), &mut Region::new(200).unwrap()),
         Err(Refusal(6))
     );
+}
+
+#[test]
+fn a_closing_names_the_output_of_its_last_require() {
+    let mut ledger = two_rows(9);
+    let mut close = |limit: u64, literals: &[Literal]| {
+        let mut plan = region(literals);
+        let closed = ledger.close(&mut Meter::new(limit), &mut plan);
+        (closed, plan)
+    };
+    let [zero, one, seventy, seventy_one] = [0, 1, 70, 71].map(Literal::held);
+    // Two rounds. The first: 3 to deduce each row, of which the second alone requires; then 3 and 2.
+    let (ended, plan) = close(1000, &[zero, seventy_one]);
+    assert_eq!(ended, closed(Closing::Closed, Some(Literal::cut(71)), 11));
+    assert!(plan.contains(Literal::cut(1)) && !plan.contains(Literal::cut(3)));
+    // Stopped after the first row has required, and before the second does.
+    let (ended, plan) = close(3, &[zero, seventy, seventy_one]);
+    assert_eq!(ended, closed(Closing::Stopped, Some(Literal::cut(70)), 3));
+    assert!(plan.contains(Literal::cut(3)) && !plan.contains(Literal::cut(1)));
+    // The first row requires, the second is against the region: 3 and 2 to deduce them, 2 for the output.
+    let (ended, plan) = close(1000, &[zero, one, seventy]);
+    assert_eq!(ended, closed(Closing::Conflict, Some(Literal::cut(70)), 7));
+    assert!(plan.contains(Literal::cut(3)));
+}
+
+/// 7 → 140 and 9 → 7: what the first requires is against the second's output.
+#[test]
+fn of_two_requires_the_last_is_told() {
+    let mut ledger = Ledger::make(&limits(2), 9).unwrap();
+    let mut meter = Meter::new(1000);
+    for (condition, output) in [(7, 140), (9, 7)] {
+        let offered = ledger.offer(&mut meter, &codes([condition]), &codes([output]));
+        assert!(matches!(offered.unwrap().answer, Offer::Added(_)));
+    }
+    let mut plan = region(&[Literal::held(70)]);
+    let ended = ledger.close(&mut meter, &mut plan).unwrap();
+    assert_eq!(
+        ended.answer,
+        Closed {
+            end: Closing::Closed,
+            contradicted: Some(Literal::held(3))
+        }
+    );
+    assert!(plan.contains(Literal::cut(3)) && plan.contains(Literal::cut(4)));
 }
 
 /// A region over up to 64 atoms has one word a side, over up to 128 two: others than the ledger's have fewer, more or as many.
@@ -395,7 +459,7 @@ fn a_region_over_other_atoms_is_refused() {
         }
         let mut plan = Region::new(atoms).unwrap();
         let closed = ledger.close(&mut meter, &mut plan).unwrap();
-        assert_eq!(closed.answer, Closing::Closed);
+        assert_eq!(closed.answer.end, Closing::Closed);
         assert!(plan.literals().eq([Literal::held(15)]));
     }
 }

@@ -24,8 +24,8 @@ use Rattle.model.specs.Records.{withFull}
 use Rattle.model.specs.Postings.{filed}
 use Rattle.model.specs.Refusals.{Lent, refusal, accepts, lengthsOk, ledgerIn}
 use Rattle.model.specs.Answers.{closeReply, contradictedReply}
-use Rattle.model.specs.Operations.{CloseEnd, closeEnd, close, regionOk}
-use Rattle.model.specs.Closing.{State, Turn, going, conflict, halted, rounds, closing}
+use Rattle.model.specs.Operations.{CloseEnd, closeEnd, closedBy, close, regionOk}
+use Rattle.model.specs.Closing.{State, Turn, rounds, closing}
 use Rattle.model.proofs.Priority.Steps.{refusal-cons}
 use Rattle.slots.proofs.Holding.{stands-few}
 use Rattle.contents.specs.Lent.{lent, refusedBy}
@@ -117,16 +117,8 @@ module _ (h : Header) (slots postings held₀ cut x y : List ℕ) (m : Meter) wh
     unfolding withFull
     close-long = scratches .1
 
-    finished : Turn → CloseEnd
-    finished t =
-        elim t [
-          | going u ↦ closeEnd answer.Closed u x y m
-          | conflict u ↦ closeEnd answer.Conflict u x y m
-          | halted u ↦ closeEnd answer.Stopped u x y m
-        ]
-
-    close-is : close s held₀ cut x y m ≡ finished (closing (ledgerIn s) (region held₀ cut) m)
-    unfolding close finished
+    close-is : close s held₀ cut x y m ≡ closedBy (closing (ledgerIn s) (region held₀ cut) m) x y m
+    unfolding close
     close-is = rw (e, close)
 
     closing-is : closing (ledgerIn s) (region held₀ cut) m
@@ -134,8 +126,7 @@ module _ (h : Header) (slots postings held₀ cut x y : List ℕ) (m : Meter) wh
     unfolding closing ledgerIn withFull
     closing-is = refl
 
-    ended-is : (b : Flow) (u : State) → finished (endedAs b u) ≡ closeEnd (answerOf b) u x y m
-    unfolding finished
+    ended-is : (b : Flow) (u : State) → closedBy (endedAs b u) x y m ≡ closeEnd (answerOf b) u x y m
     ended-is Continues u = refl
     ended-is Conflict u = refl
     ended-is Stopped u = refl
@@ -158,7 +149,7 @@ module _ (h : Header) (slots postings held₀ cut x y : List ℕ) (m : Meter) wh
         ∙ ap₂ (λ (l : Lent) (z : List ℕ × List ℕ). ended l (z .0) (z .1)) (stands-lent (r .header) slots′ postings′ (w .stands))
         (ap₂ (λ (u v : List ℕ). (u, v)) (c ∙ zeroed-cong x₁ x a) (d ∙ zeroed-cong y₁ y b))
         ∙ sym (ended-is (r .flow) (stateIn (r .header) slots′ held′ cut′ (r .meter) (r .contradicted)))
-        ∙ ap finished (t ∙ sym closing-is) ∙ sym close-is
+        ∙ ap (λ (u : Turn). closedBy u x y m) (t ∙ sym closing-is) ∙ sym close-is
       where
         ended : Lent → List ℕ → List ℕ → CloseEnd
         ended l u v =

@@ -166,9 +166,9 @@ module _ (h : Header) (slots postings held cut ys : List ℕ) (k : ℕ) (m : Met
   lent-is as′ = refl
 
   after : Option (List ℕ) → Turn
-  after o =
+  after z =
       let t : State = state (beside (ledgerOf (search .header) rows slots) o) held cut (search .meter) in
-      elim o [ none ↦ halted t | some ps ↦ round (h .limits .atoms) ps t ]
+      elim z [ none ↦ halted t | some ps ↦ round (h .limits .atoms) ps t ]
 
   one-is : oneRound (h .limits .atoms) (take k ys) before ≡ after (search .found)
   unfolding oneRound after

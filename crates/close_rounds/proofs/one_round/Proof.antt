@@ -52,7 +52,7 @@ abbrev at-round-from-slice-known13 : tie.After-slice-known13 → tie.After-round
 at-round-from-slice-known13 c = at-round-from-decided-since-arg2 (c .before .before .before .before)
 
 abbrev at-round-from-spent : tie.After-spent → tie.After-round
-at-round-from-spent c = at-round-from-slice-known13 (c .before)
+at-round-from-spent c = at-round-from-slice-known13 (c .before .before)
 
 sub-candidates : tie.Need-sub-candidates
 sub-candidates c = search needs
@@ -184,7 +184,7 @@ returns-2 c =
     let o =
     answer .answer .given in
     let g = round .round in
-    let d = c .before .before .before .decided-since in
+    let d = c .before .before .before .before .decided-since in
     let new = since-new (a .header) (a .slots .now) (a .postings .now) (a .held .now) (a .cut .now) (a .noted .now) (a .given) (a .work) (a .before)
     (t .pre .0) _ _ _ (g .ensures .1 .region) (t .pre .1 .1 .0)
     (note-decided .note-decided .ensures) _ _ (d .ensures) in (

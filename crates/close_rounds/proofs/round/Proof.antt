@@ -33,11 +33,14 @@ at-in-loop c = at-in-loop-from-act-arg3 (c .before)
 abbrev at-act-from-slice-known5 : tie.After-slice-known5 Inv-loop μ-loop → tie.After-act Inv-loop μ-loop
 at-act-from-slice-known5 c = c .before .before .before .before
 
+abbrev at-act-from-ended : tie.After-ended Inv-loop μ-loop → tie.After-act Inv-loop μ-loop
+at-act-from-ended c = at-act-from-slice-known5 (c .before .before .before)
+
 abbrev at-act-from-match-keys2 : tie.At-match-keys2 Inv-loop μ-loop → tie.After-act Inv-loop μ-loop
-at-act-from-match-keys2 c = at-act-from-slice-known5 (c .before .before .before)
+at-act-from-match-keys2 c = at-act-from-ended (c .before)
 
 abbrev at-act : tie.After-enum-told Inv-loop μ-loop → tie.After-act Inv-loop μ-loop
-at-act c = at-act-from-slice-known5 (c .before .before .before .before)
+at-act c = at-act-from-ended (c .before .before)
 
 loop-holds : tie.Need-loop-holds Inv-loop μ-loop
 loop-holds c =

@@ -164,8 +164,8 @@ loop-less c =
     let l = loop .loop in
     let a = at-start loop .args in
     repeat-less (a .header) (a .slots .now) (a .postings .now) (a .held .now) (a .cut .now) (a .places .now) (a .noted .now) (a .work) None
-    (l .head) (l .slots) (l .postings) (l .held) (l .cut) (l .places) (l .noted) (l .meter) (l .contradicted) (l .given) (l .inv) (g .result) _ _ _
-    (g .ensures .0) (c .before .before .before .before .enum-told .given .1) _ (g .ensures .1 .1 .1) (c .before .before .if1 .left)
+    (l .head) (l .slots) (l .postings) (l .held) (l .cut) (l .places) (l .noted) (l .meter) (l .contradicted) (l .given) (l .inv)
+    (g .result) _ _ _ (g .ensures .0) (c .before .before .before .before .enum-told .given .1) _ (g .ensures .1 .1 .1) (c .before .before .if1 .left)
 
 loop-again : tie.Need-loop-again Inv-loop μ-loop
 loop-again c =
@@ -175,8 +175,8 @@ loop-again c =
     let l = loop .loop in
     let a = at-start loop .args in
     repeat-on (a .header) (a .slots .now) (a .postings .now) (a .held .now) (a .cut .now) (a .places .now) (a .noted .now) (a .work) None
-    (l .head) (l .slots) (l .postings) (l .held) (l .cut) (l .places) (l .noted) (l .meter) (l .contradicted) (l .given) (l .inv) (g .result) _ _ _
-    (g .ensures .0) (c .before .before .before .before .enum-told .given .1) _ (g .ensures .1 .1 .1) (c .before .before .if1 .left) _ _
+    (l .head) (l .slots) (l .postings) (l .held) (l .cut) (l .places) (l .noted) (l .meter) (l .contradicted) (l .given) (l .inv)
+    (g .result) _ _ _ (g .ensures .0) (c .before .before .before .before .enum-told .given .1) _ (g .ensures .1 .1 .1) (c .before .before .if1 .left) _ _
     (g .ensures .1 .0) (g .ensures .1 .1 .0)
     (g .kept .1 .0) (g .kept .1 .1 .0) (g .kept .1 .1 .1 .0) (g .kept .1 .1 .1 .1 .0) (g .kept .1 .1 .1 .1 .1 .0)
     (g .kept .1 .1 .1 .1 .1 .1 .0)
