@@ -63,7 +63,7 @@ int main(void)
     refused = ledger_close(head, answer, meter, slots, ROWS * LEDGER_SLOT_WORDS, postings, ROWS * LEDGER_POSTING_WORDS, other_held, REGION_WORDS,
                            other_cut, REGION_WORDS, row_scratch, ROWS, point_scratch, POINTS);
     printf("close: refused by %" PRIu64 ", %" PRIu64 ", cut %" PRIx64 "\n", refused, answer[LEDGER_CASE], other_cut[0]);
-    if (answer[LEDGER_VALUE] == LEDGER_NAMED)
+    if (refused == 0 && answer[LEDGER_VALUE] == LEDGER_NAMED)
         printf("contradicted: %" PRIu64 "\n", answer[LEDGER_CONTRADICTED]);
     return 0;
 }

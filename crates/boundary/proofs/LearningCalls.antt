@@ -14,8 +14,8 @@ use Rattle.postings_search.specs.Ends.{candidatesEnd}
 use Rattle.close.specs.Ends.{closedEnd}
 use Rattle.wire.specs.declared.ReplyWords.{ReplyWords}
 use Rattle.wire.specs.Words.{headerIn, headerWords, meterIn, meterWords}
-use Rattle.model.specs.Answers.{offerReply, candidatesReply, closeReply}
-use Rattle.wire.specs.Replies.{left, replyWords, answerWords}
+use Rattle.model.specs.Answers.{offerReply, candidatesReply, closeReply, contradictedReply}
+use Rattle.wire.specs.Replies.{left, replyWords, closeWords, answerWords}
 use Rattle.boundary.specs.Learning.{offerLeft, offerCall, candidatesLeft, candidatesCall, closeLeft, closeCall}
 use Rattle.boundary.proofs.Leaving.{refused-way, done-way}
 use Rattle.boundary.proofs.Calling.{number, answer-told}
@@ -74,7 +74,7 @@ module _ (head answer meter slots postings : List ℕ) (h : Header) (read : h �
 
   module _ (held cut rows atoms : List ℕ) (r : CloseResult) (s p a b i j : List ℕ)
       (ends : closedEnd r s p a b i j ≡ close (lent h slots postings) held cut rows atoms m)
-      (told : w ≡ replyWords (closeReply (r .answer))) where
+      (told : w ≡ closeWords (closeReply (r .answer)) (contradictedReply (r .contradicted))) where
     close-end : closedEnd r s p a b i j ≡ close (lent (headerIn head) slots postings) held cut rows atoms (meterIn meter)
     close-end = ends ∙ ap₂ (λ (x : Header) (y : Meter). close (lent x slots postings) held cut rows atoms y) read metered
 

@@ -9,13 +9,13 @@ use lib.ListN.{length}
 use Rattle.words.specs.Region.{region}
 use Rattle.meter.specs.declared.Meter.{Meter}
 use Rattle.model.specs.Retention.{Outcome, Stops, Declines, Subsumes, Adds, canCapture}
-use Rattle.model.specs.Closing.{State, Turn, going, conflict, halted, closing}
+use Rattle.model.specs.Closing.{Turn, going, conflict, halted, closing}
 use Rattle.model.specs.Refusals.{Lent, refusal, accepts, ledgerIn}
 use Rattle.model.specs.Operations.{OfferEnd, Offered, CandidatesEnd, CloseEnd}
 use Rattle.model.specs.Operations.{offer, capture, unoffered, offerAnswer, fitsOffer, candidates}
-use Rattle.model.specs.Operations.{candidatesAnswer, close, closeEnd, regionOk}
+use Rattle.model.specs.Operations.{candidatesAnswer, close, closeEnd, closedBy, regionOk}
 use Rattle.model.specs.Answers.{offerReply, candidatesReply}
-use Rattle.wire.specs.Replies.{replyWords}
+use Rattle.wire.specs.Replies.{replyWords, closeWords}
 use Rattle.boundary.proofs.Leaving.{keeps}
 
 -- the slices that each writes
@@ -45,12 +45,14 @@ unfolding candidatesAnswer
 searched none = refl
 searched (some ps) = refl
 
-turned : {E : Type 0} (result : E → ℕ) (t : Turn) (f g h : State → E) → ((s : State) → result (f s) ≡ 0) → ((s : State) → result (g s) ≡ 0)
-    → ((s : State) → result (h s) ≡ 0) →
-    result (elim t [ going s ↦ f s | conflict s ↦ g s | halted s ↦ h s ]) ≡ 0
-turned result (going s) f g h p q r = p s
-turned result (conflict s) f g h p q r = q s
-turned result (halted s) f g h p q r = r s
+abbrev closeNumber : CloseEnd → ℕ
+closeNumber e = closeWords (e .answer) (e .contradicted) .refusal
+
+closed : (t : Turn) (x y : List ℕ) (m : Meter) → closeNumber (closedBy t x y m) ≡ 0
+unfolding closeEnd
+closed (going t) x y m = refl
+closed (conflict t) x y m = refl
+closed (halted t) x y m = refl
 
 -- ---- what is refused keeps what was lent
 pub offer-keeps : (s : Lent) (c o : List ℕ) (m : Meter) → (replyWords (offer s c o m .seen .answer) .refusal ≡ 0 → ⊥)
@@ -69,13 +71,12 @@ candidates-keeps s atoms buffer m =
     keeps (λ (e : CandidatesEnd). replyWords (e .answer) .refusal) candidatesLends (s .postings ∷ buffer ∷ [])
     (refusal (accepts s (eqb (length buffer) (s .header .limits .«tier_rows»)) [])) _ _ (λ n. refl) (searched _)
 
-pub close-keeps : (s : Lent) (held cut x y : List ℕ) (m : Meter) → (replyWords (close s held cut x y m .answer) .refusal ≡ 0 → ⊥) →
+pub close-keeps : (s : Lent) (held cut x y : List ℕ) (m : Meter) → (closeNumber (close s held cut x y m) ≡ 0 → ⊥) →
     closeLends (close s held cut x y m) ≡ s .slots ∷ s .postings ∷ held ∷ cut ∷ x ∷ y ∷ []
 unfolding close closeEnd
 close-keeps s held cut x y m =
-    keeps (λ (e : CloseEnd). replyWords (e .answer) .refusal) closeLends (s .slots ∷ s .postings ∷ held ∷ cut ∷ x ∷ y ∷ [])
+    keeps closeNumber closeLends (s .slots ∷ s .postings ∷ held ∷ cut ∷ x ∷ y ∷ [])
     (refusal
     (accepts s (eqb (length x) (s .header .limits .«tier_rows») && eqb (length y) (s .header .limits .atoms))
     ((regionOk s held cut, 6) ∷ []))) _ _ (λ n. refl)
-    (turned (λ (e : CloseEnd). replyWords (e .answer) .refusal) (closing (ledgerIn s) (region held cut) m) _ _ _ (λ t. refl) (λ t. refl)
-    (λ t. refl))
+    (closed (closing (ledgerIn s) (region held cut) m) x y m)

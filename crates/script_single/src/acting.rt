@@ -3,9 +3,11 @@
 // - `offer I M CONDS OUTS`: `offer I ANSWER charge=N HEAD`, ANSWER one of `Shut`, `Stopped`, `Declined`, `Subsumed P`, `Added P`
 // - `rule I M ITEMS -> ITEMS`: an offer by items, in any order, each counted once;
 // `Subsumed P` and `Added P` are followed by the row at P as it is then
-// - `deduce I M P HELD CUT`: `deduce I ANSWER charge=N HEAD`, ANSWER one of `Nothing`, `Force`, `Stopped`, `Require CODE`
-// - `close I M HELD CUT`: `close I ANSWER charge=N held=LIST cut=LIST HEAD`, ANSWER one of `Closed`, `Conflict`, `Stopped`
-// - `plan I M ITEMS`: a closing by items, and an atom stands in the lists by its name where it has one
+// - `deduce I M P HELD CUT`: `deduce I ANSWER charge=N HEAD`, ANSWER one of `Nothing`, `Force`, `Stopped`, `Require CODE contradicted=CODE`
+// - `close I M HELD CUT`: `close I ANSWER charge=N held=LIST cut=LIST contradicted=CODE HEAD`, ANSWER one of `Closed`, `Conflict`,
+// `Stopped`; `contradicted=none` where no Require was acted on
+// - `plan I M ITEMS`: a closing by items, and an atom stands in the lists by its name where it has one; in the place of the contradicted
+// output's code stands `because=ITEM`, or `because=-` for none
 ghost use Prim.Native.Nat.{_≤_};
 use boundary::ledger_begin;
 use boundary::ledger_close;
@@ -22,9 +24,12 @@ use script_notation::arguments::read_lists;
 use script_notation::calls::Asked;
 use script_notation::calls::Call;
 use script_notation::calls::Said;
+use script_notation::literals::put_items;
 use script_notation::memory;
 use script_notation::regions::put_region;
 use text::kept;
+use text::put;
+use text::put_field;
 use text::put_text;
 use wire::ANSWER_WORDS;
 use wire::HEAD_ATOMS_AT;
@@ -95,6 +100,15 @@ fn operate(
     }
 }
 
+// A deduction; a Require is 3, and names the output that is contradicted.
+fn put_deduced(out: &mut [u8], to: usize, answer: &[u64; ANSWER_WORDS]) -> usize {
+    let to = put_case(out, to, b"Nothing Force Stopped Require:", answer);
+    if answer[0] != 3 {
+        return to;
+    }
+    put_field(out, to, b" contradicted=", answer[3])
+}
+
 // The answer's words.
 fn put_word(out: &mut [u8], to: usize, call: Call, answer: &[u64; ANSWER_WORDS]) -> usize {
     match call {
@@ -104,7 +118,7 @@ fn put_word(out: &mut [u8], to: usize, call: Call, answer: &[u64; ANSWER_WORDS])
             b"- Shut Stopped Declined Subsumed: Added:",
             answer,
         ),
-        Call::Deduce => put_case(out, to, b"Nothing Force Stopped Require:", answer),
+        Call::Deduce => put_deduced(out, to, answer),
         Call::Close | Call::Plan => put_case(out, to, b"Closed Conflict Stopped", answer),
         _ => put_text(out, to, b" Done"),
     }
@@ -130,19 +144,48 @@ fn put_joined(
     }
 }
 
-// After the charge of `close` and `plan` the region.
+// The output that a closing names, by its code; the value is 0 where it names none.
+fn put_contradicted(out: &mut [u8], to: usize, answer: &[u64; ANSWER_WORDS]) -> usize {
+    if answer[1] == 0 {
+        return put_text(out, to, b" contradicted=none");
+    }
+    put_field(out, to, b" contradicted=", answer[3])
+}
+
+// The same as an item.
+fn put_because(
+    out: &mut [u8],
+    to: usize,
+    answer: &[u64; ANSWER_WORDS],
+    points: &[u64],
+) -> usize {
+    let to = put_text(out, to, b" because=");
+    if answer[1] == 0 {
+        return put(out, to, b'-');
+    }
+    put_items(out, to, points, &answer[3..4])
+}
+
+// After the charge of `close` and `plan` the region, and the output that they name.
 fn put_closed(
     out: &mut [u8],
     to: usize,
     call: Call,
+    answer: &[u64; ANSWER_WORDS],
     atoms: u64,
     held: &[u64],
     cut: &[u64],
     points: &[u64],
 ) -> usize {
     match call {
-        Call::Close => put_region(out, to, atoms, held, cut, &points[0..0]),
-        Call::Plan => put_region(out, to, atoms, held, cut, points),
+        Call::Close => {
+            let to = put_region(out, to, atoms, held, cut, &points[0..0]);
+            put_contradicted(out, to, answer)
+        }
+        Call::Plan => {
+            let to = put_region(out, to, atoms, held, cut, points);
+            put_because(out, to, answer, points)
+        }
         _ => to,
     }
 }
@@ -162,7 +205,16 @@ fn put_answer(
     let to = put_word(out, to, call, answer);
     let to = put_joined(out, to, call, answer, slots, points);
     let to = put_charge(out, to, answer[2]);
-    let to = put_closed(out, to, call, head[HEAD_ATOMS_AT], first, second, points);
+    let to = put_closed(
+        out,
+        to,
+        call,
+        answer,
+        head[HEAD_ATOMS_AT],
+        first,
+        second,
+        points,
+    );
     put_head(out, to, head)
 }
 
