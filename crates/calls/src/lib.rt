@@ -213,7 +213,7 @@ const GIVEN_AT: usize = CURSOR_AT + CURSOR_WORDS;
 
 const GIVEN_WORDS: usize = 3;
 
-const WORDS: usize = GIVEN_AT + GIVEN_WORDS;
+pub const WORDS: usize = GIVEN_AT + GIVEN_WORDS;
 
 fn head_in(words: &[u64]) -> [u64; HEADER_WORDS] {
     let mut head = [0u64; HEADER_WORDS];

@@ -122,7 +122,8 @@ module _ (h : Header) (slots postings held₀ cut x y : List ℕ) (m : Meter) wh
     close-is = rw (e, close)
 
     closing-is : closing (ledgerIn s) (region held₀ cut) m
-        ≡ rounds (suc (withFull h true .limits .atoms)) (withFull h true .limits .atoms) [] (stateIn (withFull h true) slots held₀ cut m None)
+        ≡ rounds (suc (withFull h true .limits .atoms)) (withFull h true .limits .atoms) []
+        (stateIn (withFull h true) slots held₀ cut m None)
     unfolding closing ledgerIn withFull
     closing-is = refl
 
@@ -137,7 +138,8 @@ module _ (h : Header) (slots postings held₀ cut x y : List ℕ) (m : Meter) wh
 
     pub close-done : (r : RoundEnd) (slots′ postings′ held′ cut′ x₁ y₁ x′ y′ : List ℕ)
         → roundTurn r slots′ held′ cut′
-        ≡ rounds (suc (withFull h true .limits .atoms)) (withFull h true .limits .atoms) [] (stateIn (withFull h true) slots held₀ cut m None)
+        ≡ rounds (suc (withFull h true .limits .atoms)) (withFull h true .limits .atoms) []
+        (stateIn (withFull h true) slots held₀ cut m None)
         → Running (r .header) slots′ postings′ held′ cut′ → length x₁ ≡ length x → length y₁ ≡ length y → x′ ≡ zeroed x₁ → y′ ≡ zeroed y₁
         → (z : CloseAnswer) (k : ℕ) → z ≡ answerOf (r .flow) → k ≡ made m (r .meter)
         → closedEnd (ending r z k) slots′ postings′ held′ cut′ x′ y′

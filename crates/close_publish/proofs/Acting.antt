@@ -101,12 +101,14 @@ module _ (n p : ℕ) (l : Beside) (held cut : List ℕ) (m : Meter) (r : Row) (e
       go (tick.Ticked k) u v = let z : true ≡ false = sym o ∙ ap (λ (x : Deduced). x .stopped) v in absurd (subst T z tt)
 
   reading-said : f ≡ deduced told m ticked → f .stopped ≡ false
-      → reading n (rowAt p (l .ledger)) (state l held cut m) ≡ follow n r (f .deduction) (state (saying (f .deduction) l) held cut (f .meter))
+      → reading n (rowAt p (l .ledger)) (state l held cut m)
+      ≡ follow n r (f .deduction) (state (saying (f .deduction) l) held cut (f .meter))
   unfolding by-tick
   reading-said q o = go ticked refl q
     where
       go : (t : Tick) → ticked ≡ t → f ≡ deduced told m t
-          → reading n (rowAt p (l .ledger)) (state l held cut m) ≡ follow n r (f .deduction) (state (saying (f .deduction) l) held cut (f .meter))
+          → reading n (rowAt p (l .ledger)) (state l held cut m)
+          ≡ follow n r (f .deduction) (state (saying (f .deduction) l) held cut (f .meter))
       go (tick.Stopped k) u v = let z : true ≡ false = sym (ap (λ (x : Deduced). x .stopped) v) ∙ o in absurd (subst T z tt)
       go (tick.Ticked k) u v =
           reading-is ∙ ap by-tick u

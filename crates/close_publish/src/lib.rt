@@ -165,9 +165,10 @@ fn follow(
             earned: false,
         },
         Deduction::Force => publish(slot, atoms, held, cut, work),
-        Deduction::Require { required, contradicted: _ } => {
-            decide_on(atoms, held, cut, required.0 as u64, work)
-        }
+        Deduction::Require {
+            required,
+            contradicted: _,
+        } => decide_on(atoms, held, cut, required.0 as u64, work),
     }
 }
 
@@ -178,13 +179,16 @@ fn named(said: Deduction, before: Contradicted) -> Contradicted
     match said {
         Deduction::Nothing => before,
         Deduction::Force => before,
-        Deduction::Require { required: _, contradicted } => Contradicted::Output(contradicted),
+        Deduction::Require {
+            required: _,
+            contradicted,
+        } => Contradicted::Output(contradicted),
     }
 }
 
 // Reads the row at a position. Going, and nothing changed, if nothing follows; else what the row says is decided, and then one hit is
-// counted if that decided an atom or ended in Conflict. Stopped, and nothing changed, if the deduction's ticks were not all made. A Require's
-// contradicted output is handed on, else the one `before`.
+// counted if that decided an atom or ended in Conflict. Stopped, and nothing changed, if the deduction's ticks were not all made. The
+// contradicted output of a Require is handed on, and else the one `before`.
 pub fn act(
     atoms: u64,
     rows: u64,

@@ -43,20 +43,24 @@ stands-from n rows rs qs slots held cut e s =
     record { holds = s .holds; same = s .same ∙ e; region = s .region }
 
 -- ---- the walk
-pub record Reading (n rows : ℕ) (ps slots₀ held₀ cut₀ : List ℕ) (m₀ : Meter) (o₀ : Contradicted) (slots held cut : List ℕ) (m : Meter) (o : Contradicted) (i : ℕ) : Type 0 where
+pub record Reading (n rows : ℕ) (ps slots₀ held₀ cut₀ : List ℕ) (m₀ : Meter) (o₀ : Contradicted) (slots held cut : List ℕ) (m : Meter)
+    (o : Contradicted) (i : ℕ) : Type 0 where
   pub within : i ≤ length ps
   pub slotsLong : length slots ≡ length slots₀
   pub heldLong : length held ≡ length held₀
   pub cutLong : length cut ≡ length cut₀
   pub stands : Standing n rows (rowsIn rows slots₀) slots held cut
   pub rest : (h : Header)
-      → round n (drop i ps) (state (beside (ledgerOf h rows slots) o) held cut m) ≡ round n ps (state (beside (ledgerOf h rows slots₀) o₀) held₀ cut₀ m₀)
+      → round n (drop i ps) (state (beside (ledgerOf h rows slots) o) held cut m)
+      ≡ round n ps (state (beside (ledgerOf h rows slots₀) o₀) held₀ cut₀ m₀)
 
 module _ (n rows : ℕ) (ps slots₀ held₀ cut₀ : List ℕ) (m₀ : Meter) (o₀ : Contradicted) where
-  pub read-start : Standing n rows (rowsIn rows slots₀) slots₀ held₀ cut₀ → Reading n rows ps slots₀ held₀ cut₀ m₀ o₀ slots₀ held₀ cut₀ m₀ o₀ 0
+  pub read-start : Standing n rows (rowsIn rows slots₀) slots₀ held₀ cut₀
+      → Reading n rows ps slots₀ held₀ cut₀ m₀ o₀ slots₀ held₀ cut₀ m₀ o₀ 0
   read-start s = record { within = omega arith; slotsLong = refl; heldLong = refl; cutLong = refl; stands = s; rest = λ h. refl }
 
-  module _ (slots held cut : List ℕ) (m : Meter) (o : Contradicted) (i : ℕ) (w : Reading n rows ps slots₀ held₀ cut₀ m₀ o₀ slots held cut m o i) where
+  module _ (slots held cut : List ℕ) (m : Meter) (o : Contradicted) (i : ℕ)
+      (w : Reading n rows ps slots₀ held₀ cut₀ m₀ o₀ slots held cut m o i) where
     abbrev wholly : Header → Turn
     wholly h = round n ps (state (beside (ledgerOf h rows slots₀) o₀) held₀ cut₀ m₀)
 
@@ -71,7 +75,8 @@ module _ (n rows : ℕ) (ps slots₀ held₀ cut₀ : List ℕ) (m₀ : Meter) (
         → acted g (ledgerOf h rows slots′) held′ cut′ ≡ act n (getD ps i 0) (state (beside (ledgerOf h rows slots) o) held cut m)) where
       turn : (h : Header) → onGoing (acted g (ledgerOf h rows slots′) held′ cut′) (round n (drop (i + 1) ps)) ≡ wholly h
       turn h =
-          ap (λ (x : Turn). onGoing x (round n (drop (i + 1) ps))) (t h) ∙ round-next n ps i (state (beside (ledgerOf h rows slots) o) held cut m) l
+          ap (λ (x : Turn). onGoing x (round n (drop (i + 1) ps))) (t h)
+          ∙ round-next n ps i (state (beside (ledgerOf h rows slots) o) held cut m) l
           ∙ w .rest h
 
       module _ (s : Standing n rows (rowsIn rows slots) slots′ held′ cut′) where
@@ -80,7 +85,9 @@ module _ (n rows : ℕ) (ps slots₀ held₀ cut₀ : List ℕ) (m₀ : Meter) (
 
         pub read-ended : OneOf (1 ∷ 2 ∷ []) (tagOf the-type (g .ended .flow)) → (h : Header)
             → acted g (ledgerOf h rows slots′) held′ cut′ ≡ wholly h
-        read-ended k h = ended-stays (g .ended .flow) (state (beside (ledgerOf h rows slots′) (g .contradicted)) held′ cut′ (g .ended .meter)) (round n (drop (i + 1) ps)) k ∙ turn h
+        read-ended k h =
+            ended-stays (g .ended .flow) (state (beside (ledgerOf h rows slots′) (g .contradicted)) held′ cut′ (g .ended .meter))
+            (round n (drop (i + 1) ps)) k ∙ turn h
 
         pub read-on : g .ended .flow ≡ Continues → length slots′ ≡ length slots → length held′ ≡ length held → length cut′ ≡ length cut
             → Reading n rows ps slots₀ held₀ cut₀ m₀ o₀ slots′ held′ cut′ (g .ended .meter) (g .contradicted) (i + 1)
@@ -93,5 +100,6 @@ module _ (n rows : ℕ) (ps slots₀ held₀ cut₀ : List ℕ) (m₀ : Meter) (
           stands = read-stands;
           rest =
               λ h. sym (ap (λ (u : Turn). onGoing u (round n (drop (i + 1) ps)))
-              (ended-goes (g .ended .flow) (state (beside (ledgerOf h rows slots′) (g .contradicted)) held′ cut′ (g .ended .meter)) e)) ∙ turn h;
+              (ended-goes (g .ended .flow) (state (beside (ledgerOf h rows slots′) (g .contradicted)) held′ cut′ (g .ended .meter)) e))
+              ∙ turn h;
         }

@@ -53,7 +53,8 @@ module _ (h : Header) (slots postings held cut : List ℕ) (run : Running h slot
   fine = fine-of (h .limits .atoms) (entriesIn (h .rows) slots) (T-of (held-rows (h .rows) slots (run .stands .held)))
 
   self-step : (k : Header) (m : Meter) (o : Contradicted)
-      → Step (h .limits .atoms) rows fine (state (beside (ledgerOf k (h .rows) slots) o) held cut m) (state (beside (ledgerOf k (h .rows) slots) o) held cut m)
+      → Step (h .limits .atoms) rows fine (state (beside (ledgerOf k (h .rows) slots) o) held cut m)
+      (state (beside (ledgerOf k (h .rows) slots) o) held cut m)
   self-step k m o = record { sound = sound-of (h .limits .atoms) (region held cut) (run .region); grown = λ x t. t; same = refl }
 
   -- fuel above the number of open atoms is never used up
@@ -63,7 +64,8 @@ module _ (h : Header) (slots postings held cut : List ℕ) (run : Running h slot
   rounds-any f g as′ m o a b = rounds-fuel (h .limits .atoms) rows fine f g as′ (stateIn h slots held cut m o) (self-step h m o) a b
 
   -- a round that goes on leaves a region that contains the one before
-  pub one-grows : (as′ : List ℕ) (m : Meter) (o : Contradicted) (u : State) → going u ≡ oneRound (h .limits .atoms) as′ (stateIn h slots held cut m o)
+  pub one-grows : (as′ : List ℕ) (m : Meter) (o : Contradicted) (u : State)
+      → going u ≡ oneRound (h .limits .atoms) as′ (stateIn h slots held cut m o)
       → Contains (u .region) (region held cut)
   unfolding oneRound
   one-grows as′ m o u e = go (candidates (ledgerOf h (h .rows) slots) as′ m .found) e

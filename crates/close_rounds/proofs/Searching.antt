@@ -151,7 +151,8 @@ region-noted n held cut k e t =
     record { heldLong = s .held .long ∙ ap wordsFor (sym e); cutLong = s .cut .long ∙ ap wordsFor (sym e) }
 
 -- ---- a round
-module _ (h : Header) (slots postings held cut ys : List ℕ) (k : ℕ) (m : Meter) (o : Contradicted) (run : Running h slots postings held cut) where
+module _ (h : Header) (slots postings held cut ys : List ℕ) (k : ℕ) (m : Meter) (o : Contradicted)
+    (run : Running h slots postings held cut) where
   abbrev rows : ℕ
   rows = h .rows
 

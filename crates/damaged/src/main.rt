@@ -3,6 +3,7 @@
 ghost use mathlib.Core.Path.{_≡_};
 ghost use Prim.Native.Nat.{_+_, _≤_};
 ghost use lib.ListN.{length};
+use calls::WORDS;
 use lists::copy;
 use lists::equal;
 use text::Parsed;
@@ -10,6 +11,31 @@ use text::kept;
 
 // Ends the copies of a ledger.
 const LAST: u64 = 999;
+
+// Where the length of each slice stands, after the words of the call.
+const SLOTS_LEN_AT: usize = WORDS;
+
+const POSTINGS_LEN_AT: usize = WORDS + 1;
+
+const HELD_LEN_AT: usize = WORDS + 2;
+
+const CUT_LEN_AT: usize = WORDS + 3;
+
+const CONDITIONS_LEN_AT: usize = WORDS + 4;
+
+const OUTPUTS_LEN_AT: usize = WORDS + 5;
+
+const GIVEN_LEN_AT: usize = WORDS + 6;
+
+const FOUND_LEN_AT: usize = WORDS + 7;
+
+const STORE_SLOTS_LEN_AT: usize = WORDS + 8;
+
+const STORE_POSTINGS_LEN_AT: usize = WORDS + 9;
+
+const ROW_SCRATCH_LEN_AT: usize = WORDS + 10;
+
+const ATOM_SCRATCH_LEN_AT: usize = WORDS + 11;
 
 // Which words of a copy are lent as a slice: from, and up to.
 struct Bounds {
@@ -63,10 +89,10 @@ fn first_part(operation: u64, w: &[u64]) -> Bounds
     ensures { λ r. ⌜ (r .from ≤ r .to) × (r .to ≤ r .from + 360) × (r .to ≤ 1700) ⌝ }
 {
     match operation {
-        6 => part(w[66], 100, 20),
-        7 => part(w[68], 80, 10),
-        9 | 10 => part(w[70], 1140, 360),
-        _ => part(w[64], 190, 50),
+        6 => part(w[CONDITIONS_LEN_AT], 100, 20),
+        7 => part(w[GIVEN_LEN_AT], 80, 10),
+        9 | 10 => part(w[STORE_SLOTS_LEN_AT], 1140, 360),
+        _ => part(w[HELD_LEN_AT], 190, 50),
     }
 }
 
@@ -76,10 +102,10 @@ fn second_part(operation: u64, w: &[u64]) -> Bounds
     ensures { λ r. ⌜ (r .from ≤ r .to) × (r .to ≤ r .from + 200) × (r .to ≤ 1700) ⌝ }
 {
     match operation {
-        6 => part(w[67], 120, 70),
-        7 => part(w[69], 90, 10),
-        9 | 10 => part(w[71], 1500, 200),
-        _ => part(w[65], 240, 50),
+        6 => part(w[OUTPUTS_LEN_AT], 120, 70),
+        7 => part(w[FOUND_LEN_AT], 90, 10),
+        9 | 10 => part(w[STORE_POSTINGS_LEN_AT], 1500, 200),
+        _ => part(w[CUT_LEN_AT], 240, 50),
     }
 }
 
@@ -96,9 +122,9 @@ fn is_kept(w: &[u64], p: Bounds, lent: &[u64]) -> bool
 fn ledger_kept(w: &[u64], words: &[u64], slots: &[u64], postings: &[u64]) -> bool
     requires { ⌜ length (now w) ≡ 1700 ⌝ }
 {
-    let a = equal(&w[0..62], words);
-    let b = is_kept(w, part(w[62], 290, 540), slots);
-    let c = is_kept(w, part(w[63], 830, 310), postings);
+    let a = equal(&w[0..WORDS], words);
+    let b = is_kept(w, part(w[SLOTS_LEN_AT], 290, 540), slots);
+    let c = is_kept(w, part(w[POSTINGS_LEN_AT], 830, 310), postings);
     a & b & c
 }
 
@@ -161,8 +187,8 @@ fn with_scratch(
 {
     let mut rows = used_rows();
     let mut atoms = used_atoms();
-    let n = kept(&rows, w[72] as usize);
-    let m = kept(&atoms, w[73] as usize);
+    let n = kept(&rows, w[ROW_SCRATCH_LEN_AT] as usize);
+    let m = kept(&atoms, w[ATOM_SCRATCH_LEN_AT] as usize);
     pass(
         operation,
         words,
@@ -230,12 +256,12 @@ fn with_pair(
 fn attempt(operation: u64, w: &[u64]) -> Tried
     requires { ⌜ length (now w) ≡ 1700 ⌝ }
 {
-    let mut words = [0u64; 62];
+    let mut words = [0u64; WORDS];
     let mut slots = [0u64; 540];
     let mut postings = [0u64; 310];
-    copy(&w[0..62], &mut words);
-    let n = lend(w, part(w[62], 290, 540), &mut slots);
-    let m = lend(w, part(w[63], 830, 310), &mut postings);
+    copy(&w[0..WORDS], &mut words);
+    let n = lend(w, part(w[SLOTS_LEN_AT], 290, 540), &mut slots);
+    let m = lend(w, part(w[POSTINGS_LEN_AT], 830, 310), &mut postings);
     with_pair(
         operation,
         w,

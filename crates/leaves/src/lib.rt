@@ -145,7 +145,10 @@ fn put_deduced(d: Deduced, answer: &mut [u64; 4])
         Deduction::Force => {
             *answer = [2, 0, 0, charged];
         }
-        Deduction::Require { required, contradicted } => {
+        Deduction::Require {
+            required,
+            contradicted,
+        } => {
             *answer = [3, required.0 as u64, contradicted.0 as u64, charged];
         }
     }

@@ -11,6 +11,7 @@ pub use model::CandidatesAnswer;
 pub use model::CandidatesResult;
 pub use model::CloseAnswer;
 pub use model::CloseResult;
+pub use model::Contradicted;
 pub use model::DecideAnswer;
 pub use model::DecideResult;
 pub use model::DeduceAnswer;

@@ -6,6 +6,7 @@
 ghost use mathlib.Core.Path.{_≡_};
 ghost use Prim.Native.Nat.{_≤_};
 ghost use lib.ListN.{length};
+use calls::WORDS;
 use std::num::wrapping_add_u64;
 use text::Listed;
 use text::Parsed;
@@ -253,7 +254,7 @@ fn with_pair(
 }
 
 fn call_at(operation: u64, s: &[u8], at: usize, out: &mut [u8], to: usize) -> Ended {
-    let mut words = [0u64; 62];
+    let mut words = [0u64; WORDS];
     let mut slots = slots_buffer();
     let mut postings = postings_buffer();
     let l = read_words(s, at, &mut words);

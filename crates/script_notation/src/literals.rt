@@ -194,6 +194,19 @@ fn put_item(out: &mut [u8], at: usize, points: &[u64], code: u64, later: bool) -
     points::put_atom(out, to, points, code / 2)
 }
 
+// A literal as an item of `plan`, where a number alone is an atom: by its atom's name, or by its atom with `+` or `!`.
+pub fn put_literal(out: &mut [u8], at: usize, points: &[u64], code: u64) -> usize {
+    if code % 2 == 0 {
+        let to = put(out, at, b'!');
+        return points::put_atom(out, to, points, code / 2);
+    }
+    if points::has(points, code / 2) {
+        return points::put_atom(out, at, points, code / 2);
+    }
+    let to = put(out, at, b'+');
+    points::put_atom(out, to, points, code / 2)
+}
+
 // Literals with commas between them, or `-` for none.
 pub fn put_items(out: &mut [u8], at: usize, points: &[u64], codes: &[u64]) -> usize {
     if codes.len() == 0 {

@@ -24,7 +24,7 @@ use script_notation::arguments::read_lists;
 use script_notation::calls::Asked;
 use script_notation::calls::Call;
 use script_notation::calls::Said;
-use script_notation::literals::put_items;
+use script_notation::literals::put_literal;
 use script_notation::memory;
 use script_notation::regions::put_region;
 use text::kept;
@@ -153,17 +153,12 @@ fn put_contradicted(out: &mut [u8], to: usize, answer: &[u64; ANSWER_WORDS]) -> 
 }
 
 // The same as an item.
-fn put_because(
-    out: &mut [u8],
-    to: usize,
-    answer: &[u64; ANSWER_WORDS],
-    points: &[u64],
-) -> usize {
+fn put_because(out: &mut [u8], to: usize, answer: &[u64; ANSWER_WORDS], points: &[u64]) -> usize {
     let to = put_text(out, to, b" because=");
     if answer[1] == 0 {
         return put(out, to, b'-');
     }
-    put_items(out, to, points, &answer[3..4])
+    put_literal(out, to, points, answer[3])
 }
 
 // After the charge of `close` and `plan` the region, and the output that they name.

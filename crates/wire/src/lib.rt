@@ -89,8 +89,8 @@ pub const HEAD_MARK_NUMBER_AT: usize = 23;
 
 pub const HEAD_MARK_BORN_AT: usize = 24;
 
-// An answer as numbers: `refusal` is the number of a refusal, or 0; then `case` and `value` say which answer it is, and `contradicted` is the
-// code of the output that it names, or 0.
+// An answer as numbers: `refusal` is the number of a refusal, or 0; then `case` and `value` say which answer it is, and `contradicted`
+// is the code of the output that it names, or 0.
 pub struct ReplyWords {
     pub refusal: u64,
     pub case: u64,
@@ -373,9 +373,10 @@ fn deduction_reply(d: Deduction) -> ReplyWords
     match d {
         Deduction::Nothing => answered(0, 0),
         Deduction::Force => answered(1, 0),
-        Deduction::Require { required, contradicted } => {
-            named(3, required.0 as u64, contradicted.0 as u64)
-        }
+        Deduction::Require {
+            required,
+            contradicted,
+        } => named(3, required.0 as u64, contradicted.0 as u64),
     }
 }
 

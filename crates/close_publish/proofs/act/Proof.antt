@@ -89,7 +89,8 @@ returns c =
     let t = at-start deduction in
     let a = t .args in
     let d = deduction .deduction in (
-      λ h. act-stopped (a .atoms) (a .position) (beside (ledgerOf h (a .rows) (a .slots .now)) (a .before)) (a .held .now) (a .cut .now) (a .work) _
+      λ h. act-stopped (a .atoms) (a .position) (beside (ledgerOf h (a .rows) (a .slots .now)) (a .before)) (a .held .now) (a .cut .now)
+          (a .work) _
           (part-row (a .atoms) (a .rows) (a .position) (a .slots .now) (a .held .now) (a .cut .now) (a .work) (t .pre .0 .holds) (t .pre .1)
           h)
           (d .result) (d .ensures) (c .if1 .taken),
@@ -114,7 +115,8 @@ returns-2 c =
     let t = at-start deduction in
     let a = t .args in
     let d = deduction .deduction in (
-      λ h. act-nothing (a .atoms) (a .position) (beside (ledgerOf h (a .rows) (a .slots .now)) (a .before)) (a .held .now) (a .cut .now) (a .work) _
+      λ h. act-nothing (a .atoms) (a .position) (beside (ledgerOf h (a .rows) (a .slots .now)) (a .before)) (a .held .now) (a .cut .now)
+          (a .work) _
           (part-row (a .atoms) (a .rows) (a .position) (a .slots .now) (a .held .now) (a .cut .now) (a .work) (t .pre .0 .holds) (t .pre .1)
           h)
           (d .result) (d .ensures) (c .before .before .if1 .left) (c .enum-told .given .1),

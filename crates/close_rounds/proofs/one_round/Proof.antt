@@ -87,13 +87,16 @@ returns c =
     let t = at-start candidates in
     let f = candidates .candidates in
     let a = t .args in (
-      search-stopped (a .header) (a .slots .now) (a .postings .now) (a .held .now) (a .cut .now) (a .noted .now) (a .given) (a .work) (a .before)
+      search-stopped (a .header) (a .slots .now) (a .postings .now) (a .held .now) (a .cut .now) (a .noted .now) (a .given) (a .work)
+          (a .before)
           (t .pre .0) (f .result) (a .places .now) _ (f .ensures .0) (c .match .keys2),
       (
-        search-runs (a .header) (a .slots .now) (a .postings .now) (a .held .now) (a .cut .now) (a .noted .now) (a .given) (a .work) (a .before)
+        search-runs (a .header) (a .slots .now) (a .postings .now) (a .held .now) (a .cut .now) (a .noted .now) (a .given) (a .work)
+            (a .before)
             (t .pre .0) (f .result) (a .places .now) _ (f .ensures .0) _ (f .ensures .1),
         (
-          search-under (a .header) (a .slots .now) (a .postings .now) (a .held .now) (a .cut .now) (a .noted .now) (a .given) (a .work) (a .before)
+          search-under (a .header) (a .slots .now) (a .postings .now) (a .held .now) (a .cut .now) (a .noted .now) (a .given) (a .work)
+              (a .before)
               (t .pre .0) (f .result) (a .places .now) _ (f .ensures .0),
           new-stopped _ _ _ _ _,
         ),
@@ -104,7 +107,8 @@ note-decided-requires : tie.Need-note-decided-requires
 note-decided-requires c κs =
     let t = at-start (at-candidates (c .before .before .before .before)) in
     let a = t .args in
-    search-noted (a .header) (a .slots .now) (a .postings .now) (a .held .now) (a .cut .now) (a .noted .now) (a .given) (a .work) (a .before)
+    search-noted (a .header) (a .slots .now) (a .postings .now) (a .held .now) (a .cut .now) (a .noted .now) (a .given) (a .work)
+    (a .before)
     (t .pre .0) (t .pre .1 .1 .0)
 
 sub-round : tie.Need-sub-round
@@ -122,7 +126,8 @@ part-round-end c =
     candidates .candidates in
     let a = t .args in
     let o = answer .answer .given in
-    let l = search-fits (a .header) (a .slots .now) (a .postings .now) (a .held .now) (a .cut .now) (a .noted .now) (a .given) (a .work) (a .before)
+    let l = search-fits (a .header) (a .slots .now) (a .postings .now) (a .held .now) (a .cut .now) (a .noted .now) (a .given) (a .work)
+    (a .before)
     (t .pre .0) (f .result) (a .places .now) _ (f .ensures .0) (o .0 .0) (o .1) (f .kept .1 .1 .1 .1 .0) in
     search needs
 
@@ -136,7 +141,8 @@ round-requires c κs =
     let a = t .args in
     let o = answer .answer .given in (
       runs-standing (a .header) (a .slots .now) (a .postings .now) (a .held .now) (a .cut .now) (t .pre .0),
-      search-each (a .header) (a .slots .now) (a .postings .now) (a .held .now) (a .cut .now) (a .noted .now) (a .given) (a .work) (a .before)
+      search-each (a .header) (a .slots .now) (a .postings .now) (a .held .now) (a .cut .now) (a .noted .now) (a .given) (a .work)
+          (a .before)
           (t .pre .0)
           (f .result) (a .places .now) _ (f .ensures .0) (o .0 .0) (o .1),
     )
@@ -147,7 +153,8 @@ decided-since-requires c κs =
     let note-decided = at-note-decided round in
     let t = at-start (at-candidates (at-answer note-decided)) in
     let a = t .args in
-    round-noted (a .header) (a .slots .now) (a .postings .now) (a .held .now) (a .cut .now) (a .noted .now) (a .given) (a .work) (a .before) (t .pre .0)
+    round-noted (a .header) (a .slots .now) (a .postings .now) (a .held .now) (a .cut .now) (a .noted .now) (a .given) (a .work)
+    (a .before) (t .pre .0)
     _ _ _ (round .round .ensures .1 .region) (t .pre .1 .1 .0)
     (note-decided .note-decided .ensures)
 
@@ -185,17 +192,21 @@ returns-2 c =
     answer .answer .given in
     let g = round .round in
     let d = c .before .before .before .before .decided-since in
-    let new = since-new (a .header) (a .slots .now) (a .postings .now) (a .held .now) (a .cut .now) (a .noted .now) (a .given) (a .work) (a .before)
+    let new = since-new (a .header) (a .slots .now) (a .postings .now) (a .held .now) (a .cut .now) (a .noted .now) (a .given) (a .work)
+    (a .before)
     (t .pre .0) _ _ _ (g .ensures .1 .region) (t .pre .1 .1 .0)
     (note-decided .note-decided .ensures) _ _ (d .ensures) in (
-      round-turn (a .header) (a .slots .now) (a .postings .now) (a .held .now) (a .cut .now) (a .noted .now) (a .given) (a .work) (a .before)
+      round-turn (a .header) (a .slots .now) (a .postings .now) (a .held .now) (a .cut .now) (a .noted .now) (a .given) (a .work)
+          (a .before)
           (t .pre .0) (f .result) (a .places .now) _ (f .ensures .0) (o .0 .0) (o .1) (g .result) _ _ _ (g .ensures .0),
       (
-        round-runs (a .header) (a .slots .now) (a .postings .now) (a .held .now) (a .cut .now) (a .noted .now) (a .given) (a .work) (a .before)
+        round-runs (a .header) (a .slots .now) (a .postings .now) (a .held .now) (a .cut .now) (a .noted .now) (a .given) (a .work)
+            (a .before)
             (t .pre .0) (f .result) (a .places .now) _ (f .ensures .0) (o .0 .0) (o .1) _ _ _ _ (f .ensures .1) (g .ensures .1)
             (g .kept .1 .1 .0),
         (
-          search-under (a .header) (a .slots .now) (a .postings .now) (a .held .now) (a .cut .now) (a .noted .now) (a .given) (a .work) (a .before)
+          search-under (a .header) (a .slots .now) (a .postings .now) (a .held .now) (a .cut .now) (a .noted .now) (a .given) (a .work)
+              (a .before)
               (t .pre .0) (f .result) (a .places .now) _ (f .ensures .0),
           record { gathered = λ e. new },
         ),

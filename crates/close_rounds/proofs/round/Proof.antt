@@ -84,7 +84,8 @@ loop-again c =
     let l = loop .loop in
     let x = in-loop .loop-test .taken in
     read-on (t .args .atoms) (t .args .rows) (t .args .positions .now) (t .args .slots .now) (t .args .held .now) (t .args .cut .now)
-    (t .args .work) (t .args .before) (l .slots) (l .held) (l .cut) (l .meter) (l .contradicted) (l .i) (l .inv) x (g .result) _ _ _ (g .ensures .0) (g .ensures .1)
+    (t .args .work) (t .args .before) (l .slots) (l .held) (l .cut) (l .meter) (l .contradicted) (l .i) (l .inv) x (g .result) _ _ _
+    (g .ensures .0) (g .ensures .1)
     (c .enum-told .given .1) (g .kept .1 .1 .0) (g .kept .1 .1 .1 .1 .0) (g .kept .1 .1 .1 .1 .1 .0)
 
 same-length : tie.Need-same-length Inv-loop μ-loop
@@ -106,10 +107,12 @@ returns c =
     let l = loop .loop in
     let x = in-loop .loop-test .taken in (
       read-ended (t .args .atoms) (t .args .rows) (t .args .positions .now) (t .args .slots .now) (t .args .held .now) (t .args .cut .now)
-          (t .args .work) (t .args .before) (l .slots) (l .held) (l .cut) (l .meter) (l .contradicted) (l .i) (l .inv) x (g .result) _ _ _ (g .ensures .0) (g .ensures .1)
+          (t .args .work) (t .args .before) (l .slots) (l .held) (l .cut) (l .meter) (l .contradicted) (l .i) (l .inv) x (g .result) _ _ _
+          (g .ensures .0) (g .ensures .1)
           (c .match .keys2),
       read-stands (t .args .atoms) (t .args .rows) (t .args .positions .now) (t .args .slots .now) (t .args .held .now) (t .args .cut .now)
-          (t .args .work) (t .args .before) (l .slots) (l .held) (l .cut) (l .meter) (l .contradicted) (l .i) (l .inv) x (g .result) _ _ _ (g .ensures .0) (g .ensures .1),
+          (t .args .work) (t .args .before) (l .slots) (l .held) (l .cut) (l .meter) (l .contradicted) (l .i) (l .inv) x (g .result) _ _ _
+          (g .ensures .0) (g .ensures .1),
     )
 
 same-length-4 : tie.Need-same-length-4 Inv-loop μ-loop

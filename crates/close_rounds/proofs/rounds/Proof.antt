@@ -9,12 +9,14 @@ use Rattle.close_rounds.proofs.rounds.Statement.{statement}
 use Rattle.close_rounds.proofs.rounds.Tie as tie
 
 abbrev Inv-loop : tie.InvT-loop
-Inv-loop slots₀ postings₀ held₀ cut₀ places₀ noted₀ head₀ meter₀ contradicted₀ given₀ slots postings held cut places noted head meter contradicted given =
+Inv-loop slots₀ postings₀ held₀ cut₀ places₀ noted₀ head₀ meter₀ contradicted₀ given₀ slots postings held cut places noted head meter
+    contradicted given =
     Repeating head₀ slots₀ postings₀ held₀ cut₀ places₀ noted₀ meter₀ contradicted₀ head slots postings held cut places noted meter
     contradicted given
 
 abbrev μ-loop : tie.MeasureT-loop
-μ-loop slots₀ postings₀ held₀ cut₀ places₀ noted₀ head₀ meter₀ contradicted₀ given₀ slots postings held cut places noted head meter contradicted given =
+μ-loop slots₀ postings₀ held₀ cut₀ places₀ noted₀ head₀ meter₀ contradicted₀ given₀ slots postings held cut places noted head meter
+    contradicted given =
     opens (head₀ .limits .atoms) (region held cut)
 
 -- back from each place to the one before it that the proof names
@@ -107,8 +109,9 @@ returns c =
     let g = k .one-round in
     let l = loop .loop in
     let a = at-start loop .args in (
-      repeat-ended (a .header) (a .slots .now) (a .postings .now) (a .held .now) (a .cut .now) (a .places .now) (a .noted .now) (a .work) None
-          (l .head) (l .slots) (l .postings) (l .held) (l .cut) (l .places) (l .noted) (l .meter) (l .contradicted) (l .given) (l .inv) (g .result) _ _ _
+      repeat-ended (a .header) (a .slots .now) (a .postings .now) (a .held .now) (a .cut .now) (a .places .now) (a .noted .now) (a .work)
+          None (l .head) (l .slots) (l .postings) (l .held) (l .cut) (l .places) (l .noted) (l .meter) (l .contradicted) (l .given)
+          (l .inv) (g .result) _ _ _
           (g .ensures .0) (c .match .keys2),
       g .ensures .1 .0,
     )
@@ -150,8 +153,9 @@ returns-2 c =
     let g = k .one-round in
     let l = loop .loop in
     let a = at-start loop .args in (
-      repeat-closed (a .header) (a .slots .now) (a .postings .now) (a .held .now) (a .cut .now) (a .places .now) (a .noted .now) (a .work) None
-          (l .head) (l .slots) (l .postings) (l .held) (l .cut) (l .places) (l .noted) (l .meter) (l .contradicted) (l .given) (l .inv) (g .result) _ _ _
+      repeat-closed (a .header) (a .slots .now) (a .postings .now) (a .held .now) (a .cut .now) (a .places .now) (a .noted .now) (a .work)
+          None (l .head) (l .slots) (l .postings) (l .held) (l .cut) (l .places) (l .noted) (l .meter) (l .contradicted) (l .given)
+          (l .inv) (g .result) _ _ _
           (g .ensures .0) (c .before .before .enum-told .given .1) _ (g .ensures .1 .1 .1) (c .if1 .taken),
       g .ensures .1 .0,
     )
@@ -165,7 +169,8 @@ loop-less c =
     let a = at-start loop .args in
     repeat-less (a .header) (a .slots .now) (a .postings .now) (a .held .now) (a .cut .now) (a .places .now) (a .noted .now) (a .work) None
     (l .head) (l .slots) (l .postings) (l .held) (l .cut) (l .places) (l .noted) (l .meter) (l .contradicted) (l .given) (l .inv)
-    (g .result) _ _ _ (g .ensures .0) (c .before .before .before .before .enum-told .given .1) _ (g .ensures .1 .1 .1) (c .before .before .if1 .left)
+    (g .result) _ _ _ (g .ensures .0) (c .before .before .before .before .enum-told .given .1) _ (g .ensures .1 .1 .1)
+    (c .before .before .if1 .left)
 
 loop-again : tie.Need-loop-again Inv-loop μ-loop
 loop-again c =
@@ -176,7 +181,8 @@ loop-again c =
     let a = at-start loop .args in
     repeat-on (a .header) (a .slots .now) (a .postings .now) (a .held .now) (a .cut .now) (a .places .now) (a .noted .now) (a .work) None
     (l .head) (l .slots) (l .postings) (l .held) (l .cut) (l .places) (l .noted) (l .meter) (l .contradicted) (l .given) (l .inv)
-    (g .result) _ _ _ (g .ensures .0) (c .before .before .before .before .enum-told .given .1) _ (g .ensures .1 .1 .1) (c .before .before .if1 .left) _ _
+    (g .result) _ _ _ (g .ensures .0) (c .before .before .before .before .enum-told .given .1) _ (g .ensures .1 .1 .1)
+    (c .before .before .if1 .left) _ _
     (g .ensures .1 .0) (g .ensures .1 .1 .0)
     (g .kept .1 .0) (g .kept .1 .1 .0) (g .kept .1 .1 .1 .0) (g .kept .1 .1 .1 .1 .0) (g .kept .1 .1 .1 .1 .1 .0)
     (g .kept .1 .1 .1 .1 .1 .1 .0)

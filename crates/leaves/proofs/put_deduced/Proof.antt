@@ -16,8 +16,11 @@ enum-told-2 c = search needs
 enum-known-said : tie.Need-enum-known-said
 enum-known-said c = search needs
 
-cast-t7 : tie.Need-cast-t7
-cast-t7 c = search needs
+cast-t8 : tie.Need-cast-t8
+cast-t8 c = search needs
+
+cast-t9 : tie.Need-cast-t9
+cast-t9 c = search needs
 
 returns-2 : tie.Need-returns-2
 returns-2 c =
@@ -33,11 +36,11 @@ returns-3 c =
 
 returns-4 : tie.Need-returns-4
 returns-4 c =
-    let t = c .before .before .before in
+    let t = c .before .before .before .before in
     let e = t .before .before in
     said-as (e .before .args .d) (e .if1 .left) (t .said .given .1)
 
 pub put-deduced-spec : {M : Type 1} → statement M
 put-deduced-spec =
     tie.close
-    (tie.spec returns enum-told enum-told-2 enum-known-said cast-t7 returns-2 returns-3 returns-4)
+    (tie.spec returns enum-told enum-told-2 enum-known-said cast-t8 cast-t9 returns-2 returns-3 returns-4)

@@ -10,7 +10,7 @@ use lib.ListN.{length}
 use Rattle.words.specs.Region.{Region, isRegion, atomsOk, region}
 use Rattle.words.proofs.Regions.{Sound, sound-of, region-test}
 use Rattle.meter.specs.declared.Meter.{Meter}
-use Rattle.model.specs.declared.CloseAnswer.the-variants.{Stopped, Conflict, Closed}
+use Rattle.model.specs.declared.CloseAnswer.the-variants.{Conflict, Closed}
 use Rattle.model.specs.Records.{Row, rowsOf, limitsOk}
 use Rattle.model.specs.Refusals.{Lent, ledgerIn, refusal, accepts}
 use Rattle.model.specs.Answers.{Reply, refused, answered, named, closeReply}

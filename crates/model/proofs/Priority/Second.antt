@@ -16,7 +16,7 @@ use Rattle.words.proofs.Regions.{Sound, sound-of, has-ext}
 use Rattle.words.proofs.Literals.{atom-even, atom-odd}
 use Rattle.meter.specs.declared.Meter.{Meter}
 use Rattle.model.specs.declared.LearningLimits.{LearningLimits}
-use Rattle.model.specs.declared.CloseAnswer.the-variants.{Stopped, Conflict, Closed}
+use Rattle.model.specs.declared.CloseAnswer.the-variants.{Conflict, Closed}
 use Rattle.model.specs.Records.{Row, rowsOf, limitsOk, slotWords, maxRows}
 use Rattle.model.specs.Slots.{entriesIn}
 use Rattle.model.specs.Refusals.{Lent, ledgerIn, refusal, accepts, contentsOk, countsOk}
