@@ -17,6 +17,7 @@ mod case;
 #[allow(dead_code)]
 #[path = "../differential/leaves/library.rs"]
 mod library;
+mod place;
 #[path = "../random.rs"]
 mod random;
 
