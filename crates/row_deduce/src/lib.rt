@@ -346,15 +346,15 @@ fn concluded(
     match state {
         OutputState::Stopped => ended(Deduction::Nothing, true, before, found.meter),
         OutputState::Clear => ended(Deduction::Nothing, false, before, found.meter),
-        OutputState::Contradicted(output) => ended(
-            Deduction::Require {
-                required: negation(code),
-                contradicted: Literal(output as u16),
-            },
-            false,
-            before,
-            found.meter,
-        ),
+        OutputState::Contradicted(output) => {
+            let required = negation(code);
+            let named = output as u16;
+            let said = Deduction::Require {
+                required,
+                contradicted: Literal(named),
+            };
+            ended(said, false, before, found.meter)
+        }
     }
 }
 

@@ -54,8 +54,8 @@ module _ (c : tie.After-state) where
       (row-under (start .pre .0 .holds .atoms) (rowIn (start .args .slot .now)) (start .pre .0 .holds .stored .row) .1)
       (ap (λ (x : OutputState). outputsRead x (place .outputs .result .meter)) (sym (c .state .given .1)) ∙ place .outputs .ensures)
 
-cast-t14 : tie.Need-cast-t14
-cast-t14 c =
+cast-named : tie.Need-cast-named
+cast-named c =
     let k = c .before .before in
     let most = start k .pre .0 .holds .stored .atoms in
     omega (arith, output-lt k, most)
@@ -103,7 +103,7 @@ concluded-spec =
     ended-requires-2
     enum-known-state
     negation-requires
-    cast-t14
+    cast-named
     ended-requires-3
     returns
     returns-2
