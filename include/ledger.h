@@ -7,7 +7,7 @@
  * that is lent to that call.
  *
  * The result is 0, or the number of a refusal. A refused call writes nothing. The refusals:
- *   1  limits outside their ranges: atoms 1 to 32,768, tier_rows 1 to 4,096, founded_conditions 0 to 16, founded_outputs 0 to 64
+ *   1  limits outside their ranges: atoms 1 to 1,048,576, tier_rows 1 to 4,096, founded_conditions 0 to 16, founded_outputs 0 to 64
  *   2  a slice of another length: slots 168 * tier_rows words, postings 80 * tier_rows words, and the buffers that a call asks for
  *   3  header, slots and postings that are no ledger's
  *   4  conditions and outputs that are no row: more than founded_conditions or founded_outputs of them, a code at 2 * atoms or above,
@@ -133,7 +133,7 @@ uint64_t ledger_next_output(const uint64_t head[LEDGER_HEAD_WORDS], uint64_t ans
  * Decide. Lent: a region over `atoms` atoms; an atom, to be cut if `value` is 0 and else held.
  * Back: `answer` is 1, and the atom is marked (it may have been so already); or 0, and nothing is changed: the atom is not below `atoms`,
  * or the opposite is marked.
- * Refused: 6, also for `atoms` outside 1 to 32,768.
+ * Refused: 6, also for `atoms` outside 1 to 1,048,576.
  */
 uint64_t ledger_decide(uint64_t answer[LEDGER_ANSWER_WORDS], uint64_t atoms, uint64_t *held, size_t held_len, uint64_t *cut, size_t cut_len,
                        uint64_t atom, uint64_t value);

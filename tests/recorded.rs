@@ -5,6 +5,8 @@
 pub mod call;
 #[path = "differential/ledger/end.rs"]
 pub mod end;
+#[path = "differential/far.rs"]
+pub mod far;
 #[path = "differential/ledger/generate.rs"]
 pub mod generate;
 #[path = "layout.rs"]

@@ -6,6 +6,7 @@
 #include <string.h>
 
 enum { ROWS = 2, SLOTS = ROWS * LEDGER_SLOT_WORDS, POSTINGS = ROWS * LEDGER_POSTING_WORDS };
+enum { MOST_ATOMS = 1048576, MOST_WORDS = MOST_ATOMS / 64 };
 
 /* All that is ever lent, with a word between that no call may touch. */
 struct lent {
@@ -140,7 +141,7 @@ static void made(void)
     same("make", 0, make(&l, SLOTS, POSTINGS), &l, &k);
     same("make, slots short", 2, make(&l, SLOTS - 1, POSTINGS), &l, &k);
     same("make, postings short", 2, make(&l, SLOTS, POSTINGS - 1), &l, &k);
-    const uint64_t outside[] = {32769, 4097, 17, 65};
+    const uint64_t outside[] = {MOST_ATOMS + 1, 4097, 17, 65};
     for (size_t n = 0; n < 4; n++) {
         uint64_t old = l.limits[n];
         l.limits[n] = k.limits[n] = outside[n];
@@ -293,6 +294,41 @@ static void offers(void)
     same("offer, shut", 0, offer(&l, 9, 140), &l, &k);
     l.head[LEDGER_ATTEMPTS] = k.head[LEDGER_ATTEMPTS] = 257;
     same("offer, attempts", 3, offer(&l, 9, 140), &l, &k);
+}
+
+/* A region over the most atoms, and scratch for it. */
+static uint64_t all_held[MOST_WORDS + 1], all_cut[MOST_WORDS + 1], all_atoms[MOST_ATOMS];
+
+static uint64_t decide_last(struct lent *l, uint64_t atoms, size_t words)
+{
+    return ledger_decide(l->answer, atoms, all_held, words, all_cut, words, MOST_ATOMS - 1, 0);
+}
+
+/* Over the most atoms: a row that holds the last one, which a closing marks; codes that are too large. Over one more there is no region. */
+static void most_atoms(void)
+{
+    struct lent l = two_rows(), k;
+    const uint64_t last = 2 * MOST_ATOMS - 1, row[] = {1, 1, 0, 0, 0, 0, 1, 0, 7, last};
+    l.limits[LEDGER_ATOMS] = MOST_ATOMS;
+    make(&l, SLOTS, POSTINGS);
+    k = l;
+    offered(&k, LEDGER_ADDED, 2);
+    k.head[LEDGER_ROWS] = k.head[LEDGER_BORN] = k.head[LEDGER_EPOCH] = 1;
+    memcpy(k.slots, row, sizeof row);
+    same("offer, the last atom", 0, offer(&l, 7, last), &l, &k);
+    same("offer, no atom any more", 4, offer(&l, 9, last + 1), &l, &k);
+    same("offer, a code and 2^32", 4, offer(&l, (UINT64_C(1) << 32) + 9, last), &l, &k);
+    all_held[0] = 8;
+    answer(&k, LEDGER_CLOSED, 0, 6); /* two rounds: 2 to deduce the row, 1 for its output */
+    k.head[LEDGER_FULL] = 0;
+    k.slots[4] = k.slots[5] = 1;
+    memset(k.found, 0, sizeof k.found);
+    uint64_t result = ledger_close(l.head, l.answer, l.meter, l.slots, SLOTS, l.postings, POSTINGS, all_held, MOST_WORDS, all_cut, MOST_WORDS, l.found,
+                                   ROWS, all_atoms, MOST_ATOMS);
+    same("close, the last atom", all_held[MOST_WORDS - 1] == UINT64_C(1) << 63 ? 0 : 99, result, &l, &k);
+    answer(&k, LEDGER_FALSE, 0, 0);
+    same("decide, the last atom", 0, decide_last(&l, MOST_ATOMS, MOST_WORDS), &l, &k);
+    same("decide, too many atoms", 6, decide_last(&l, MOST_ATOMS + 1, MOST_WORDS + 1), &l, &k);
 }
 
 static void searches(void)
@@ -476,6 +512,7 @@ int main(void)
     outputs();
     decisions();
     offers();
+    most_atoms();
     searches();
     closings();
     requires();

@@ -16,6 +16,7 @@ import sys
 
 WORD = 2**64 - 1
 SLOT, POST = 168, 80
+MOST_ATOMS = 1048576
 
 # the header of the ledger, which is the tier in seed and deliver; behind it that of the store
 (ATOMS, TIER, CONDITIONS_MOST, OUTPUTS_MOST, FLOOR, ATTEMPTS_MOST, WORK, SHARE_WORK, SHARE_CONDITIONS, SHARE_HITS, NUMBER, ROWS, BORN,
@@ -92,7 +93,7 @@ def codes_of(words):
     out, last = [], -1
     for i in range(0, len(words), 3):
         word, present, absent = words[i:i + 3]
-        if word <= last or word > 511 or present | absent == 0:
+        if word <= last or word >= MOST_ATOMS // 64 or present | absent == 0:
             return None
         last = word
         for bit in range(64):
@@ -134,7 +135,7 @@ def store_of(w):
 
 
 def limits_ok(head):
-    return 1 <= head[ATOMS] <= 32768 and 1 <= head[TIER] <= 4096 and head[CONDITIONS_MOST] <= 16 and head[OUTPUTS_MOST] <= 64
+    return 1 <= head[ATOMS] <= MOST_ATOMS and 1 <= head[TIER] <= 4096 and head[CONDITIONS_MOST] <= 16 and head[OUTPUTS_MOST] <= 64
 
 
 def rows_in(head, slots):
@@ -177,7 +178,7 @@ def offer_ok(w):
 
 
 def region_ok(atoms, w):
-    if not 1 <= atoms <= 32768:
+    if not 1 <= atoms <= MOST_ATOMS:
         return False
     words = (atoms + 63) // 64
     if w[HELD_LEN] != words or w[CUT_LEN] != words:
@@ -244,14 +245,16 @@ def put_part(w, at, words):
 
 
 def ledger(atoms, tier, rows, stale, position, held, cut, cursor, atom, given, offered, store):
-    """A ledger with all that a call is lent; store: its rows that may be, its rows, and whether it is stale."""
+    """A ledger with all that a call is lent; store: its rows that may be, its rows, and whether it is stale. Over more atoms than there is
+    room for in a region and in scratch neither has a word."""
     w = [0] * SIZE
     put_ledger(w, (0, SLOTS, POSTINGS), atoms, tier, 7, rows, stale)
     put_ledger(w, (STORE, STORE_SLOTS, STORE_POSTINGS), atoms, store[0], 3, store[1], store[2])
     w[ANSWER:METER], w[METER:CURSOR], w[CURSOR:POSITION] = [11] * (METER - ANSWER), [3, 100], cursor
     w[POSITION], w[ATOM], w[VALUE] = position, atom, 1
-    w[ROW_SCRATCH_LEN], w[ATOM_SCRATCH_LEN] = tier, atoms
-    words = (atoms + 63) // 64
+    far = atoms > SCRATCH_ROOM[ATOM_SCRATCH_LEN]
+    w[ROW_SCRATCH_LEN], w[ATOM_SCRATCH_LEN] = tier, 0 if far else atoms
+    words = 0 if far else (atoms + 63) // 64
     put_part(w, HELD, [0] * words)
     put_part(w, CUT, [0] * words)
     put_part(w, GIVEN, given)
@@ -273,7 +276,19 @@ LONG_SCALAR = ([128 * i + 1 for i in range(16)],
 LONG_PACKED = ([128 * i + 4 for i in range(16)],
                [128 * i + 2 * j for i in range(27) for j in range(2)] + [128 * i + 7 for i in range(27, 37)], WORD, WORD, 5, 1)
 assert packed(*PACKED[:2]) and not packed(*SCALAR[:2]) and not packed(*LONG_SCALAR[:2]) and packed(*LONG_PACKED[:2])
+# rows of many atoms: a code and the one 65,536 above it, and the last atom; groups on both sides of 32,768 atoms, and the last
+FAR_SCALAR = ([7, 65543], [140, 65676, 2 * MOST_ATOMS - 1], 3, 1, 2, 0)
+FAR_PACKED = ([65531, 65535, 65537], [2 * MOST_ATOMS - 128 + i for i in (0, 1, 5, 126, 127)], 0, 0, 5, 1)
+# the same around 32,768 alone, of which the last atom is 32,768 itself
+HALF_SCALAR = ([7, 65535], [65534, 65537], 3, 1, 2, 0)
+HALF_PACKED = ([65531, 65533, 65537], [65529, 65535, 65536, 65537], 0, 0, 5, 1)
+assert not packed(*FAR_SCALAR[:2]) and packed(*FAR_PACKED[:2]) and not packed(*HALF_SCALAR[:2]) and packed(*HALF_PACKED[:2])
 NONE = [0, 0, 0, 0]
+FAR_LEDGERS = [
+    ledger(MOST_ATOMS, 2, [FAR_SCALAR, FAR_PACKED], False, 1, [], [], NONE, 0, [32768, MOST_ATOMS - 1],
+           ([2 * MOST_ATOMS - 2], [65543, 2 * MOST_ATOMS - 1]), (1, [FAR_PACKED], False)),
+    ledger(32769, 2, [HALF_PACKED, HALF_SCALAR], False, 0, [], [], NONE, 0, [32768], ([65537], [65536, 65537]), (2, [HALF_SCALAR], False)),
+]
 LEDGERS = [
     ledger(130, 2, [SCALAR, PACKED], False, 1, [0, 129], [70], [2, 1, 0, 1 << 6], 5, [3, 70, 3, 500], ([3, 258], [4, 5, 140]),
            (2, [PACKED, SCALAR], False)),
@@ -291,7 +306,7 @@ def values(i, v):
     if v != 0:
         tries += [0, 2, v + 1, v - 1, v * 2, v ^ 1 << 63, v ^ 1 << 5, v + 4096, 64, 130]
     if i < NUMBER or STORE <= i < STORE + NUMBER:
-        tries += [0, 16, 17, 64, 65, 4096, 4097, 32768, 32769]
+        tries += [0, 16, 17, 64, 65, 4096, 4097, 32768, 32769, MOST_ATOMS, MOST_ATOMS + 1]
     return sorted({x & WORD for x in tries} - {v})
 
 
@@ -418,7 +433,7 @@ def offered(w):
 def faults(w):
     """On the first ledger: one fault for every refusal, and for every lent thing that it is about."""
     return [
-        [(ATOMS, 0)], [(ATOMS, 32769)], [(TIER, 0)], [(OUTPUTS_MOST, 65)], [(SLOTS_LEN, 335)], [(SLOTS_LEN, 0)], [(POSTINGS_LEN, 161)],
+        [(ATOMS, 0)], [(ATOMS, MOST_ATOMS + 1)], [(TIER, 0)], [(OUTPUTS_MOST, 65)], [(SLOTS_LEN, 335)], [(SLOTS_LEN, 0)], [(POSTINGS_LEN, 161)],
         [(FOUND_LEN, 1)], [(FOUND_LEN, 3)], [(ROW_SCRATCH_LEN, 1)], [(ROW_SCRATCH_LEN, 3)], [(ATOM_SCRATCH_LEN, 129)],
         [(ATOM_SCRATCH_LEN, 131)], [(SLOTS + 7, 2)], [(POSTINGS, 0)], [(EPOCH, 2)], [(ROWS, 3)], [(CONDITIONS, 259)], [(OUTPUTS_LEN, 70)],
         [(POSITION, 2)], [(POSITION, WORD)], [(HELD_LEN, 2)], [(CUT + 2, 2)], [(CURSOR, 3)], [(CURSOR + 2, 1)], [(STORE + ATOMS, 0)],
@@ -436,6 +451,28 @@ def pairs(w):
                 yield one + other
 
 
+def moved(w, at):
+    """Words of this slice that are not 0, each another: also one with the same low 16 bits, and one with the same low 32."""
+    for i in range(at, at + w[ROOM[at][0]]):
+        if w[i] != 0:
+            for v in values(i, w[i]) + [w[i] + 65536 & WORD, w[i] + 2**32 & WORD]:
+                yield [(i, v)]
+
+
+def far(w):
+    """On a ledger of many atoms: other numbers of atoms, codes that are none and codes that are fit, other words of slots and postings."""
+    yield []
+    for atoms in (0, 128, 32768, 32769, 65536, MOST_ATOMS - 1, MOST_ATOMS, MOST_ATOMS + 1, WORD):
+        for head in (0, STORE):
+            yield [(head + ATOMS, atoms)]
+        yield [(ATOMS, atoms), (STORE + ATOMS, atoms)]
+    for code in (7, 65534, 65535, 65536, 65537, 65538, 65543, 2 * MOST_ATOMS - 1, 2 * MOST_ATOMS, 2**32 + 7, 2**32 + 65537, WORD):
+        yield [(CONDITIONS, code)]
+        yield [(OUTPUTS + 1, code)]
+    for at in (CONDITIONS, OUTPUTS, SLOTS, POSTINGS, STORE_SLOTS, STORE_POSTINGS):
+        yield from moved(w, at)
+
+
 def changed(w, changes):
     out = list(w)
     for i, v in changes:
@@ -444,6 +481,8 @@ def changed(w, changes):
 
 
 def copies(number, w):
+    if number >= len(LEDGERS):
+        return list(far(w))
     if number != 0:
         # the store's slices are as the ledger's: their words are changed on the first ledger alone
         return [[]] + list(single(w, [at for at in ROOM if at < STORE_SLOTS]))
@@ -452,8 +491,10 @@ def copies(number, w):
 
 def write():
     lines, answers = [], []
-    for number, w in enumerate(LEDGERS):
-        assert len(w) == SIZE and expected(w)[:2] == [0, 0] and expected(w)[6:] == [0] * 6
+    for number, w in enumerate(LEDGERS + FAR_LEDGERS):
+        is_far = number >= len(LEDGERS)
+        assert len(w) == SIZE and expected(w)[:2] == [0, 0] and expected(w)[6:] == [0, 0, 2 if is_far else 0, 0, 0, 0]
+        assert not is_far or expected(w)[2:6] == [0, 6, 6, 6]
         lines.append(' '.join(map(str, w)))
         for changes in copies(number, w):
             copy = changed(w, changes)

@@ -2,8 +2,8 @@
 
 use crate::random::Random;
 
-/// The atoms that such a row lies among: 64 words, or eight times as many.
-pub const ATOMS: [u64; 3] = [4_096, 4_097, 32_768];
+/// The atoms that such a row lies among: 64 words, eight times as many, and more than there are codes of 16 bits.
+pub const ATOMS: [u64; 5] = [4_096, 4_097, 32_768, 65_537, 200_001];
 
 /// A row, by its codes.
 pub struct Wide {

@@ -60,7 +60,8 @@ bool margins_kept(const struct call *c);
 void take_back(struct call *c);
 
 /* ---- The test's own reading of document 01. */
-enum { MOST_CONDITIONS = 16, MOST_OUTPUTS = 64, MOST_ROWS = 4096, MOST_ATOMS = 32768, MOST_GROUPS = 53 };
+enum { MOST_CONDITIONS = 16, MOST_OUTPUTS = 64, MOST_ROWS = 4096, MOST_ATOMS = 1048576, MOST_GROUPS = 53 };
+enum { HALF = 32768, SPAN = 65536 }; /* the first atom, and the first code, beyond 16 bits: there numbers cut to their low bits would be others */
 struct row {
     size_t conditions, outputs;
     uint64_t condition[MOST_CONDITIONS], output[MOST_OUTPUTS];

@@ -46,7 +46,7 @@ static size_t in_order(uint64_t *codes, size_t length, uint64_t unit)
 /* More codes of atoms that are near each other; true to the length that is wanted only before equal ones are dropped. */
 static size_t more_codes(uint64_t *codes, size_t length, size_t wanted, uint64_t atoms)
 {
-    uint64_t base = below(atoms), span = PICK(2, 4, 40, 200, atoms);
+    uint64_t base = atoms > HALF && chance(1, 3) ? HALF - below(20) : below(atoms), span = PICK(2, 4, 40, 200, atoms);
     while (length < wanted)
         codes[length++] = 2 * ((base + below(span)) % atoms) + below(2);
     return length;
@@ -83,9 +83,20 @@ static void near_row(struct row *row, const struct ledger *l, uint64_t condition
 }
 
 /* ---- Ledgers */
+
+/* Few atoms mostly; else at both sides of the bounds of 16 bits or any; and seldom the most, for which a closing is lent 8 MiB. */
+static uint64_t random_width(void)
+{
+    if (chance(1, 100))
+        return PICK(MOST_ATOMS - 1, MOST_ATOMS, MOST_ATOMS, 1 + below(MOST_ATOMS));
+    if (chance(1, 4))
+        return PICK(HALF - 1, HALF, HALF + 1, SPAN - 1, SPAN, SPAN + 1, 200000, HALF + below(4 * SPAN));
+    return PICK(1, 2, 4, 4, 63, 64, 65, 128, 128, 128, 200, 4096);
+}
+
 static void random_limits(uint64_t *limits, uint64_t tier_rows)
 {
-    limits[LEDGER_ATOMS] = PICK(1, 2, 4, 4, 63, 64, 65, 128, 128, 128, 200, 4096, MOST_ATOMS - 1, MOST_ATOMS);
+    limits[LEDGER_ATOMS] = random_width();
     limits[LEDGER_TIER_ROWS] = tier_rows;
     limits[LEDGER_FOUNDED_CONDITIONS] = PICK(0, 1, 2, 16, 16, 16, 16);
     limits[LEDGER_FOUNDED_OUTPUTS] = PICK(0, 1, 2, 3, 64, 64, 64, 64);
@@ -269,6 +280,8 @@ static void give_others(struct call *c, const struct ledger *l)
     near_row(&offered, l, head[LEDGER_FOUNDED_CONDITIONS], head[LEDGER_FOUNDED_OUTPUTS]);
     if (chance(1, 2))
         random_row(&offered, head[LEDGER_ATOMS], head[LEDGER_FOUNDED_CONDITIONS], head[LEDGER_FOUNDED_OUTPUTS]);
+    if (offered.outputs > 0 && chance(1, 30)) /* mostly no row any more, but one in its low bits */
+        offered.output[offered.outputs - 1] += PICK(SPAN, UINT64_C(1) << 32);
     copy_codes(&c->given[CONDITIONS], offered.condition, offered.conditions);
     copy_codes(&c->given[OUTPUTS], offered.output, offered.outputs);
     random_atoms(c, head[LEDGER_ATOMS], &row);
@@ -280,9 +293,19 @@ static void give_make(struct call *c)
 {
     words_resize(&c->given[LIMITS], LEDGER_LIMIT_WORDS);
     random_limits(c->given[LIMITS].at, random_tier());
+    if (chance(1, 20))
+        c->given[LIMITS].at[LEDGER_ATOMS] = PICK(MOST_ATOMS, MOST_ATOMS + 1, MOST_ATOMS + 1 + below(MOST_ATOMS));
     any_words(&c->given[HEAD], LEDGER_HEAD_WORDS);
     any_words(&c->given[SLOTS], LEDGER_SLOT_WORDS * c->given[LIMITS].at[LEDGER_TIER_ROWS]);
     any_words(&c->given[POSTINGS], LEDGER_POSTING_WORDS * c->given[LIMITS].at[LEDGER_TIER_ROWS]);
+}
+
+/* Decide is lent words for one atom more than there may be. */
+static void give_beyond(struct call *c)
+{
+    const struct row none = {0};
+    random_region(c, MOST_ATOMS + 1, &none);
+    c->region_atoms = MOST_ATOMS + 1;
 }
 
 /* ---- Damage */
@@ -302,7 +325,7 @@ static size_t somewhere(const struct call *c, int b)
 static size_t other_length(size_t length)
 {
     uint64_t other = PICK(0, 1, length - 1, length + 1, length + 1, 2 * length, length / 2, length + LEDGER_SLOT_WORDS, below(3000));
-    return other > (uint64_t)MOST_ROWS * LEDGER_SLOT_WORDS + 1 ? 0 : other;
+    return other > MOST_ATOMS + 1 ? 0 : other;
 }
 
 /* A stretch of words is copied over another. */
@@ -318,7 +341,7 @@ static void overlay(struct words *w)
 static void damage_word(struct call *c, int b)
 {
     uint64_t *word = &c->given[b].at[somewhere(c, b)], *other = &c->given[b].at[somewhere(c, b)], old = *word;
-    switch (below(5)) {
+    switch (below(6)) {
     case 0: *word = edge(); break;
     case 1: *word ^= UINT64_C(1) << below(64); break;
     case 2: *word += PICK(1, UINT64_MAX); break;
@@ -326,6 +349,7 @@ static void damage_word(struct call *c, int b)
         *word = *other;
         *other = old;
         break;
+    case 4: *word += PICK(SPAN, UINT64_C(1) << 32); break;
     default: *word = PICK(0, random_word()); break;
     }
 }
@@ -419,6 +443,8 @@ void give(struct call *c)
     words_resize(&c->given[LIMITS], LEDGER_LIMIT_WORDS);
     if (c->operation == MAKE)
         give_make(c);
+    if (c->operation == DECIDE && chance(1, 100))
+        give_beyond(c);
     if (chance(1, 40))
         give_noise(c);
     for (uint64_t n = PICK(0, 0, 0, 0, 1, 1, 1, 2); n > 0; n--)

@@ -10,8 +10,8 @@
 #include <unistd.h>
 
 static const uint64_t margin = 0xa5c3a5c3a5c3a5c3;
-/* The largest that is ever lent: the slots of a whole tier, and some words over. */
-static const size_t most = (size_t)(MOST_ROWS + 8) * LEDGER_SLOT_WORDS * sizeof(uint64_t);
+/* The largest that is ever lent: scratch for the most atoms, which is more than the slots of a whole tier, and some words over. */
+static const size_t most = (size_t)(MOST_ATOMS + 8 * LEDGER_SLOT_WORDS) * sizeof(uint64_t);
 
 static bool fences;
 static size_t page, inner;

@@ -5,6 +5,7 @@
 //! Nothing here is taken from the verified code. Ledgers and answers are the oracle's, laid out as words by tests/layout.rs. What the
 //! oracle cannot tell is said where it is worked out: ledgers of few rows that are not stale (`given`).
 
+mod distant;
 mod given;
 mod lines;
 #[path = "../recorded.rs"]
@@ -16,13 +17,14 @@ mod searches;
 mod sweeps;
 
 use lines::Lines;
-use recorded::{call, end, generate, layout, parts, random, rust};
+use recorded::{call, end, far, generate, layout, parts, random, rust};
 
 fn main() {
     let mut lines = Lines::default();
     sweeps::write(&mut lines);
     searches::write(&mut lines);
     saturation::write(&mut lines);
+    distant::write(&mut lines);
     scripts::write(&mut lines);
     match std::env::args().nth(1).as_deref() {
         Some("stdin") => print!("{}", lines.calls),

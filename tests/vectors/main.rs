@@ -8,13 +8,14 @@ mod closings;
 #[allow(dead_code)]
 mod recorded;
 mod stops;
+mod tunnel;
 
 use std::fmt::Display;
 
 use call::{Call, Meter, PLACES};
 use generate::{Author, Kind, Ledgers};
 use random::Random;
-use recorded::{call, end, generate, layout, parts, random, rust};
+use recorded::{call, end, far, generate, layout, parts, random, rust};
 
 /// The bench cards, as tests/oracle/check runs them.
 const CARDS: &str = include_str!("../oracle/cards.script");
@@ -100,6 +101,7 @@ fn main() {
     writer.line("reset");
     stops::write(&mut writer);
     closings::write(&mut writer);
+    tunnel::write(&mut writer);
     for number in 1..=parts {
         // Two parts have rows enough for postings.
         let kind = if number % (parts / 2).max(1) == 0 {

@@ -93,7 +93,7 @@ impl Ledger {
         Ok(Ledger::with_buffers(header, slots, postings))
     }
 
-    /// Of accepted words: there are at most 4,096 rows and 32,768 atoms.
+    /// Of accepted words: there are at most 4,096 rows and 1,048,576 atoms.
     fn with_buffers(header: Header, slots: Vec<u64>, postings: Vec<u64>) -> Ledger {
         let limits = LearningLimits::of(&header);
         Ledger {

@@ -2,10 +2,13 @@
 
 use crate::boundary::{Header, Limits};
 
+/// The most atoms.
+pub(crate) const MOST_ATOMS: u64 = 1_048_576;
+
 /// The limits that a ledger is made with.
 #[derive(Clone, Copy, Debug, PartialEq, Eq)]
 pub struct LearningLimits {
-    /// How many atoms there are: 1 to 32,768.
+    /// How many atoms there are: 1 to 1,048,576.
     pub atoms: u64,
     /// How many rows there is room for: 1 to 4,096.
     pub tier_rows: u64,
@@ -28,9 +31,9 @@ pub struct LearningLimits {
 }
 
 impl LearningLimits {
-    /// The limits of a tier over 32,768 atoms, the most.
+    /// The limits of a tier over 1,048,576 atoms, the most.
     pub const DEFAULT: LearningLimits = LearningLimits {
-        atoms: 32_768,
+        atoms: MOST_ATOMS,
         tier_rows: 64,
         founded_conditions: 16,
         founded_outputs: 64,

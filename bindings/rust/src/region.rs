@@ -2,6 +2,7 @@
 
 use crate::answers::{Refusal, answered};
 use crate::boundary::{call, ledger_decide};
+use crate::limits::MOST_ATOMS;
 use std::ops::Not;
 
 /// An atom with a sign: held, or cut. It is one word, the code 2 × atom, plus 1 for held.
@@ -65,9 +66,9 @@ pub struct Region {
 }
 
 impl Region {
-    /// Nothing decided. Refused by 6 for `atoms` outside 1 to 32,768.
+    /// Nothing decided. Refused by 6 for `atoms` outside 1 to 1,048,576.
     pub fn new(atoms: u64) -> Result<Region, Refusal> {
-        let words = if atoms <= 32_768 {
+        let words = if atoms <= MOST_ATOMS {
             atoms.div_ceil(64) as usize
         } else {
             0

@@ -68,7 +68,7 @@ fn limits_are_those_of_document_01() {
     assert_eq!(
         LearningLimits::DEFAULT,
         LearningLimits {
-            atoms: 32_768,
+            atoms: 1_048_576,
             tier_rows: 64,
             founded_conditions: 16,
             founded_outputs: 64,
@@ -132,7 +132,7 @@ fn a_ledger_is_made_empty_or_refused() {
     for rows in [0, 4097, u64::MAX] {
         assert_eq!(Ledger::make(&limits(rows), 9).err(), Some(Refusal(1)));
     }
-    for atoms in [0, 32_769, u64::MAX] {
+    for atoms in [0, 1_048_577, u64::MAX] {
         assert_eq!(
             Ledger::make(&LearningLimits::tier(atoms), 9).err(),
             Some(Refusal(1))
@@ -482,6 +482,44 @@ fn refused_unchanged(ledger: &mut Ledger, atoms: u64) {
     assert!(plan == lent && same_words(ledger, &before));
 }
 
+/// A tunnel line has 200,000 points: a code and the same in its low bits are two.
+#[test]
+fn codes_have_32_bits() {
+    let mut ledger = Ledger::make(&LearningLimits::tier(200_000), 9).unwrap();
+    let mut meter = Meter::new(1000);
+    let (near, far, last) = (
+        Literal::held(3),
+        Literal::held(32_771),
+        Literal::cut(199_999),
+    );
+    assert_eq!(far.code(), near.code() + 65_536);
+    assert_eq!(
+        ledger.offer(&mut meter, &[far], &[last]),
+        charged(Offer::Added(0), 2)
+    );
+    let offered = ledger.offer(&mut meter, &[near], &[Literal::held(65_536)]);
+    assert_eq!(offered.unwrap().answer, Offer::Added(1));
+    for code in [400_000, (1 << 32) + 7] {
+        assert_eq!(
+            ledger.offer(&mut meter, &codes([code]), &[last]),
+            Err(Refusal(4))
+        );
+    }
+    let mut plan = Region::new(200_000).unwrap();
+    assert!(plan.decide(far));
+    assert_eq!(
+        ledger.deduce(&mut meter, 0, &plan),
+        charged(Deduction::Force, 2)
+    );
+    assert_eq!(
+        ledger.close(&mut meter, &mut plan).unwrap().answer.end,
+        Closing::Closed
+    );
+    assert!(plan.literals().eq([far, last]));
+    let mut small = Ledger::make(&LearningLimits::tier(32_768), 9).unwrap();
+    assert_eq!(small.offer(&mut meter, &[far], &[]), Err(Refusal(4)));
+}
+
 #[test]
 fn a_tier_is_seeded_from_a_store() {
     let mut store = two_rows(4);
@@ -577,7 +615,7 @@ fn a_region_is_decided_or_refused() {
             && !plan.contains(Literal::cut(66))
             && !plan.contains(Literal::held(u64::MAX))
     );
-    for atoms in [0, 32_769, u64::MAX] {
+    for atoms in [0, 1_048_577, u64::MAX] {
         assert_eq!(Region::new(atoms), Err(Refusal(6)));
     }
     assert_eq!(

@@ -9,6 +9,7 @@ use lib.Dec.{T}
 use lib.ListN.{length, take, drop}
 use Rattle.lists.specs.Lists.{adjust}
 use Rattle.lists.proofs.Selects.{length-adjust, map-adjust}
+use Rattle.words.specs.Literal.{codeBits}
 use Rattle.words.specs.Region.{region, isRegion}
 use Rattle.model.specs.declared.Header.{Header}
 use Rattle.model.specs.Records.{Row, Entry, isRow, rowsOf, rowAt, hitEntry, slotWords}
@@ -59,7 +60,7 @@ module _ {n : ℕ} (rows p : ℕ) (ws : List ℕ) (k : Held n rows ws) (l : p < 
   pub hit-holds : Held n rows (hitWords p ws)
   hit-holds =
       subst (Held n rows) (sym (hit-held rows p ws k l))
-      (held-laid n (tierOf ws) hits hits-rows hits-few rows hits-count (k .over .atoms) (k .most))
+      (held-laid n (tierOf ws) hits hits-rows hits-few rows hits-count codeBits (k .over .atoms) (k .most))
 
   pub hit-rows : rowsIn rows (hitWords p ws) ≡ rowsIn rows ws
   unfolding rowsIn

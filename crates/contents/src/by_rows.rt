@@ -6,7 +6,7 @@ ghost use Prim.Native.Nat.{ℕ, _*_, _≤_, _<_};
 ghost use lib.ListN.{length, drop};
 ghost use Rattle.lists.specs.Lists.{same, sortOf, distinct};
 ghost use Rattle.lists.specs.Counts.{is, times, Each, Sorted};
-ghost use Rattle.words.specs.Region.{maxAtoms, maxWords};
+ghost use Rattle.words.specs.Literal.{codeBits, atomsWide, codesWide, wordsWide};
 ghost use Rattle.model.specs.Records.{maxRows};
 ghost use Rattle.model.specs.Slots.{rowIn, ungroup};
 ghost use Rattle.model.specs.Postings.{postingsOf};
@@ -89,7 +89,7 @@ fn note_places(words: &[u64], places: &mut [u32]) -> bool
 
 // Whether the posting of an atom at a position stands at the atom's place, which then moves past it.
 fn finds(words: &[u64], places: &mut [u32], atom: u64, position: u64) -> bool
-    requires { ⌜ length (now words) ≤ 4294967295 ⌝ ∗ ⌜ length (now places) ≡ maxRows ⌝ ∗ ⌜ position < maxRows ⌝ ∗ ⌜ atom < maxAtoms ⌝ }
+    requires { ⌜ length (now words) ≤ 4294967295 ⌝ ∗ ⌜ length (now places) ≡ maxRows ⌝ ∗ ⌜ position < maxRows ⌝ ∗ ⌜ atom < atomsWide codeBits ⌝ }
     ensures { λ r. ⌜ (r ≡ true → Grown (now (words .entry)) (now (places .entry)) (now (places .exit)) position (λ a. is a atom)) ⌝ }
 {
     let at = (atom % MAX_ROWS) as usize;
@@ -106,7 +106,7 @@ fn finds(words: &[u64], places: &mut [u32], atom: u64, position: u64) -> bool
 
 // Finds the posting so, unless its atom was found last: both signs of an output have one posting. The number found, or NOT_FOUND.
 fn find_new(words: &[u64], places: &mut [u32], last: u64, atom: u64, position: u64) -> usize
-    requires { ⌜ length (now words) ≤ 4294967295 ⌝ ∗ ⌜ length (now places) ≡ maxRows ⌝ ∗ ⌜ position < maxRows ⌝ ∗ ⌜ atom < maxAtoms ⌝ }
+    requires { ⌜ length (now words) ≤ 4294967295 ⌝ ∗ ⌜ length (now places) ≡ maxRows ⌝ ∗ ⌜ position < maxRows ⌝ ∗ ⌜ atom < atomsWide codeBits ⌝ }
     ensures { λ r. ⌜ ((r ≡ notFound → ⊥)
         → (r ≡ newCount last atom) × Grown (now (words .entry)) (now (places .entry)) (now (places .exit)) position (newAtom last atom)) ⌝ }
 {
@@ -122,7 +122,7 @@ fn find_new(words: &[u64], places: &mut [u32], last: u64, atom: u64, position: u
 // The same for the atoms of codes.
 fn find_codes(words: &[u64], places: &mut [u32], codes: &[u64], position: u64) -> usize
     requires { ⌜ length (now words) ≤ 4294967295 ⌝ ∗ ⌜ length (now places) ≡ maxRows ⌝ ∗ ⌜ position < maxRows ⌝
-        ∗ ⌜ Each (λ v. v < 2 * maxAtoms) (now codes) ⌝ }
+        ∗ ⌜ Each (λ v. v < codesWide codeBits) (now codes) ⌝ }
     ensures { λ r. ⌜ ((r ≡ notFound → ⊥)
         → (r ≡ length (distinct (shifted 1 (now (codes .entry)))))
         × Grown (now (words .entry)) (now (places .entry)) (now (places .exit)) position (λ a. oneIf (hasAtom a (now (codes .entry))))) ⌝ }
@@ -145,7 +145,7 @@ fn find_codes(words: &[u64], places: &mut [u32], codes: &[u64], position: u64) -
 
 // Whether the postings of the atoms of word x that have a bit stand at their places, which then move past them.
 fn finds_bits(words: &[u64], places: &mut [u32], x: u64, bits: u64, position: u64) -> bool
-    requires { ⌜ length (now words) ≤ 4294967295 ⌝ ∗ ⌜ length (now places) ≡ maxRows ⌝ ∗ ⌜ position < maxRows ⌝ ∗ ⌜ x < maxWords ⌝ }
+    requires { ⌜ length (now words) ≤ 4294967295 ⌝ ∗ ⌜ length (now places) ≡ maxRows ⌝ ∗ ⌜ position < maxRows ⌝ ∗ ⌜ x < wordsWide codeBits ⌝ }
     ensures { λ r. ⌜ (r ≡ true
         → Grown (now (words .entry)) (now (places .entry)) (now (places .exit)) position (λ a. oneIf (hasBit x bits a))) ⌝ }
 {

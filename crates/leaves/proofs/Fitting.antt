@@ -3,12 +3,14 @@ use mathlib.Core.Path.{_≡_, refl, sym, ap, subst, _∙_}
 use mathlib.Core.Bool.{Bool, true, false, not, _&&_}
 use mathlib.Core.List.{List}
 use Prim.Native.Nat.{ℕ, _≤_, _<_}
-use native.Mathlib.Nat.{le-refl}
+use native.Mathlib.Nat.{le-refl, le-trans}
 use lib.Dec.{T, leb}
 use lib.ListN.{length}
 use borrow.Author.Tests.{leb-true, le-leb, lt-leb, not-true, not-false}
 use Rattle.lists.proofs.Bools.{T-of, and-both}
+use Rattle.words.specs.Literal.{codeBits}
 use Rattle.words.specs.Region.{maxAtoms, region, isRegion}
+use Rattle.words.proofs.Widths.{most-coded}
 use Rattle.model.specs.Records.{Row, isRow, isRowOver, within, maxConditions, maxOutputs}
 use Rattle.model.specs.Slots.{rowIn, slotOf}
 use Rattle.model.proofs.Slots.{Valid, valid-of, row-there}
@@ -84,7 +86,7 @@ module _ (n : ℕ) (r : Row) (f : rowFits n r ≡ true) where
 
   -- its slot
   pub fits-stored : (ws : List ℕ) → ws ≡ slotOf (newEntry r 0 0) → Stored n ws
-  fits-stored ws e = subst (Stored n) (sym e) (stored-slot n (newEntry r 0 0) (T-of (both .1)) fits-atoms)
+  fits-stored ws e = subst (Stored n) (sym e) (stored-slot codeBits n (newEntry r 0 0) (T-of (both .1)) (le-trans fits-atoms most-coded))
 
   pub fits-row : (ws : List ℕ) → ws ≡ slotOf (newEntry r 0 0) → rowIn ws ≡ r
   fits-row ws e = ap rowIn e ∙ row-there (newEntry r 0 0) valid

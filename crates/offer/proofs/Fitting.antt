@@ -79,6 +79,7 @@ unfolding entryOk
 tried-accepted h n slots postings a = record {
   stands = stands-under h (setAttempts h n) slots postings postings (a .stands) refl refl (a .stands .filing);
   one = a .one;
+  atoms = a .atoms;
   some = a .some;
   wide = a .wide;
   entries = a .entries;

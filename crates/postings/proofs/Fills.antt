@@ -2,18 +2,18 @@
 use mathlib.Core.Path.{_≡_, refl, sym, ap, _∙_}
 use mathlib.Core.Logic.{_⊎_, inl, inr}
 use mathlib.Core.List.{List, [], _∷_, map}
-use Prim.Native.Nat.{ℕ, suc, _+_, _*_, _/_, _≤_, _<_}
+use Prim.Native.Nat.{ℕ, suc, _+_, _-_, _*_, _/_, _^_, _≤_, _<_}
 use native.Mathlib.Numerals.{add-one}
 use native.Mathlib.Omega.{arith}
 use lib.ListN.{length, set}
+use lib.Pow.{pow-mono}
 use lib.Seq.{sets}
 use borrow.Author.Tests.{eq-eqb, ne-eqb}
 use Rattle.lists.specs.Lists.{distinct}
 use Rattle.lists.specs.Counts.{Each}
 use Rattle.lists.proofs.Counts.{same-or, each-head, each-tail, each-map}
 use Rattle.lists.proofs.Sorts.{distinct-one, distinct-same, distinct-other}
-use Rattle.words.specs.Literal.{atom}
-use Rattle.words.specs.Region.{maxAtoms}
+use Rattle.words.specs.Literal.{atomsWide, codesWide, atom}
 use Rattle.meter.specs.declared.Meter.{Meter}
 use Rattle.meter.specs.declared.Tick.{Tick}
 use Rattle.meter.specs.declared.Tick.the-variants.{Ticked, Stopped}
@@ -65,10 +65,13 @@ later-short a (x ∷ xs) = go (same-or x a) (later-short a xs) (later-short x xs
 
 -- ---- the postings left of a side
 module _ (p : ℕ) where
-  pub left-start : (cs : List ℕ) → Each (λ c. c < 2 * maxAtoms) cs → leftPostings p maxAtoms cs ≡ sidePostings p cs
+  -- `none` is past the atoms that have codes of w bits
+  pub left-start : (w none : ℕ) (cs : List ℕ) → Each (λ c. c < codesWide w) cs → atomsWide w ≤ none
+      → leftPostings p none cs ≡ sidePostings p cs
   unfolding leftPostings sidePostings atom
-  left-start cs h =
-      ap (map (posting p)) (later-all maxAtoms (map atom cs) (each-map (λ a. a < maxAtoms) atom cs (λ c k. omega (arith, h c k))))
+  left-start w none cs h l =
+      let e : codesWide w ≡ 2 * atomsWide w = refl in
+      ap (map (posting p)) (later-all none (map atom cs) (each-map (λ a. a < none) atom cs (λ c k. omega (arith, h c k, e, l))))
 
   pub left-none : (a : ℕ) → leftPostings p a [] ≡ []
   unfolding leftPostings
@@ -89,19 +92,27 @@ module _ (p : ℕ) where
   left-step a c cs s m n e =
       ap (λ (l : List ℕ). walk put l s m) (left-post a c cs n) ∙ walk-step put (c / 2 * maxRows + p) (leftPostings p (c / 2) cs) s m e
 
--- codes that are in range, with room for a posting of each from a place on
-pub record Room (cs : List ℕ) (at n : ℕ) : Type 0 where
-  pub low : Each (λ c. c < 2 * maxAtoms) cs
+-- the posting of a code of w bits fits a word, as long as there are few enough bits
+pub posting-fits : (w : ℕ) → w ≤ 53 → (c p : ℕ) → c < codesWide w → p < maxRows → c / 2 * maxRows + p < 2 ^ 64
+posting-fits w l c p h k =
+    let e : codesWide w ≡ 2 * atomsWide w = refl in
+    let m : atomsWide w ≤ 2 ^ 52 = pow-mono {i = w - 1} {j = 52} (omega arith) in
+    let a : c / 2 < 2 ^ 52 = omega (arith, h, e, m) in
+    omega (arith, a, k)
+
+-- codes of w bits, with room for a posting of each from a place on
+pub record Room (w : ℕ) (cs : List ℕ) (at n : ℕ) : Type 0 where
+  pub low : Each (λ c. c < codesWide w) cs
   pub room : at + length cs ≤ n
 
-pub room-head : {c : ℕ} {cs : List ℕ} {at n : ℕ} → Room (c ∷ cs) at n → (c < 2 * maxAtoms) × (at < n)
-room-head {c} {cs} r = (each-head (λ k. k < 2 * maxAtoms) c cs (r .low), omega (arith, r .room))
+pub room-head : {w c : ℕ} {cs : List ℕ} {at n : ℕ} → Room w (c ∷ cs) at n → (c < codesWide w) × (at < n)
+room-head {w} {c} {cs} r = (each-head (λ k. k < codesWide w) c cs (r .low), omega (arith, r .room))
 
-pub room-skip : {c : ℕ} {cs : List ℕ} {at n : ℕ} → Room (c ∷ cs) at n → Room cs at n
-room-skip {c} {cs} r = record { low = each-tail (λ k. k < 2 * maxAtoms) c cs (r .low); room = omega (arith, r .room) }
+pub room-skip : {w c : ℕ} {cs : List ℕ} {at n : ℕ} → Room w (c ∷ cs) at n → Room w cs at n
+room-skip {w} {c} {cs} r = record { low = each-tail (λ k. k < codesWide w) c cs (r .low); room = omega (arith, r .room) }
 
-pub room-post : {c : ℕ} {cs : List ℕ} {at n : ℕ} → Room (c ∷ cs) at n → Room cs (at + 1) n
-room-post {c} {cs} r = record { low = each-tail (λ k. k < 2 * maxAtoms) c cs (r .low); room = omega (arith, r .room) }
+pub room-post : {w c : ℕ} {cs : List ℕ} {at n : ℕ} → Room w (c ∷ cs) at n → Room w cs (at + 1) n
+room-post {w} {c} {cs} r = record { low = each-tail (λ k. k < codesWide w) c cs (r .low); room = omega (arith, r .room) }
 
 -- ---- the stores
 pub put-all : (xs : List ℕ) (n : ℕ) (ws : List ℕ) → steps put xs (filledTo n ws) ≡ filledTo (n + length xs) (sets ws n xs)

@@ -14,16 +14,16 @@ use Rattle.lists.proofs.Counts.{each-append, each-map, perm-select, perm-map, p
 use Rattle.lists.proofs.Sorts.{sort-perm, sort-cong}
 use Rattle.lists.proofs.Selects.{each-select, select-nothing, select-drop-yes}
 use Rattle.lists.proofs.Marks.{lower-of, select-lower, select-past}
-use Rattle.words.specs.Region.{maxAtoms}
+use Rattle.words.specs.Literal.{atomsWide}
 use Rattle.model.specs.Records.{maxRows}
 use Rattle.model.specs.Postings.{postedAt, searchTicks, positions}
 
 -- ---- a search in ascending postings
 module _ (a : ℕ) (ps : List ℕ) where
-  -- none past the atoms that there are
-  pub posted-beyond : Each (λ x. x < maxAtoms * maxRows) ps → maxAtoms ≤ a → postedAt ps a ≡ []
+  -- none past the atoms that have codes of w bits
+  pub posted-beyond : (w : ℕ) → Each (λ x. x < atomsWide w * maxRows) ps → atomsWide w ≤ a → postedAt ps a ≡ []
   unfolding postedAt
-  posted-beyond h l =
+  posted-beyond w h l =
       ap (map (λ x. x % maxRows))
       (select-nothing (λ x. eqb (x / maxRows) a) ps (λ x k. ne-eqb (x / maxRows) a (λ e. omega (arith, h x k))))
 

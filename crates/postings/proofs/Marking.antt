@@ -11,7 +11,7 @@ use Rattle.lists.specs.Lists.{concat, sum}
 use Rattle.lists.specs.Counts.{Sorted, Each}
 use Rattle.lists.specs.Marks.{lowerBound, markAll}
 use Rattle.lists.proofs.Marks.{mark-append}
-use Rattle.words.specs.Region.{maxAtoms}
+use Rattle.words.specs.Literal.{atomsWide}
 use Rattle.meter.specs.declared.Meter.{Meter}
 use Rattle.meter.specs.declared.Tick.{Tick}
 use Rattle.meter.specs.Meter.{tickOf}
@@ -24,9 +24,9 @@ use Rattle.postings.proofs.Finding.{posted-beyond, posted-from, posted-
 
 -- ---- one atom: a turn of the loop over its postings
 module _ (a : ℕ) (ps : List ℕ) where
-  pub marks-beyond : Each (λ x. x < maxAtoms * maxRows) ps → maxAtoms ≤ a → marks ps a ≡ []
+  pub marks-beyond : (w : ℕ) → Each (λ x. x < atomsWide w * maxRows) ps → atomsWide w ≤ a → marks ps a ≡ []
   unfolding marks
-  marks-beyond h l = ap (map some) (posted-beyond a ps h l)
+  marks-beyond w h l = ap (map some) (posted-beyond a ps w h l)
 
   pub marks-from : Sorted ps → marks (drop (lowerBound (a * maxRows) ps) ps) a ≡ marks ps a
   unfolding marks

@@ -10,7 +10,7 @@ use Rattle.lists.specs.Counts.{times, Each}
 use Rattle.lists.proofs.Sorts.{sort-sorted, sort-perm, sort-each, length-sort}
 use Rattle.lists.proofs.Pads.{getD-pad, take-pad}
 use Rattle.words.specs.Literal.{atom}
-use Rattle.words.specs.Region.{maxAtoms}
+use Rattle.words.specs.Literal.{codeBits, atomsWide}
 use Rattle.model.specs.declared.Header.{Header}
 use Rattle.model.specs.Records.{Row, maxRows, postingWords}
 use Rattle.model.specs.Slots.{rowIn}
@@ -105,7 +105,7 @@ module _ {h : Header} {slots postings : List ℕ} where
   here-searchable s n l =
       record {
         sorted = sort-sorted (posts h slots);
-        low = sort-each (λ x. x < maxAtoms * maxRows) (posts h slots) (λ x k. omega (arith, s .held .over .atoms, here-low s x k));
+        low = sort-each (λ x. x < atomsWide codeBits * maxRows) (posts h slots) (λ x k. omega (arith, s .held .over .atoms, here-low s x k));
         placed = sort-each (λ x. x % maxRows < n) (posts h slots) (λ x k. omega (arith, here-placed s x k));
       }
 

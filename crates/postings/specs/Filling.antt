@@ -6,8 +6,7 @@ use lib.Dec.{eqb}
 use lib.ListN.{length, set}
 use Rattle.lists.specs.Lists.{distinct}
 use Rattle.lists.specs.Counts.{Each}
-use Rattle.words.specs.Literal.{atom}
-use Rattle.words.specs.Region.{maxAtoms}
+use Rattle.words.specs.Literal.{codeBits, codesWide, atom}
 use Rattle.meter.specs.declared.Tick.{Tick}
 use Rattle.meter.specs.declared.Tick.the-variants.{Ticked, Stopped}
 use Rattle.model.specs.Records.{Row, maxRows, postingWords}
@@ -53,7 +52,7 @@ refiled tier rs (Stopped m) = walked (Stopped m) (filledTo 0 (filed tier true rs
 -- ---- what the functions ask: room in n words from a place on
 pub record Postable (ws : List ℕ) (s : Side) (p at n : ℕ) : Type 0 where
   pub sound : Sound ws s
-  pub low : Each (λ c. c < 2 * maxAtoms) (listOf ws s)
+  pub low : Each (λ c. c < codesWide codeBits) (listOf ws s)
   pub place : p < maxRows
   pub room : at + length (listOf ws s) ≤ n
 

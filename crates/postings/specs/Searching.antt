@@ -2,11 +2,12 @@
 use mathlib.Core.Bool.{Bool, true, false}
 use mathlib.Core.List.{List, [], _∷_, map}
 use mathlib.Core.Option.{Option, none, some}
-use Prim.Native.Nat.{ℕ, _*_, _%_, _<_}
+use Prim.Native.Nat.{ℕ, _*_, _/_, _%_, _<_}
 use lib.ListN.{set}
 use Rattle.lists.specs.Lists.{concat}
 use Rattle.lists.specs.Counts.{is, Each, Sorted}
-use Rattle.words.specs.Region.{maxAtoms}
+use Rattle.words.specs.Bit.{maxWord}
+use Rattle.words.specs.Literal.{codeBits, atomsWide}
 use Rattle.meter.specs.declared.Meter.{Meter}
 use Rattle.meter.specs.declared.Tick.{Tick}
 use Rattle.meter.specs.declared.Tick.the-variants.{Ticked}
@@ -33,10 +34,14 @@ abbrev pub look : Option ℕ → List ℕ → List ℕ
 look none ms = ms
 look (some p) ms = set ms p 1
 
--- ---- postings that may be searched: ascending, at positions below n
+-- the last atom whose postings fit a word
+abbrev pub lastAtom : ℕ
+lastAtom = maxWord / maxRows
+
+-- ---- postings that may be searched: ascending, of codes of the ledger's width, at positions below n
 pub record Searchable (n : ℕ) (ps : List ℕ) : Type 0 where
   pub sorted : Sorted ps
-  pub low : Each (λ x. x < maxAtoms * maxRows) ps
+  pub low : Each (λ x. x < atomsWide codeBits * maxRows) ps
   pub placed : Each (λ x. x % maxRows < n) ps
 
 -- 1 if the first number is 0, else 0

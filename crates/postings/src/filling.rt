@@ -20,7 +20,7 @@ use model::MAX_ROWS;
 use model::SLOT_WORDS;
 use slots::Side;
 use slots::Step;
-use words::MAX_ATOMS;
+use words::MAX_WORD;
 
 // How a filling ended, and the place after the last posting that it wrote.
 pub struct Posted {
@@ -44,7 +44,7 @@ fn post_side(
 {
     let mut next = at;
     let mut meter = work;
-    let mut last = MAX_ATOMS;
+    let mut last = MAX_WORD; // no atom
     let mut cursor = slots::start();
     loop {
         match slots::next(slot, side, cursor) {

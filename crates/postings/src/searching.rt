@@ -7,7 +7,6 @@ ghost use lib.ListN.{length, getD};
 ghost use Rattle.lists.specs.Counts.{Sorted};
 ghost use Rattle.lists.specs.Marks.{lowerBound};
 ghost use Rattle.words.specs.Literal.{atom as atomOf};
-ghost use Rattle.words.specs.Region.{maxAtoms};
 ghost use Rattle.meter.specs.Meter.{ticks};
 ghost use Rattle.model.specs.Records.{maxRows};
 ghost use Rattle.model.specs.Postings.{postingsOf, filed, searchTicks, searched, candidates as candidatesOf};
@@ -16,8 +15,8 @@ ghost use Rattle.slots.specs.Standing.{Stands};
 ghost use Rattle.postings.specs.Steps.{walk, walked};
 ghost use Rattle.slots.specs.Layout.{rowsIn};
 ghost use Rattle.postings.specs.Filling.{posted, refiled};
-ghost use Rattle.postings.specs.Searching.{zeroFirst, look, marks, looks, looksAll, readyTicks, Searchable, searchEnd, foundEnd};
-ghost use Rattle.postings.specs.Searching.{ledgerOf};
+ghost use Rattle.postings.specs.Searching.{zeroFirst, look, marks, looks, looksAll, readyTicks, lastAtom, Searchable, searchEnd};
+ghost use Rattle.postings.specs.Searching.{foundEnd, ledgerOf};
 use crate::filling::Posted;
 use crate::filling::rebuild_postings;
 use lists::fill_zero;
@@ -32,10 +31,13 @@ use model::MAX_ROWS;
 use model::SLOT_WORDS;
 use slots::Side;
 use slots::Step;
-use words::MAX_ATOMS;
+use words::MAX_WORD;
 
 // Up to so many rows every search is a full scan.
 pub const SCAN_ROWS: u64 = 64;
+
+// The last atom whose postings fit a word.
+const LAST_ATOM: u64 = MAX_WORD / MAX_ROWS;
 
 // So many words are looked at from the last place on before all are searched.
 const NEAR: usize = 8;
@@ -169,9 +171,9 @@ fn is_place(postings: &[u64], at: usize, bound: u64) -> bool
 // words from the last one's place on, and then among all.
 fn place_from(postings: &[u64], near: usize, atom: u64) -> usize
     requires { ⌜ Sorted (now postings) ⌝ }
-    ensures { λ r. ⌜ (atom < maxAtoms → r ≡ lowerBound (atom * maxRows) (now (postings .entry))) ⌝ }
+    ensures { λ r. ⌜ (atom ≤ lastAtom → r ≡ lowerBound (atom * maxRows) (now (postings .entry))) ⌝ }
 {
-    if MAX_ATOMS <= atom {
+    if LAST_ATOM < atom {
         return near;
     }
     let bound = atom * MAX_ROWS;
@@ -185,12 +187,12 @@ fn place_from(postings: &[u64], near: usize, atom: u64) -> usize
 // One tick for an atom, whatever number it is; then its postings are marked.
 fn mark_atom(postings: &[u64], from: usize, atom: u64, answer: &mut [u64], work: Meter) -> Tick
     requires { ⌜ Searchable (length (now answer)) (now postings) ⌝
-        ∗ ⌜ (atom < maxAtoms → from ≡ lowerBound (atom * maxRows) (now postings)) ⌝ }
+        ∗ ⌜ (atom ≤ lastAtom → from ≡ lowerBound (atom * maxRows) (now postings)) ⌝ }
     ensures { λ r. ⌜ walked r (now (answer .exit)) ≡ walk look (looks (now (postings .entry)) atom) (now (answer .entry)) work ⌝ }
 {
     match work.tick() {
         Tick::Ticked(m) => {
-            if MAX_ATOMS <= atom {
+            if LAST_ATOM < atom {
                 return Tick::Ticked(m);
             }
             mark_from(postings, from, atom, answer, m)

@@ -3,12 +3,13 @@ use mathlib.Core.Path.{_≡_, sym, ap, _∙_, subst}
 use mathlib.Core.Bool.{Bool, true}
 use mathlib.Core.List.{List, []}
 use Prim.Native.Nat.{ℕ, _≤_}
-use native.Mathlib.Nat.{le-refl}
 use native.Mathlib.Omega.{arith}
 use lib.ListN.{length}
 use Rattle.lists.specs.Lists.{pad, zeroed}
 use Rattle.lists.proofs.Pads.{pad-zeroed}
+use Rattle.words.specs.Literal.{codeBits}
 use Rattle.words.specs.Region.{maxAtoms}
+use Rattle.words.proofs.Widths.{most-coded}
 use Rattle.model.specs.declared.Header.{Header}
 use Rattle.model.specs.Records.{Row, Entry, isRow, saturatingAdd}
 use Rattle.model.specs.Slots.{slotsOf, rowIn, entriesIn}
@@ -63,7 +64,7 @@ module _ (h : Header) (slots postings : List ℕ) (a : Accepted h slots postings
     pub new-held : Held maxAtoms n after
     new-held =
         subst (Held maxAtoms n) (sym w)
-        (held-laid maxAtoms (tierOf slots) new new-rows new-few n c (le-refl maxAtoms) (k .held .most))
+        (held-laid maxAtoms (tierOf slots) new new-rows new-few n c codeBits most-coded (k .held .most))
 
     pub new-tier : tierOf after ≡ h .limits .«tier_rows»
     new-tier = ap tierOf w ∙ tier-laid maxAtoms (tierOf slots) new new-rows new-few ∙ stands-tier (a .stands)
@@ -85,5 +86,5 @@ placing-of h slots postings p f room a o r e =
           (subst (λ (n : ℕ). Fits room (length es) n) (sym (stands-tier (a .stands)))
           (room-fits (h .limits) f es room (a .some) (room-told (h .limits) es (examinedBy f 0 es) e)));
       proposed = o;
-      row = row-more (h .limits .atoms) maxAtoms (rowIn p) (a .stands .held .over .atoms) r;
+      row = row-more (h .limits .atoms) maxAtoms (rowIn p) (a .atoms) r;
     }

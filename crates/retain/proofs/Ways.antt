@@ -3,10 +3,11 @@ use mathlib.Core.Path.{_≡_, sym, ap, ap₂, _∙_, subst}
 use mathlib.Core.Bool.{Bool}
 use mathlib.Core.List.{List, [], _∷_}
 use Prim.Native.Nat.{ℕ, _+_, _*_, _≤_, _<_}
-use native.Mathlib.Nat.{le-refl}
 use native.Mathlib.Omega.{arith}
 use lib.ListN.{length, set, length-append, length-set}
+use Rattle.words.specs.Literal.{codeBits}
 use Rattle.words.specs.Region.{maxAtoms}
+use Rattle.words.proofs.Widths.{most-coded}
 use Rattle.model.specs.Records.{Entry, isRow, slotWords}
 use Rattle.model.specs.Slots.{slotsOf, rowIn, entriesIn}
 use Rattle.slots.specs.Layout.{tierOf, Held}
@@ -85,7 +86,7 @@ module _ (room : Room) (rows : ℕ) (slots p : List ℕ) (k : Placing room rows 
       pub first-held : Held maxAtoms rows mid
       first-held =
           subst (Held maxAtoms rows) (sym written)
-          (held-laid maxAtoms tier (set es t e) fine few rows as-many (le-refl maxAtoms) (k .held .most))
+          (held-laid maxAtoms tier (set es t e) fine few rows as-many codeBits most-coded (k .held .most))
 
       entries-now : entriesIn rows mid ≡ set es t e
       entries-now = ap (entriesIn rows) written ∙ entries-laid maxAtoms tier (set es t e) fine few rows as-many

@@ -10,7 +10,9 @@ use lib.Dec.{T, eqb, leb}
 use lib.ListN.{length, getD, drop, length-drop}
 use borrow.Author.Tests.{eq-eqb, ne-eqb, eqb-true, le-leb, lt-leb}
 use Rattle.lists.proofs.Bools.{and-both}
-use Rattle.words.specs.Region.{Region, region, maxAtoms, maxWords}
+use Rattle.words.specs.Literal.{codeBits, atomsWide, wordsWide}
+use Rattle.words.specs.Region.{Region, region}
+use Rattle.words.proofs.Widths.{words-for-le}
 use Rattle.words.proofs.Regions.{sound-of, sound-word}
 use Rattle.meter.specs.declared.Meter.{Meter}
 use Rattle.meter.specs.declared.Tick.{Tick}
@@ -26,7 +28,7 @@ use Rattle.model.specs.Operations.{bitsAmong, unloaded, ofGroup, cursorOk}
 use Rattle.model.proofs.Packing.{Under}
 use Rattle.slots.specs.declared.Side.{Side}
 use Rattle.slots.specs.Layout.{outputSide, Stored}
-use Rattle.slots.proofs.Groups.{Each, each-at, Headed, groups-headed, headed-index, words-for-le}
+use Rattle.slots.proofs.Groups.{Each, each-at, Headed, groups-headed, headed-index}
 use Rattle.slots.proofs.Storing.{Singles, singles, laid-stored, form-stored, grouped-stored, row-under}
 use Rattle.row_deduce.specs.Chunks.{chunksFrom, groupAt, Publishable, SmallCodes, Matched}
 use Rattle.row_deduce.specs.Publication.{singleGiven, singleNext, ofWords, Pointed}
@@ -157,77 +159,76 @@ pub pointed-start : (t : Row) → Pointed t startCursor
 unfolding startCursor
 pointed-start t = record { next = λ p. zero-le; word = λ p. omega arith }
 
--- the word of a group is one of a region
-abbrev Inside : List ℕ → Type 0
-Inside g = indexOf g < maxWords
+-- the word of a group is one of the atoms that have codes of w bits
+abbrev Inside : ℕ → List ℕ → Type 0
+Inside w g = indexOf g < wordsWide w
 
-abbrev Stands : ℕ → OutputCursor → Type 0
-Stands l k = (k .next ≤ l) × (k .word < maxWords)
+abbrev Stands : ℕ → ℕ → OutputCursor → Type 0
+Stands w l k = (k .next ≤ l) × (k .word < wordsWide w)
 
-give-stands : (l c : ℕ) (cs : List ℕ) (k : OutputCursor) (x : Tick) → Stands l k → Stands l (give c cs k x .cursor)
+give-stands : (w l c : ℕ) (cs : List ℕ) (k : OutputCursor) (x : Tick) → Stands w l k → Stands w l (give c cs k x .cursor)
 unfolding give givenOut published
-give-stands l c cs k (Ticked m) h = h
-give-stands l c cs k (Stopped m) h = h
+give-stands w l c cs k (Ticked m) h = h
+give-stands w l c cs k (Stopped m) h = h
 
-packed-stands : (r : Region) (l : ℕ) (gs : List (List ℕ)) (k : OutputCursor) (m : Meter) → Each Inside gs → k .next + length gs ≤ l
-    → k .word < maxWords
-    → Stands l (packedNext r gs k m .cursor)
+packed-stands : (w : ℕ) (r : Region) (l : ℕ) (gs : List (List ℕ)) (k : OutputCursor) (m : Meter) → Each (Inside w) gs
+    → k .next + length gs ≤ l → k .word < wordsWide w → Stands w l (packedNext r gs k m .cursor)
 unfolding packedNext published loaded
-packed-stands r l [] k m e h w = go (pending k)
+packed-stands w r l [] k m e h i = go (pending k)
   where
-    go : (ps : List ℕ) → Stands l ((elim ps as (λ z. Published) [ [] ↦ published end k m | c ∷ cs ↦ give c cs k (tickOf m) ]) .cursor)
-    go [] = (omega arith, w)
-    go (c ∷ cs) = give-stands l c cs k (tickOf m) (omega arith, w)
-packed-stands r l (g ∷ gs) k m e h w = go (pending k) (tickOf m) (λ n. packed-stands r l gs (loaded r g k) n (e .1))
+    go : (ps : List ℕ) → Stands w l ((elim ps as (λ z. Published) [ [] ↦ published end k m | c ∷ cs ↦ give c cs k (tickOf m) ]) .cursor)
+    go [] = (omega arith, i)
+    go (c ∷ cs) = give-stands w l c cs k (tickOf m) (omega arith, i)
+packed-stands w r l (g ∷ gs) k m e h i = go (pending k) (tickOf m) (λ n. packed-stands w r l gs (loaded r g k) n (e .1))
   where
     next : loaded r g k .next + length gs ≤ l
     next = omega arith
 
     go : (ps : List ℕ) (x : Tick)
-        → ((n : Meter) → loaded r g k .next + length gs ≤ l → loaded r g k .word < maxWords
-        → Stands l (packedNext r gs (loaded r g k) n .cursor))
-        → Stands l ((elim ps as (λ z. Published) [
+        → ((n : Meter) → loaded r g k .next + length gs ≤ l → loaded r g k .word < wordsWide w
+        → Stands w l (packedNext r gs (loaded r g k) n .cursor))
+        → Stands w l ((elim ps as (λ z. Published) [
           | [] ↦ elim x as (λ z. Published) [ Stopped n ↦ published stopped k n | Ticked n ↦ packedNext r gs (loaded r g k) n ]
           | c ∷ cs ↦ give c cs k x
         ]) .cursor)
     go [] (Ticked n) ih = ih n next (e .0)
-    go [] (Stopped n) ih = (omega arith, w)
-    go (c ∷ cs) x ih = give-stands l c cs k x (omega arith, w)
+    go [] (Stopped n) ih = (omega arith, i)
+    go (c ∷ cs) x ih = give-stands w l c cs k x (omega arith, i)
 
-each-drop : (i : ℕ) (gs : List (List ℕ)) → Each Inside gs → Each Inside (drop i gs)
-each-drop zero gs e = e
-each-drop (suc i) [] e = tt
-each-drop (suc i) (g ∷ gs) e = each-drop i gs (e .1)
+each-drop : (w i : ℕ) (gs : List (List ℕ)) → Each (Inside w) gs → Each (Inside w) (drop i gs)
+each-drop w zero gs e = e
+each-drop w (suc i) [] e = tt
+each-drop w (suc i) (g ∷ gs) e = each-drop w i gs (e .1)
 
-module _ (n : ℕ) (t : Row) (ok : T (isRow n t)) (most : n ≤ maxAtoms) where
-  groups-inside : Each Inside (groups (t .outputs))
-  groups-inside = go (groups (t .outputs)) (groups-headed (2 * n) (t .outputs) (row-under n t ok .1))
+module _ (n : ℕ) (t : Row) (ok : T (isRow n t)) where
+  groups-inside : (w : ℕ) → n ≤ atomsWide w → Each (Inside w) (groups (t .outputs))
+  groups-inside w most = go (groups (t .outputs)) (groups-headed (2 * n) (t .outputs) (row-under n t ok .1))
     where
-      go : (gs : List (List ℕ)) → Each (Headed (2 * n)) gs → Each Inside gs
+      go : (gs : List (List ℕ)) → Each (Headed (2 * n)) gs → Each (Inside w) gs
       go [] e = tt
-      go (g ∷ gs) e = (let h = headed-index n g (e .0) in let l = words-for-le n most in omega arith, go gs (e .1))
+      go (g ∷ gs) e = (let h = headed-index n g (e .0) in let l = words-for-le w n most in omega arith, go gs (e .1))
 
-  pub pointed-next : (r : Region) (k : OutputCursor) (m : Meter) → Pointed t k → Pointed t (nextOutput r t k m .cursor)
-  pointed-next r k m w = record { next = λ p. stands p .0; word = λ p. stands p .1 }
+  pub pointed-next : n ≤ atomsWide codeBits → (r : Region) (k : OutputCursor) (m : Meter) → Pointed t k → Pointed t (nextOutput r t k m .cursor)
+  pointed-next most r k m w = record { next = λ p. stands p .0; word = λ p. stands p .1 }
     where
-      stands : packed t ≡ true → Stands (length (groups (t .outputs))) (nextOutput r t k m .cursor)
+      stands : packed t ≡ true → Stands codeBits (length (groups (t .outputs))) (nextOutput r t k m .cursor)
       stands p =
           let h = w .next p in
           let l = length-drop (k .next) (groups (t .outputs)) in
-          subst (λ (x : Published). Stands (length (groups (t .outputs))) (x .cursor)) (sym (next-grouped r t k m p))
-          (packed-stands r (length (groups (t .outputs))) (drop (k .next) (groups (t .outputs))) k m
-          (each-drop (k .next) (groups (t .outputs)) groups-inside) (omega arith) (w .word p))
+          subst (λ (x : Published). Stands codeBits (length (groups (t .outputs))) (x .cursor)) (sym (next-grouped r t k m p))
+          (packed-stands codeBits r (length (groups (t .outputs))) (drop (k .next) (groups (t .outputs))) k m
+          (each-drop codeBits (k .next) (groups (t .outputs)) (groups-inside codeBits most)) (omega arith) (w .word p))
 
-  pub pointed-ok : (k : OutputCursor) → cursorOk t k ≡ true → Pointed t k
+  pub pointed-ok : n ≤ atomsWide codeBits → (k : OutputCursor) → cursorOk t k ≡ true → Pointed t k
   unfolding unloaded ofGroup
-  pointed-ok k e =
+  pointed-ok most k e =
       record { next = λ p. within p (decLt (length (groups (t .outputs))) (k .next)); word = λ p. inside p (ℕ-discrete (k .next) 0) }
     where
       within : packed t ≡ true → Dec (length (groups (t .outputs)) < k .next) → k .next ≤ length (groups (t .outputs))
       within p (yes h) = absurd (false≢true (sym (past-packed t k p h) ∙ e))
       within p (no h) = omega arith
 
-      inside : packed t ≡ true → Dec (k .next ≡ 0) → k .word < maxWords
+      inside : packed t ≡ true → Dec (k .next ≡ 0) → k .word < wordsWide codeBits
       inside p (yes z) =
           let u : eqb (k .word) 0 ≡ true = and-both (eqb (k .word) 0) _ (sym (ok-start t k p z) ∙ e) .0 in
           let q : k .word ≡ 0 = eqb-true (k .word) 0 u in
@@ -237,7 +238,8 @@ module _ (n : ℕ) (t : Row) (ok : T (isRow n t)) (most : n ≤ maxAtoms) where
           let g : List ℕ = getD (groups (t .outputs)) (k .next - 1) [] in
           let u : eqb (k .word) (indexOf g) ≡ true = and-both (eqb (k .word) (indexOf g)) _ (sym (ok-loaded t k p f h) ∙ e) .0 in
           let q : k .word ≡ indexOf g = eqb-true (k .word) (indexOf g) u in
-          let l : indexOf g < maxWords = each-at Inside (groups (t .outputs)) (k .next - 1) groups-inside (omega arith) in
+          let l : indexOf g < wordsWide codeBits
+          = each-at (Inside codeBits) (groups (t .outputs)) (k .next - 1) (groups-inside codeBits most) (omega arith) in
           omega arith
 
 -- ---- refusal 8 by the slot

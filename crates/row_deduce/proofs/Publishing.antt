@@ -9,8 +9,9 @@ use native.Mathlib.Omega.{arith}
 use lib.Bits.{bitAnd, bitOr, and-le-l}
 use lib.ListN.{getD}
 use borrow.Author.Tests.{le-leb, lt-leb}
-use Rattle.words.specs.Literal.{atom, wordOf}
-use Rattle.words.specs.Region.{Region, maxAtoms, maxWords}
+use Rattle.words.specs.Literal.{codeBits, codesWide, wordsWide}
+use Rattle.words.specs.Region.{Region}
+use Rattle.words.proofs.Widths.{code-in-word}
 use Rattle.meter.specs.declared.Meter.{Meter}
 use Rattle.meter.specs.declared.Tick.the-variants.{Ticked, Stopped}
 use Rattle.meter.specs.Meter.{tickOf}
@@ -88,21 +89,17 @@ module _ (r : Region) (ws : List ℕ) (s : Side) (g : ℕ) (k : Group) (packed :
       (sym (ap (bitsOf false) left-is ∙ bits-absent (k .index) present absent present-lt absent-lt))
 
 -- ---- an output of the loaded group
-in-word : (c x : ℕ) → wordOf (atom c) ≡ x → x < maxWords → c < 2 * maxAtoms
-unfolding wordOf atom
-in-word c x e h = omega arith
-
 module _ (k : OutputCursor) (m : Meter) (c present absent : ℕ)
     (first : codesOf (k .word) (k .present) (k .absent) ≡ c ∷ codesOf (k .word) present absent) where
   given-is : givenNext k m ≡ give c (codesOf (k .word) present absent) k (tickOf m)
   unfolding givenNext pending
   given-is = rw (first, givenNext, pending)
 
-  pub code-lt : k .word < maxWords → c < 2 * maxAtoms
-  code-lt h =
-      let w : OneWord (k .word) (c ∷ codesOf (k .word) present absent) =
+  pub code-lt : (w : ℕ) → 7 ≤ w → k .word < wordsWide w → c < codesWide w
+  code-lt w l h =
+      let one : OneWord (k .word) (c ∷ codesOf (k .word) present absent) =
       subst (OneWord (k .word)) first (codes-word (k .word) (k .present) (k .absent)) in
-      in-word c (k .word) (w .0) h
+      code-in-word w c (k .word) l (one .0) h
 
   pub given-stopped : (before : Meter) {n : Meter} → Stopped n ≡ tickOf m
       → publishedWith next-answer.Stopped k before n ≡ nextEnd before (givenNext k m)
@@ -180,7 +177,7 @@ module _ (ws : List ℕ) (s : Side) (k : OutputCursor) (m : Meter) where
 pub record Loading (r : Region) (ws : List ℕ) (s : Side) (cursor : OutputCursor) (start : Meter) (k : OutputCursor)
     (m : Meter) : Type 0 where
   pub within : k .next ≤ s .count
-  pub small : k .word < maxWords
+  pub small : k .word < wordsWide codeBits
   pub same : packedNext r (chunksFrom ws s (s .count - k .next) (k .next)) k m
       ≡ packedNext r (chunksFrom ws s (s .count - cursor .next) (cursor .next)) cursor start
 
@@ -210,7 +207,7 @@ module _ (r : Region) (ws : List ℕ) (s : Side) (cursor : OutputCursor) (start 
           (packed-stopped r k m none (chunkAt ws s (k .next)) (chunksFrom ws s (s .count - (k .next + 1)) (k .next + 1)) e) ∙ next-group)
 
       pub load-on : {n : Meter} (l : OutputCursor) → Ticked n ≡ tickOf m → l ≡ loadedFrom r (chunkAt ws s (k .next)) (k .next)
-          → indexOf (chunkAt ws s (k .next)) < maxWords → Loading r ws s cursor start l n
+          → indexOf (chunkAt ws s (k .next)) < wordsWide codeBits → Loading r ws s cursor start l n
       load-on {n} l e f small = subst (λ (x : OutputCursor). Loading r ws s cursor start x n) (sym f) (record {
         within = omega arith;
         small = small;

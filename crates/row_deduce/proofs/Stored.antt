@@ -7,14 +7,15 @@ use native.Mathlib.Nat.{zero-add, add-zero, add-suc, suc-add, zero-lt-suc}
 use native.Mathlib.Omega.{arith}
 use lib.ListN.{length, getD}
 use Rattle.words.specs.Region.{region}
+use Rattle.words.specs.Literal.{codeBits}
 use Rattle.words.proofs.Regions.{Sound, sound-of}
+use Rattle.words.proofs.Widths.{words-for-le}
 use Rattle.model.specs.Rows.{groups, packed}
 use Rattle.model.specs.Slots.{rowIn}
 use Rattle.model.specs.Deduction.{chunks}
 use Rattle.slots.specs.declared.Side.{Side}
 use Rattle.slots.specs.Cursor as cursor
 use Rattle.slots.specs.Layout.{conditionSide, outputSide, Stored}
-use Rattle.slots.proofs.Groups.{words-for-le}
 use Rattle.slots.proofs.Storing.{Grouped, Singles, singles, laid-stored, form-stored, grouped-stored, conditions-apart}
 use Rattle.row_deduce.specs.Chunks.{chunkAt, chunksFrom, chunksOf, Readable, OneSigned, Matched}
 use Rattle.row_deduce.proofs.Turns.{chunk-group, chunk-code}
@@ -89,7 +90,7 @@ module _ (slot held cut : List ℕ) (m : Matched slot held cut) where
     packed = d .form;
     whole = w .whole (d .form);
     index = λ g h. (let i = d .inside g (let e = d .count in omega arith) in let e = sound .held .long in omega arith);
-    few = (let e = sound .held .long in let h = words-for-le (m .holds .atoms) (m .holds .stored .atoms) in omega arith);
+    few = (let e = sound .held .long in let h = words-for-le codeBits (m .holds .atoms) (m .holds .stored .atoms) in omega arith);
     same = sound .cut .long ∙ sym (sound .held .long);
   }
 

@@ -6,7 +6,8 @@ use Prim.Native.Nat.{ℕ, zero, suc, _+_, _*_, _≤_, _<_}
 use lib.Bits.{bitAnd, bitOr}
 use lib.Dec.{T}
 use lib.ListN.{length, getD}
-use Rattle.words.specs.Region.{region, isRegion, maxAtoms, maxWords}
+use Rattle.words.specs.Literal.{codeBits, codesWide, wordsWide}
+use Rattle.words.specs.Region.{region, isRegion}
 use Rattle.model.specs.Records.{groupLength}
 use Rattle.model.specs.Slots.{codesOf}
 use Rattle.slots.specs.declared.Side.{Side}
@@ -43,7 +44,7 @@ pub record Readable (ws : List ℕ) (s : Side) (held cut : List ℕ) : Type 0 wh
   pub packed : s .packed ≡ true
   pub whole : s .base + groupLength * s .count ≤ length ws
   pub index : (g : ℕ) → g < s .count → getD ws (s .base + groupLength * g) 0 < length held
-  pub few : length held ≤ maxWords
+  pub few : length held ≤ wordsWide codeBits
   pub same : length cut ≡ length held
 
 -- no atom of a packed side has both signs
@@ -58,7 +59,7 @@ pub record Publishable (ws : List ℕ) (s : Side) (held cut : List ℕ) : Type 0
 
 -- the codes of a scalar side are literals
 abbrev pub SmallCodes : List ℕ → Side → Type 0
-SmallCodes ws s = (g : ℕ) → g < s .count → getD ws (s .base + g) 0 < 2 * maxAtoms
+SmallCodes ws s = (g : ℕ) → g < s .count → getD ws (s .base + g) 0 < codesWide codeBits
 
 -- what a row is matched with: a slot that holds it, and words that are a region over as many atoms
 pub record Matched (slot held cut : List ℕ) : Type 0 where

@@ -5,7 +5,8 @@ use mathlib.Core.List.{List, [], _∷_}
 use Prim.Native.Nat.{ℕ, suc, _+_, _≤_, _<_}
 use lib.Dec.{eqb, leb}
 use lib.ListN.{length, getD}
-use Rattle.words.specs.Region.{Region, maxWords}
+use Rattle.words.specs.Literal.{codeBits, wordsWide}
+use Rattle.words.specs.Region.{Region}
 use Rattle.meter.specs.declared.Meter.{Meter}
 use Rattle.meter.specs.declared.Tick.{Tick}
 use Rattle.meter.specs.declared.Tick.the-variants.{Ticked, Stopped}
@@ -53,4 +54,4 @@ ofWords k g = eqb (k .word) (g .index) && (bitsAmong (k .present) (g .present) &
 -- a cursor that stands in the outputs of a packed row: refusal 8 leaves no other, and every call gives back such a one
 pub record Pointed (t : Row) (k : OutputCursor) : Type 0 where
   pub next : packed t ≡ true → k .next ≤ length (groups (t .outputs))
-  pub word : packed t ≡ true → k .word < maxWords
+  pub word : packed t ≡ true → k .word < wordsWide codeBits

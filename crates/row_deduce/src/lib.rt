@@ -5,8 +5,8 @@ ghost use mathlib.Core.List.{[]};
 ghost use Prim.Native.Nat.{_+_, _-_, _*_, _<_, _≤_};
 ghost use lib.Bits.{bitOr};
 ghost use lib.ListN.{length};
-ghost use Rattle.words.specs.Literal.{opposite};
-ghost use Rattle.words.specs.Region.{region, maxAtoms, maxWords};
+ghost use Rattle.words.specs.Literal.{codeBits, codesWide, wordsWide, opposite};
+ghost use Rattle.words.specs.Region.{region};
 ghost use Rattle.meter.specs.Meter.{ticks};
 ghost use Rattle.model.specs.Records.{groupLength};
 ghost use Rattle.model.specs.Rows.{packed};
@@ -86,7 +86,7 @@ fn group_at(slot: &[u64], side: Side, g: usize) -> Group
 
 // The code of the one condition whose bit is set in `unknown`.
 fn undecided(index: u64, absent: u64, unknown: u64) -> u64
-    requires { ⌜ index < maxWords ⌝ ∗ ⌜ 0 < unknown ⌝ }
+    requires { ⌜ index < wordsWide codeBits ⌝ ∗ ⌜ 0 < unknown ⌝ }
     ensures { λ r. ⌜ r ≡ codeIn index absent unknown ⌝ }
 {
     let atom = WORD_BITS * index + words::first_bit(unknown);
@@ -305,13 +305,13 @@ fn outputs(slot: &[u64], held: &[u64], cut: &[u64], work: Meter) -> OutputsRead
 
 // The opposite of a literal.
 fn negation(code: u64) -> Literal
-    requires { ⌜ code < 2 * maxAtoms ⌝ }
+    requires { ⌜ code < codesWide codeBits ⌝ }
     ensures { λ r. ⌜ r ≡ literal (opposite code) ⌝ }
 {
     if code % 2 == 1 {
-        Literal((code - 1) as u16)
+        Literal((code - 1) as u32)
     } else {
-        Literal((code + 1) as u16)
+        Literal((code + 1) as u32)
     }
 }
 
@@ -336,7 +336,7 @@ fn concluded(
     before: Meter,
     work: Meter,
 ) -> Deduced
-    requires { ⌜ Matched (now slot) (now held) (now cut) ⌝ ∗ ⌜ code < 2 * maxAtoms ⌝ }
+    requires { ⌜ Matched (now slot) (now held) (now cut) ⌝ ∗ ⌜ code < codesWide codeBits ⌝ }
     ensures { λ r. ⌜ r
         ≡ concludedWith code before (readOutputs (region (now (held .entry)) (now (cut .entry)))
         (chunks (packed (rowIn (now (slot .entry)))) (rowIn (now (slot .entry)) .outputs)) work) ⌝ }
@@ -348,7 +348,7 @@ fn concluded(
         OutputState::Clear => ended(Deduction::Nothing, false, before, found.meter),
         OutputState::Contradicted(output) => {
             let required = negation(code);
-            let named = output as u16;
+            let named = output as u32;
             let said = Deduction::Require {
                 required,
                 contradicted: Literal(named),
@@ -418,7 +418,7 @@ fn published(answer: NextAnswer, cursor: OutputCursor, before: Meter, after: Met
 
 // The next output of the loaded group, which has one left.
 fn given(cursor: OutputCursor, before: Meter, work: Meter) -> NextResult
-    requires { ⌜ cursor .word < maxWords ⌝ ∗ ⌜ 0 < bitOr (cursor .absent) (cursor .present) ⌝ }
+    requires { ⌜ cursor .word < wordsWide codeBits ⌝ ∗ ⌜ 0 < bitOr (cursor .absent) (cursor .present) ⌝ }
     ensures { λ r. ⌜ r ≡ nextEnd before (givenNext cursor work) ⌝ }
 {
     let p = slots::take(cursor.word, cursor.present, cursor.absent);
@@ -431,7 +431,8 @@ fn given(cursor: OutputCursor, before: Meter, work: Meter) -> NextResult
                 present: p.present,
                 absent: p.absent,
             };
-            published(NextAnswer::Output(Literal(p.code as u16)), left, before, m)
+            let code = p.code as u32;
+            published(NextAnswer::Output(Literal(code)), left, before, m)
         }
     }
 }
@@ -445,7 +446,7 @@ fn packed_next(
     cut: &[u64],
     work: Meter,
 ) -> NextResult
-    requires { ⌜ Publishable (now slot) side (now held) (now cut) ⌝ ∗ ⌜ cursor .next ≤ side .count ⌝ ∗ ⌜ cursor .word < maxWords ⌝ }
+    requires { ⌜ Publishable (now slot) side (now held) (now cut) ⌝ ∗ ⌜ cursor .next ≤ side .count ⌝ ∗ ⌜ cursor .word < wordsWide codeBits ⌝ }
     ensures { λ r. ⌜ r
         ≡ nextEnd work (packedNext (region (now (held .entry)) (now (cut .entry)))
         (chunksFrom (now (slot .entry)) side (side .count - cursor .next) (cursor .next)) cursor work) ⌝ }
@@ -484,7 +485,8 @@ fn scalar_next(slot: &[u64], side: Side, cursor: OutputCursor, work: Meter) -> N
                 present: 0,
                 absent: 0,
             };
-            published(NextAnswer::Output(Literal(slot[at] as u16)), past, work, m)
+            let code = slot[at] as u32;
+            published(NextAnswer::Output(Literal(code)), past, work, m)
         }
     }
 }

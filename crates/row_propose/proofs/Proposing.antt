@@ -6,7 +6,6 @@ use Prim.Native.Nat.{ℕ, suc, _+_, _-_, _*_, _≤_}
 use native.Mathlib.Omega.{arith}
 use lib.ListN.{length, getD, take, drop, replicate, length-append, length-replicate}
 use Rattle.lists.specs.Lists.{pad, below}
-use Rattle.words.specs.Region.{maxAtoms}
 use Rattle.model.specs.Records.{Row, maxConditions, maxOutputs, slotWords, isRow, conditionsAt, outputsAt, totalGroupsAt, conditionGroupsAt}
 use Rattle.model.specs.Records.{bodyAt}
 use Rattle.model.specs.Slots.{rowIn}
@@ -14,7 +13,7 @@ use Rattle.model.proofs.Rows.{row-parts, row-more}
 use Rattle.slots.specs.Layout.{proposal, Laid}
 use Rattle.slots.proofs.Laying.{row-scalar, laid-scalar}
 use Rattle.slots.proofs.Storing.{row-proposal}
-use Rattle.row_propose.specs.Proposed.{Proposed}
+use Rattle.row_propose.specs.Proposed.{ProposedOver}
 
 -- what a proposal's words say
 record Says (r : Row) (ws : List ℕ) : Type 0 where
@@ -39,24 +38,24 @@ proposal-long r f m =
       length-replicate {A = ℕ} (slotWords - n) 0,
     )
 
-pub proposed-row : (r : Row) → length (r .conditions) ≤ maxConditions → length (r .outputs) ≤ maxOutputs →
-    below (2 * maxAtoms) (r .conditions) ≡ true → below (2 * maxAtoms) (r .outputs) ≡ true → Proposed (proposal r)
-proposed-row r f m c o =
+pub proposed-row : {n : ℕ} (r : Row) → length (r .conditions) ≤ maxConditions → length (r .outputs) ≤ maxOutputs →
+    below (2 * n) (r .conditions) ≡ true → below (2 * n) (r .outputs) ≡ true → ProposedOver n (proposal r)
+proposed-row {n} r f m c o =
     record {
       form = ap proposal (row-proposal r);
       few = subst (λ (q : Row). length (q .conditions) ≤ maxConditions) (sym (row-proposal r)) f;
       many = subst (λ (q : Row). length (q .outputs) ≤ maxOutputs) (sym (row-proposal r)) m;
-      conditionsUnder = subst (λ (q : Row). below (2 * maxAtoms) (q .conditions) ≡ true) (sym (row-proposal r)) c;
-      outputsUnder = subst (λ (q : Row). below (2 * maxAtoms) (q .outputs) ≡ true) (sym (row-proposal r)) o;
+      conditionsUnder = subst (λ (q : Row). below (2 * n) (q .conditions) ≡ true) (sym (row-proposal r)) c;
+      outputsUnder = subst (λ (q : Row). below (2 * n) (q .outputs) ≡ true) (sym (row-proposal r)) o;
     }
 
--- a row over n atoms
-pub proposed-over : (n : ℕ) (r : Row) → n ≤ maxAtoms → isRow n r ≡ true → Proposed (proposal r)
-proposed-over n r l e =
-    let p = row-parts maxAtoms r (row-more n maxAtoms r l e) in
+-- a row over n atoms is a proposal over as many or more
+pub proposed-over : {m : ℕ} (n : ℕ) (r : Row) → n ≤ m → isRow n r ≡ true → ProposedOver m (proposal r)
+proposed-over {m} n r l e =
+    let p = row-parts m r (row-more n m r l e) in
     proposed-row r (p .few) (p .many) (p .conditionsUnder) (p .outputsUnder)
 
-module _ (ws : List ℕ) (p : Proposed ws) where
+module _ {n : ℕ} (ws : List ℕ) (p : ProposedOver n ws) where
   words : Says (rowIn ws) ws
   words = subst (Says (rowIn ws)) (p .form) (says (rowIn ws))
 

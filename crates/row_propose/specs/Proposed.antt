@@ -10,10 +10,14 @@ use Rattle.model.specs.Records.{maxConditions, maxOutputs}
 use Rattle.model.specs.Slots.{rowIn}
 use Rattle.slots.specs.Layout.{proposal}
 
--- the words of a slot that are a proposal of a row within the limits of a slot, over atoms that there can be
-pub record Proposed (ws : List ℕ) : Type 0 where
+-- the words of a slot that are a proposal of a row over n atoms, within the limits of a slot
+pub record ProposedOver (n : ℕ) (ws : List ℕ) : Type 0 where
   pub form : proposal (rowIn ws) ≡ ws
   pub few : length (rowIn ws .conditions) ≤ maxConditions
   pub many : length (rowIn ws .outputs) ≤ maxOutputs
-  pub conditionsUnder : below (2 * maxAtoms) (rowIn ws .conditions) ≡ true
-  pub outputsUnder : below (2 * maxAtoms) (rowIn ws .outputs) ≡ true
+  pub conditionsUnder : below (2 * n) (rowIn ws .conditions) ≡ true
+  pub outputsUnder : below (2 * n) (rowIn ws .outputs) ≡ true
+
+-- over as many atoms as there can be
+abbrev pub Proposed : List ℕ → Type 0
+Proposed ws = ProposedOver maxAtoms ws

@@ -2,7 +2,7 @@
 use mathlib.Core.Path.{_≡_, refl, sym, ap, _∙_}
 use mathlib.Core.Bool.{Bool, true, false}
 use mathlib.Core.List.{List, [], _∷_}
-use Prim.Native.Nat.{ℕ, suc, _+_, _*_, _/_, _≤_, _<_}
+use Prim.Native.Nat.{ℕ, suc, _+_, _-_, _*_, _/_, _≤_, _<_}
 use native.Mathlib.Omega.{arith}
 use lib.Dec.{eqb}
 use lib.ListN.{length, getD, drop, drop-of-length-le}
@@ -13,7 +13,6 @@ use Rattle.lists.proofs.Counts.{each-at}
 use Rattle.lists.proofs.Tests.{below-each}
 use Rattle.words.specs.Bit.{wordBits}
 use Rattle.words.specs.Literal.{atom, wordOf}
-use Rattle.words.specs.Region.{maxAtoms}
 use Rattle.model.specs.Rows.{enter, groups}
 use Rattle.model.proofs.Packing.{groups-head}
 use Rattle.row_write.specs.Counts.{newWords}
@@ -54,10 +53,11 @@ new-groups c (d ∷ ds) =
         ap suc (new-other (wordOf (atom c)) d ds f ∙ e)
         ∙ sym (ap (λ (b : Bool). joined b es gs) (ne-eqb (wordOf (atom c)) (wordOf (atom d)) (λ s. f (sym s))))
 
--- the group of a proposal's code is a word of the most atoms, so it fits the 16 bits that the count holds it in
-pub group-under : (cs : List ℕ) (i : ℕ) → below (2 * maxAtoms) cs ≡ true → i < length cs → getD cs i 0 / 2 / 64 < maxAtoms / wordBits
-group-under cs i h l =
-    let b : getD cs i 0 < 2 * maxAtoms = each-at (λ v. v < 2 * maxAtoms) cs i (below-each (2 * maxAtoms) cs h) l in
+-- the group of a code of n atoms is a word of theirs: of a proposal's code it fits the 16 bits that the count holds it in
+pub group-under : (n : ℕ) (cs : List ℕ) (i : ℕ) → below (2 * n) cs ≡ true → i < length cs
+    → getD cs i 0 / 2 / 64 < (n + (wordBits - 1)) / wordBits
+group-under n cs i h l =
+    let b : getD cs i 0 < 2 * n = each-at (λ v. v < 2 * n) cs i (below-each (2 * n) cs h) l in
     omega arith
 
 -- no code, and the first one

@@ -6,13 +6,12 @@ use Prim.Native.Nat.{ℕ, _+_, _-_, _*_, _≤_}
 use native.Mathlib.Omega.{arith}
 use lib.ListN.{length, getD, take, drop}
 use Rattle.lists.specs.Lists.{below}
-use Rattle.words.specs.Region.{maxAtoms}
 use Rattle.words.proofs.Codes.{runs-le}
 use Rattle.model.specs.Records.{literals, slotWords, maxConditions, maxOutputs, conditionsAt, outputsAt, bodyAt}
 use Rattle.model.specs.Rows.{groups}
 use Rattle.model.specs.Slots.{rowIn}
 use Rattle.model.proofs.Packing.{groups-runs}
-use Rattle.row_propose.specs.Proposed.{Proposed}
+use Rattle.row_propose.specs.Proposed.{ProposedOver}
 use Rattle.row_propose.proofs.Proposing.{proposed-long, proposed-conditions, proposed-outputs, conditions-at, outputs-at}
 
 -- the words by their counts
@@ -26,7 +25,7 @@ pub record Counts (ws : List ℕ) : Type 0 where
 groups-le : (cs : List ℕ) → length (groups cs) ≤ length cs
 groups-le cs = omega (arith, groups-runs cs, runs-le 7 cs)
 
-module _ {ws : List ℕ} (p : Proposed ws) where
+module _ {a : ℕ} {ws : List ℕ} (p : ProposedOver a ws) where
   pub counts : Counts ws
   unfolding literals
   counts =
@@ -57,11 +56,11 @@ module _ {ws : List ℕ} (p : Proposed ws) where
   both-parts = omega (arith, counts .all)
 
   -- their codes are below those of the most atoms
-  pub first-under : below (2 * maxAtoms) (take (n - bodyAt) (drop bodyAt ws)) ≡ true
-  first-under = ap (below (2 * maxAtoms)) first-part ∙ p .conditionsUnder
+  pub first-under : below (2 * a) (take (n - bodyAt) (drop bodyAt ws)) ≡ true
+  first-under = ap (below (2 * a)) first-part ∙ p .conditionsUnder
 
-  pub second-under : below (2 * maxAtoms) (take (m - n) (drop n ws)) ≡ true
-  second-under = ap (below (2 * maxAtoms)) second-part ∙ p .outputsUnder
+  pub second-under : below (2 * a) (take (m - n) (drop n ws)) ≡ true
+  second-under = ap (below (2 * a)) second-part ∙ p .outputsUnder
 
   pub first-groups : {r : ℕ} → r ≡ length (groups (take (n - bodyAt) (drop bodyAt ws)))
       → (r ≡ length (groups (rowIn ws .conditions))) × (r ≤ maxConditions)

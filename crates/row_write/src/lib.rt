@@ -54,8 +54,8 @@ fn count_words(codes: &[u64]) -> usize
         return 0;
     }
     let mut count = codes.len();
-    // The group of the last literal. A proposal's codes are below 2 * MAX_ATOMS, so it is at most MAX_ATOMS / WORD_BITS - 1, which is 511
-    // over 32,768 atoms: 16 bits hold it.
+    // The group of the last literal. A proposal's codes are below 2 * MAX_ATOMS, so it is at most MAX_ATOMS / WORD_BITS - 1, which is
+    // 16,383: 16 bits hold it.
     let mut previous = (codes[0] / 2 / WORD_BITS) as u16;
     let mut i: usize = 1;
     while i < codes.len() {

@@ -3,6 +3,7 @@
 // a number alone is a code in `rule`, and an atom held in `plan`.
 ghost use Prim.Native.Nat.{_≤_};
 ghost use lib.ListN.{length};
+use crate::memory::ATOMS;
 use crate::points;
 use std::num::wrapping_add_u64;
 use text::Parsed;
@@ -14,10 +15,9 @@ use text::put_decimal;
 use text::value;
 use text::word;
 use words::Found;
-use words::MAX_ATOMS;
 
-// Every code is below this.
-pub const CODES: u64 = 65536;
+// Every code of an atom that there is room for is below this.
+pub const CODES: u64 = 2 * ATOMS;
 
 // A literal's code; or bytes that are none.
 enum Read {
@@ -53,7 +53,7 @@ fn signed(s: &[u8], from: usize, to: usize, points: &[u64], sign: u64) -> Read
     if key == 0 {
         return Read::Bad;
     }
-    if MAX_ATOMS < key {
+    if ATOMS < key {
         return Read::Bad;
     }
     if sign == 0 {

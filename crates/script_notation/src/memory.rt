@@ -3,21 +3,21 @@ ghost use mathlib.Core.Path.{_≡_};
 ghost use Prim.Native.Nat.{_+_, _*_, _/_};
 ghost use lib.ListN.{length};
 ghost use Rattle.words.specs.Bit.{wordBits};
-ghost use Rattle.words.specs.Region.{maxAtoms};
 ghost use Rattle.model.specs.Records.{slotWords, postingWords, maxOutputs};
 ghost use Rattle.wire.specs.Words.{headerLength};
-ghost use Rattle.script_notation.specs.Rooms.{ledgers, roomRows, nameWords};
+ghost use Rattle.script_notation.specs.Rooms.{ledgers, roomRows, roomAtoms, nameWords};
 use model::MAX_OUTPUTS;
 use model::POSTING_WORDS;
 use model::SLOT_WORDS;
 use wire::HEADER_WORDS;
-use words::MAX_ATOMS;
 use words::WORD_BITS;
 
-// How many ledgers a script has, and the rows that each has room for.
+// How many ledgers a script has, and the rows and the atoms that each has room for.
 pub const LEDGERS: u64 = 4;
 
 pub const ROWS: u64 = 512;
+
+pub const ATOMS: u64 = 200000;
 
 // The words of the slots and of the postings of one ledger.
 pub const SLOTS: usize = (ROWS as usize) * SLOT_WORDS;
@@ -39,10 +39,10 @@ pub const NAMES: usize = (LEDGERS as usize) * HEADER_WORDS;
 const TABLE: usize = NAMES + 5120;
 
 // The words of a list of a call: a set of atoms, and one more.
-const LIST: usize = (MAX_ATOMS / WORD_BITS) as usize + 1;
+const LIST: usize = (ATOMS / WORD_BITS) as usize + 1;
 
 // The words with a bit for each code.
-const LITERALS: usize = (2 * MAX_ATOMS / WORD_BITS) as usize;
+const LITERALS: usize = (2 * ATOMS / WORD_BITS) as usize;
 
 // The table, all zero.
 pub fn table() -> [u64; TABLE]
@@ -74,7 +74,7 @@ pub fn text() -> [u8; 524288]
 
 // A list of a call: a set of atoms, or codes, more than a row has.
 pub fn list() -> [u64; LIST]
-    ensures { λ r. ⌜ maxAtoms / wordBits + 1 ≡ length r ⌝ }
+    ensures { λ r. ⌜ roomAtoms / wordBits + 1 ≡ length r ⌝ }
 {
     [0; LIST]
 }
@@ -102,16 +102,16 @@ pub fn rows() -> [u64; ROWS as usize]
 
 // A bit for each code.
 pub fn literals() -> [u64; LITERALS]
-    ensures { λ r. ⌜ 2 * maxAtoms / wordBits ≡ length r ⌝ }
+    ensures { λ r. ⌜ 2 * roomAtoms / wordBits ≡ length r ⌝ }
 {
     [0; LITERALS]
 }
 
-// A word for each atom that there may be.
-pub fn decided() -> [u64; MAX_ATOMS as usize]
-    ensures { λ r. ⌜ maxAtoms ≡ length r ⌝ }
+// A word for each atom that a ledger has room for.
+pub fn decided() -> [u64; ATOMS as usize]
+    ensures { λ r. ⌜ roomAtoms ≡ length r ⌝ }
 {
-    [0; MAX_ATOMS as usize]
+    [0; ATOMS as usize]
 }
 
 // The slots of one ledger, copied out.

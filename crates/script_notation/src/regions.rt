@@ -3,6 +3,7 @@ ghost use Prim.Native.Nat.{_≤_};
 ghost use lib.ListN.{length};
 use crate::arguments::Lists;
 use crate::literals::CODES;
+use crate::memory::ATOMS;
 use crate::points::put_atom;
 use std::num::wrapping_add_u64;
 use text::Parsed;
@@ -15,7 +16,6 @@ use text::put_text;
 use text::value;
 use text::word;
 use words::Found;
-use words::MAX_ATOMS;
 use words::WORD_BITS;
 
 // A set that was read: the place after it, and whether every atom lies below its bound; `ok` is false for a word that is no list.
@@ -81,7 +81,7 @@ fn read_set(s: &[u8], at: usize, atoms: u64, words: &mut [u64]) -> Set {
 fn word_count(atoms: u64, words: &[u64], fit: bool) -> usize
     ensures { λ r. ⌜ r ≤ length (now (words .entry)) ⌝ }
 {
-    if MAX_ATOMS < atoms {
+    if ATOMS < atoms {
         return 0;
     }
     let n = ((atoms + (WORD_BITS - 1)) / WORD_BITS) as usize;

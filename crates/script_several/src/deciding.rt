@@ -1,4 +1,5 @@
-// `decide A ATOM VALUE HELD CUT`, VALUE 0 or 1: `decide ANSWER held=LIST cut=LIST`, ANSWER `True` or `False`.
+// `decide A ATOM VALUE HELD CUT`, VALUE 0 or 1: `decide ANSWER held=LIST cut=LIST`, ANSWER `True` or `False`. An error where the program has
+// no room for so many atoms; more than there can be are refused.
 use boundary::ledger_decide;
 use script_answers::put_case;
 use script_answers::put_refused;
@@ -8,6 +9,7 @@ use script_notation::regions::put_region;
 use script_notation::regions::read_region;
 use text::put_text;
 use wire::ANSWER_WORDS;
+use words::MAX_ATOMS;
 
 // The line.
 fn put_answer(
@@ -27,6 +29,11 @@ fn put_answer(
     put_region(out, to, atoms, held, cut, &held[0..0])
 }
 
+// Whether there is room for a region over so many atoms, or it is to be refused for their number.
+fn has_room(atoms: u64) -> bool {
+    atoms <= memory::ATOMS || MAX_ATOMS < atoms
+}
+
 pub fn decide(s: &[u8], at: usize, out: &mut [u8], to: usize) -> Said {
     let mut given = [0u64; 3];
     let mut held = memory::list();
@@ -34,7 +41,7 @@ pub fn decide(s: &[u8], at: usize, out: &mut [u8], to: usize) -> Said {
     let mut answer = [0u64; ANSWER_WORDS];
     let g = text::numbers(s, at, &mut given);
     let l = read_region(s, g.at, given[0], &mut held, &mut cut);
-    if !g.ok || !l.ok || 1 < given[2] {
+    if !g.ok || !l.ok || 1 < given[2] || !has_room(given[0]) {
         return Said::Error;
     }
     let a = l.first;

@@ -8,10 +8,12 @@ use script_answers::put_call;
 use script_answers::put_head;
 use script_answers::put_refused;
 use script_notation::calls::Said;
+use script_notation::memory::ATOMS;
 use script_notation::places::Place;
 use script_notation::places::keep;
 use script_notation::places::place_for;
 use wire::ANSWER_WORDS;
+use wire::HEAD_ATOMS_AT;
 use wire::HEAD_TIER_ROWS_AT;
 use wire::HEADER_WORDS;
 use wire::LIMITS_WORDS;
@@ -19,12 +21,15 @@ use wire::LIMITS_WORDS;
 // Where the number stands in a line: behind the ledger and its limits.
 const NUMBER_AT: usize = LIMITS_WORDS + 1;
 
-// The rows to find room for: one where the limits are to be refused.
+// The rows to find room for: one where the limits are to be refused, none where there is no room for the atoms.
 fn rows_for(limits: &[u64; LIMITS_WORDS]) -> u64 {
-    if limits_ok(wire::limits_of(limits)) {
-        return limits[HEAD_TIER_ROWS_AT];
+    if !limits_ok(wire::limits_of(limits)) {
+        return 1;
     }
-    1
+    if ATOMS < limits[HEAD_ATOMS_AT] {
+        return 0;
+    }
+    limits[HEAD_TIER_ROWS_AT]
 }
 
 // Makes the ledger in its place. The refusal, or 0.

@@ -17,8 +17,8 @@ use Rattle.model.specs.Slots.{groupWords, ifPacked, body, slotOf, rowIn, entryI
 use Rattle.model.proofs.Packing.{Asc, words-length}
 use Rattle.model.proofs.Slots.{valid-of, packed-some, body-scalar, body-packed, body-groups, flag-of}
 use Rattle.slots.specs.declared.Side.{Side}
-use Rattle.slots.specs.Cursor.{literalsAt, Sound}
-use Rattle.slots.specs.Layout.{conditionSide, outputSide, Counted, Laid, Stored}
+use Rattle.slots.specs.Cursor.{literalsAt, SoundWide}
+use Rattle.slots.specs.Layout.{conditionSide, outputSide, Counted, Laid, LaidWide, StoredWide}
 use Rattle.slots.proofs.Laying.{row-scalar, row-packed, if-scalar, if-packed, laid-scalar}
 use Rattle.slots.proofs.Words.{bits-lt}
 use Rattle.slots.proofs.Sides.{condition-packed, output-packed}
@@ -199,7 +199,7 @@ slot-of-packed ws f = slot-is ws (groupLength * getD ws totalGroupsAt 0) (record
 })
 
 -- ---- a stored slot has that form
-canonical-side : (n : ℕ) (ws : List ℕ) (s : Side) (cs : List ℕ) → Asc 0 cs → Sound ws s → Grouped n ws s (groups cs)
+canonical-side : {w : ℕ} (n : ℕ) (ws : List ℕ) (s : Side) (cs : List ℕ) → Asc 0 cs → SoundWide w ws s → Grouped n ws s (groups cs)
     → Canonical ws (s .base) (s .count)
 canonical-side n ws s cs a sound g = record {
   whole = sound .whole (g .form);
@@ -218,8 +218,8 @@ canonical-side n ws s cs a sound g = record {
     within : {i : ℕ} → i < s .count → i < length (groups cs)
     within l = let c = g .count in omega arith
 
-module _ (n : ℕ) (ws : List ℕ) (s : Stored n ws) where
-  laid : Laid ws
+module _ {w : ℕ} (n : ℕ) (ws : List ℕ) (s : StoredWide w n ws) where
+  laid : LaidWide w ws
   laid = laid-stored n ws s
 
   unused : Unused ws (bodyAt + length (body (rowIn ws)))

@@ -11,7 +11,7 @@ use lib.Pow.{pow-pos}
 use Rattle.lists.specs.Lists.{concat, all, below}
 use Rattle.words.specs.Bit.{wordBits}
 use Rattle.words.specs.Literal.{atom, isPresent, wordOf, bitOf}
-use Rattle.words.specs.Region.{wordsFor, maxAtoms}
+use Rattle.words.specs.Region.{wordsFor}
 use Rattle.words.proofs.Masks.{or-ge, or-ge-l}
 use Rattle.model.specs.Records.{groupLength}
 use Rattle.model.specs.Rows.{enter, groups}
@@ -63,10 +63,6 @@ pub headed-index : (n : ℕ) (g : List ℕ) → Headed (2 * n) g → indexOf g <
 unfolding indexOf wordOf atom wordsFor
 headed-index n [] h = absurd h
 headed-index n (c ∷ cs) h = let a : c / 2 < n = omega arith in omega arith
-
-pub words-for-le : (n : ℕ) → n ≤ maxAtoms → wordsFor n ≤ maxAtoms / wordBits
-unfolding wordsFor
-words-for-le n h = omega arith
 
 pub headed-some : (t : ℕ) (g : List ℕ) → Headed t g → 0 < bitOr (bitsOf false g) (bitsOf true g)
 unfolding bitsOf

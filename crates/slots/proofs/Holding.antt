@@ -9,7 +9,7 @@ use Rattle.lists.specs.Lists.{all, pad}
 use Rattle.lists.proofs.Tests.{all-at, all-yes}
 use Rattle.lists.proofs.Concats.{Blocks, block-at}
 use Rattle.lists.proofs.Bools.{T-true, T-of}
-use Rattle.words.specs.Region.{maxAtoms}
+use Rattle.words.specs.Literal.{atomsWide}
 use Rattle.model.specs.declared.Header.{Header}
 use Rattle.model.specs.Records.{Entry, isRow, slotWords, maxRows}
 use Rattle.model.specs.Slots.{slotOf, slotsOf, rowIn, entriesIn}
@@ -18,7 +18,7 @@ use Rattle.model.proofs.Slots.{Valid, AllValid, slot-length, decode-encode, ent
 use Rattle.model.proofs.Entries.{all-valid}
 use Rattle.model.proofs.Rows.{row-more}
 use Rattle.model.proofs.Accepting.{slots-length}
-use Rattle.slots.specs.Layout.{Stored, slotAt, tierOf, rowsIn, Held}
+use Rattle.slots.specs.Layout.{StoredWide, slotAt, tierOf, rowsIn, HeldWide}
 use Rattle.slots.specs.Standing.{Stands}
 use Rattle.slots.proofs.Storing.{stored-slot}
 use Rattle.slots.proofs.Rows.{row-at}
@@ -56,17 +56,17 @@ module _ (n tier : ℕ) (es : List Entry) (a : AllRows n es) (f : length es ≤ 
     pub entries-laid : entriesIn rows (slotsOf tier es) ≡ es
     entries-laid = ap (λ (k : ℕ). entriesIn k (slotsOf tier es)) c ∙ decode-encode tier es valid
 
-    stored-laid : n ≤ maxAtoms → (p : ℕ) → p < rows → Stored n (slotAt (slotsOf tier es) p)
-    stored-laid m p l =
+    stored-laid : (w : ℕ) → n ≤ atomsWide w → (p : ℕ) → p < rows → StoredWide w n (slotAt (slotsOf tier es) p)
+    stored-laid w m p l =
         let i : p < length es = omega arith in
-        subst (Stored n) (sym (slot-at tier p es no-entry valid i))
-        (stored-slot n (getD es p no-entry) (T-of (all-at (λ e. isRow n (e .row)) es p no-entry a i)) m)
+        subst (StoredWide w n) (sym (slot-at tier p es no-entry valid i))
+        (stored-slot w n (getD es p no-entry) (T-of (all-at (λ e. isRow n (e .row)) es p no-entry a i)) m)
 
-    pub held-laid : n ≤ maxAtoms → tier ≤ maxRows → Held n rows (slotsOf tier es)
-    held-laid m k =
+    pub held-laid : (w : ℕ) → n ≤ atomsWide w → tier ≤ maxRows → HeldWide w n rows (slotsOf tier es)
+    held-laid w m k =
         let l = slots-length tier es valid f in
         record {
-          over = record { atoms = m; few = omega arith; long = omega arith; stored = stored-laid m };
+          over = record { atoms = m; few = omega arith; long = omega arith; stored = stored-laid w m };
           most = let t = tier-laid in omega arith;
           same = ap₂ slotsOf tier-laid entries-laid;
         }
@@ -77,7 +77,7 @@ pub record Holding (rows : ℕ) (ws : List ℕ) : Type 0 where
   pub room : length (entriesIn rows ws) ≤ tierOf ws
   pub long : length ws ≡ slotWords * tierOf ws
 
-module _ {n : ℕ} (rows : ℕ) (ws : List ℕ) (k : Held n rows ws) where
+module _ {w n : ℕ} (rows : ℕ) (ws : List ℕ) (k : HeldWide w n rows ws) where
   pub held-few : rows ≤ tierOf ws
   held-few = let l = k .over .long in omega arith
 
@@ -102,7 +102,7 @@ module _ {n : ℕ} (rows : ℕ) (ws : List ℕ) (k : Held n rows ws) where
       }
 
   -- rows over n atoms are rows over more
-  pub held-more : (m : ℕ) → n ≤ m → m ≤ maxAtoms → Held m rows ws
+  pub held-more : (m : ℕ) → n ≤ m → m ≤ atomsWide w → HeldWide w m rows ws
   held-more m a b = record {
     over = record {
       atoms = b;

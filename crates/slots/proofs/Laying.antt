@@ -10,11 +10,11 @@ use lib.ListN.{length, getD, take, drop, length-drop}
 use lib.Seq.{drop-drop, length-take-le}
 use borrow.Author.Tests.{eq-eqb, ne-eqb}
 use Rattle.model.specs.Records.{Row, slotWords, conditionsAt, outputsAt, totalGroupsAt, conditionGroupsAt, bodyAt, groupLength}
-use Rattle.words.specs.Region.{maxWords}
+use Rattle.words.specs.Literal.{wordsWide}
 use Rattle.model.specs.Rows.{packed}
 use Rattle.model.specs.Slots.{ifPacked, rowIn, ungroup}
-use Rattle.slots.specs.Cursor.{literalsAt, listOf, Sound}
-use Rattle.slots.specs.Layout.{Counted, Laid, rowOf}
+use Rattle.slots.specs.Cursor.{literalsAt, listOf, SoundWide}
+use Rattle.slots.specs.Layout.{Counted, LaidWide, rowOf}
 use Rattle.slots.proofs.Sides.{scalar, grouped, condition-scalar, condition-packed, output-scalar, output-packed}
 
 -- ---- the row by the form
@@ -61,7 +61,7 @@ unfolding ifPacked
 if-packed r n k = ap (λ (b : Bool). elim b as (λ x. ℕ) [ true ↦ n | false ↦ 0 ]) k
 
 -- ---- scalar words within the limits
-sound-scalar : (ws : List ℕ) (b n : ℕ) → b + n ≤ length ws → Sound ws (scalar b n)
+sound-scalar : {w : ℕ} (ws : List ℕ) (b n : ℕ) → b + n ≤ length ws → SoundWide w ws (scalar b n)
 sound-scalar ws b n h = record {
   single = λ e. h;
   whole = λ e. absurd (false≢true e);
@@ -72,17 +72,17 @@ sound-scalar ws b n h = record {
 take-length : (ws : List ℕ) (b n : ℕ) → b + n ≤ length ws → length (take n (drop b ws)) ≡ n
 take-length ws b n h = length-take-le n (drop b ws) (omega (arith, length-drop b ws))
 
-pub laid-scalar : (ws : List ℕ) → length ws ≡ slotWords → Counted ws → getD ws totalGroupsAt 0 ≡ 0 → Laid ws
+pub laid-scalar : {w : ℕ} (ws : List ℕ) → length ws ≡ slotWords → Counted ws → getD ws totalGroupsAt 0 ≡ 0 → LaidWide w ws
 unfolding listOf literalsAt
-laid-scalar ws l c z =
+laid-scalar {w} ws l c z =
     let few = c .few in
     let most = c .most in
     let r = row-scalar ws z in
     record {
       long = l;
       counted = c;
-      first = subst (Sound ws) (sym (condition-scalar ws z)) (sound-scalar ws bodyAt (getD ws conditionsAt 0) (omega arith));
-      second = subst (Sound ws) (sym (output-scalar ws z))
+      first = subst (SoundWide w ws) (sym (condition-scalar ws z)) (sound-scalar ws bodyAt (getD ws conditionsAt 0) (omega arith));
+      second = subst (SoundWide w ws) (sym (output-scalar ws z))
           (sound-scalar ws (bodyAt + getD ws conditionsAt 0) (getD ws outputsAt 0) (omega arith));
       conditions = ap (listOf ws) (condition-scalar ws z) ∙ sym (ap (λ (k : Row). k .conditions) r);
       outputs = ap (listOf ws) (output-scalar ws z) ∙ sym (ap (λ (k : Row). k .outputs) r);
@@ -92,11 +92,11 @@ laid-scalar ws l c z =
     }
 
 -- ---- packed words whose groups have an index in range and some bit
-abbrev pub Filled : List ℕ → ℕ → Type 0
-Filled ws at = (getD ws at 0 < maxWords) × (0 < bitOr (getD ws (at + 2) 0) (getD ws (at + 1) 0))
+abbrev pub Filled : ℕ → List ℕ → ℕ → Type 0
+Filled w ws at = (getD ws at 0 < wordsWide w) × (0 < bitOr (getD ws (at + 2) 0) (getD ws (at + 1) 0))
 
-sound-grouped : (ws : List ℕ) (b n : ℕ) → b + groupLength * n ≤ length ws → ((g : ℕ) → g < n → Filled ws (b + groupLength * g))
-    → Sound ws (grouped b n)
+sound-grouped : {w : ℕ} (ws : List ℕ) (b n : ℕ) → b + groupLength * n ≤ length ws → ((g : ℕ) → g < n → Filled w ws (b + groupLength * g))
+    → SoundWide w ws (grouped b n)
 sound-grouped ws b n h f = record {
   single = λ e. absurd (true≢false e);
   whole = λ e. h;
@@ -104,25 +104,25 @@ sound-grouped ws b n h f = record {
   some = λ e g k. f g k .1;
 }
 
-pub laid-packed : (ws : List ℕ) → length ws ≡ slotWords → Counted ws → (getD ws totalGroupsAt 0 ≡ 0 → ⊥)
-    → ((g : ℕ) → g < getD ws totalGroupsAt 0 → Filled ws (bodyAt + groupLength * g))
-    → length (rowIn ws .conditions) ≡ getD ws conditionsAt 0 → length (rowIn ws .outputs) ≡ getD ws outputsAt 0 → Laid ws
+pub laid-packed : {w : ℕ} (ws : List ℕ) → length ws ≡ slotWords → Counted ws → (getD ws totalGroupsAt 0 ≡ 0 → ⊥)
+    → ((g : ℕ) → g < getD ws totalGroupsAt 0 → Filled w ws (bodyAt + groupLength * g))
+    → length (rowIn ws .conditions) ≡ getD ws conditionsAt 0 → length (rowIn ws .outputs) ≡ getD ws outputsAt 0 → LaidWide w ws
 unfolding listOf literalsAt
-laid-packed ws l c z f lc lo =
+laid-packed {w} ws l c z f lc lo =
     let parts = c .parts in
     let words = c .words in
     let r = row-packed ws z in
     record {
       long = l;
       counted = c;
-      first = subst (Sound ws) (sym (condition-packed ws z))
+      first = subst (SoundWide w ws) (sym (condition-packed ws z))
           (sound-grouped ws bodyAt (getD ws conditionGroupsAt 0) (omega arith) (λ g h. f g (omega arith)));
-      second = subst (Sound ws) (sym (output-packed ws z))
+      second = subst (SoundWide w ws) (sym (output-packed ws z))
           (sound-grouped ws (bodyAt + groupLength * getD ws conditionGroupsAt 0) (getD ws totalGroupsAt 0 - getD ws conditionGroupsAt 0)
           (omega arith)
           (λ g h. let e : bodyAt + groupLength * (getD ws conditionGroupsAt 0 + g)
           ≡ bodyAt + groupLength * getD ws conditionGroupsAt 0 + groupLength * g = omega arith in
-          subst (Filled ws) e (f (getD ws conditionGroupsAt 0 + g) (omega arith))));
+          subst (Filled w ws) e (f (getD ws conditionGroupsAt 0 + g) (omega arith))));
       conditions = ap (listOf ws) (condition-packed ws z) ∙ sym (ap (λ (k : Row). k .conditions) r);
       outputs = ap (listOf ws) (output-packed ws z) ∙ sym (ap (λ (k : Row). k .outputs) r);
       conditionCount = lc;

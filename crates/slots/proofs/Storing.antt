@@ -10,8 +10,9 @@ use lib.ListN.{length, getD, take, drop, replicate, length-append, length-replic
 use lib.Seq.{length-take-le, drop-drop, getD-drop, getD-take, getD-append-add, take-at, drop-at}
 use Rattle.lists.specs.Lists.{concat, pad, below, ascending}
 use Rattle.lists.proofs.Bools.{T-of}
-use Rattle.words.specs.Literal.{atom}
-use Rattle.words.specs.Region.{maxAtoms, wordsFor}
+use Rattle.words.specs.Literal.{atomsWide, atom}
+use Rattle.words.specs.Region.{wordsFor}
+use Rattle.words.proofs.Widths.{words-for-le}
 use Rattle.model.specs.Records.{Row, Entry, isRow, isRowOver, within, maxConditions, maxOutputs}
 use Rattle.model.specs.Records.{conditionsAt, outputsAt, totalGroupsAt, conditionGroupsAt, deliveredAt, bodyAt, groupLength, bodyWords}
 use Rattle.model.specs.Records.{slotWords}
@@ -21,10 +22,10 @@ use Rattle.model.proofs.Cover.{and-left, and-right}
 use Rattle.model.proofs.Packing.{Asc, Under, groups-fit}
 use Rattle.model.proofs.Slots.{Valid, valid-of, ascending-asc, packed-lt, packed-some, row-there, slot-length, entry-there, body-groups}
 use Rattle.slots.specs.declared.Side.{Side}
-use Rattle.slots.specs.Cursor.{literalsAt, listOf, Sound}
-use Rattle.slots.specs.Layout.{conditionSide, outputSide, Counted, Laid, Stored, proposal}
+use Rattle.slots.specs.Cursor.{literalsAt, listOf, SoundWide}
+use Rattle.slots.specs.Layout.{conditionSide, outputSide, Counted, LaidWide, StoredWide, proposal}
 use Rattle.slots.proofs.Groups.{Each, each-at, each-append, Headed, below-under, groups-headed, headed-index, headed-some}
-use Rattle.slots.proofs.Groups.{words-for-le, InWord, fits-codes, WordsAt, words-at}
+use Rattle.slots.proofs.Groups.{InWord, fits-codes, WordsAt, words-at}
 use Rattle.slots.proofs.Words.{Apart, groups-apart}
 use Rattle.slots.proofs.Laying.{laid-scalar, laid-packed, Filled, if-scalar, if-packed}
 use Rattle.slots.proofs.Sides.{grouped, condition-scalar, condition-packed, output-scalar, output-packed}
@@ -123,13 +124,13 @@ module _ (e : Entry) where
           ∙ ap (λ (l : List ℕ). getD l i 0) (slot-body k)
 
 -- ---- a row's slot is laid out
-filled-at : (n : ℕ) (ws : List ℕ) (at : ℕ) (g : List ℕ) → n ≤ maxAtoms → Headed (2 * n) g → WordsAt ws at g → Filled ws at
-filled-at n ws at g h k w = (
-  let i = headed-index n g k in let e = w .index in let m = words-for-le n h in omega arith,
-  subst (λ (x : ℕ). 0 < x) (sym (ap₂ (λ (x y : ℕ). bitOr x y) (w .absent) (w .present))) (headed-some (2 * n) g k),
+filled-at : (w n : ℕ) (ws : List ℕ) (at : ℕ) (g : List ℕ) → n ≤ atomsWide w → Headed (2 * n) g → WordsAt ws at g → Filled w ws at
+filled-at w n ws at g h k v = (
+  let i = headed-index n g k in let e = v .index in let m = words-for-le w n h in omega arith,
+  subst (λ (x : ℕ). 0 < x) (sym (ap₂ (λ (x y : ℕ). bitOr x y) (v .absent) (v .present))) (headed-some (2 * n) g k),
 )
 
-module _ (n : ℕ) (e : Entry) (ok : T (isRow n (e .row))) (small : n ≤ maxAtoms) where
+module _ (w n : ℕ) (e : Entry) (ok : T (isRow n (e .row))) (small : n ≤ atomsWide w) where
   abbrev cs : List (List ℕ)
   cs = groups (e .row .conditions)
 
@@ -145,7 +146,7 @@ module _ (n : ℕ) (e : Entry) (ok : T (isRow n (e .row))) (small : n ≤ maxAto
   headed-outputs : Each (Headed (2 * n)) os
   headed-outputs = groups-headed (2 * n) (e .row .outputs) (row-under n (e .row) ok .1)
 
-  pub laid-slot : Laid (slotOf e)
+  pub laid-slot : LaidWide w (slotOf e)
   laid-slot = form (packed (e .row)) refl
     where
       ws : List ℕ
@@ -157,12 +158,12 @@ module _ (n : ℕ) (e : Entry) (ok : T (isRow n (e .row))) (small : n ≤ maxAto
       most : getD ws outputsAt 0 ≤ maxOutputs
       most = subst (λ (m : ℕ). m ≤ maxOutputs) (sym (slot-outputs e)) (valid .many)
 
-      form : (b : Bool) → packed (e .row) ≡ b → Laid ws
+      form : (b : Bool) → packed (e .row) ≡ b → LaidWide w ws
       form false k =
           let z = slot-scalar e k in
           let p : getD ws conditionGroupsAt 0 ≤ getD ws totalGroupsAt 0 = let x = z .0 in let y = z .1 in omega arith in
-          let w : groupLength * getD ws totalGroupsAt 0 ≤ bodyWords = let x = z .0 in omega arith in
-          laid-scalar ws (slot-length e valid) (record { few = few; most = most; parts = p; words = w }) (z .0)
+          let room : groupLength * getD ws totalGroupsAt 0 ≤ bodyWords = let x = z .0 in omega arith in
+          laid-scalar ws (slot-length e valid) (record { few = few; most = most; parts = p; words = room }) (z .0)
       form true k =
           let z = slot-packed e k in
           let total = z .0 in
@@ -172,16 +173,16 @@ module _ (n : ℕ) (e : Entry) (ok : T (isRow n (e .row))) (small : n ≤ maxAto
           let a = valid .few in
           let b = valid .many in
           let p : getD ws conditionGroupsAt 0 ≤ getD ws totalGroupsAt 0 = omega arith in
-          let w : groupLength * getD ws totalGroupsAt 0 ≤ bodyWords = omega arith in
+          let room : groupLength * getD ws totalGroupsAt 0 ≤ bodyWords = omega arith in
           let l = length-append cs os in
-          laid-packed ws (slot-length e valid) (record { few = few; most = most; parts = p; words = w }) (λ q. omega arith)
-          (λ g h. filled-at n ws (bodyAt + groupLength * g) (getD (cs ++ os) g []) small
+          laid-packed ws (slot-length e valid) (record { few = few; most = most; parts = p; words = room }) (λ q. omega arith)
+          (λ g h. filled-at w n ws (bodyAt + groupLength * g) (getD (cs ++ os) g []) small
           (each-at (Headed (2 * n)) (cs ++ os) g (each-append (Headed (2 * n)) cs os headed-conditions headed-outputs) (omega arith))
           (slot-words e k g (omega arith)))
           (ap (λ (x : Row). length (x .conditions)) (row-there e valid) ∙ sym (slot-conditions e))
           (ap (λ (x : Row). length (x .outputs)) (row-there e valid) ∙ sym (slot-outputs e))
 
-  pub stored-slot : Stored n (slotOf e)
+  pub stored-slot : StoredWide w n (slotOf e)
   stored-slot = record {
     atoms = small;
     row = subst (λ (x : Row). T (isRow n x)) (sym (row-there e valid)) ok;
@@ -215,18 +216,18 @@ grouped-of n ws b k gs e i h w = record {
 }
 
 -- ---- a slot that a ledger holds
-module _ (n : ℕ) (e : Entry) (ok : T (isRow n (e .row))) (small : n ≤ maxAtoms) where
+module _ (n : ℕ) (e : Entry) (ok : T (isRow n (e .row))) where
   slot-grouped : packed (e .row) ≡ true
       → Grouped n (slotOf e) (conditionSide (slotOf e)) (groups (e .row .conditions))
       × Grouped n (slotOf e) (outputSide (slotOf e)) (groups (e .row .outputs))
   slot-grouped k = (
     subst (λ (s : Side). Grouped n ws s cs) (sym (condition-packed ws some))
         (grouped-of n ws bodyAt (getD ws conditionGroupsAt 0) cs part (fits-codes 0 cs (groups-fit 0 (e .row .conditions) (v .conditions)))
-        (headed-conditions n e ok small) first),
+        (groups-headed (2 * n) (e .row .conditions) (row-under n (e .row) ok .0)) first),
     subst (λ (s : Side). Grouped n ws s os) (sym (output-packed ws some))
         (grouped-of n ws (bodyAt + groupLength * getD ws conditionGroupsAt 0) (getD ws totalGroupsAt 0 - getD ws conditionGroupsAt 0) os
         rest (fits-codes 0 os (groups-fit 0 (e .row .outputs) (v .outputs)))
-        (headed-outputs n e ok small) second),
+        (groups-headed (2 * n) (e .row .outputs) (row-under n (e .row) ok .1)) second),
   )
     where
       ws : List ℕ
@@ -276,17 +277,17 @@ module _ (n : ℕ) (e : Entry) (ok : T (isRow n (e .row))) (small : n ≤ maxAto
           let z = slot-scalar e k .0 in
           (ap (λ (s : Side). s .packed) (condition-scalar (slotOf e) z), ap (λ (s : Side). s .packed) (output-scalar (slotOf e) z))
 
-module _ (n : ℕ) (ws : List ℕ) (s : Stored n ws) where
-  pub laid-stored : Laid ws
+module _ {w : ℕ} (n : ℕ) (ws : List ℕ) (s : StoredWide w n ws) where
+  pub laid-stored : LaidWide w ws
   unfolding entryIn
-  laid-stored = subst Laid (s .same) (laid-slot n (entryIn ws) (s .row) (s .atoms))
+  laid-stored = subst (LaidWide w) (s .same) (laid-slot w n (entryIn ws) (s .row) (s .atoms))
 
   -- the form of both sides is that of `prepare`
   pub form-stored : (conditionSide ws .packed ≡ packed (rowIn ws)) × (outputSide ws .packed ≡ packed (rowIn ws))
   unfolding entryIn
   form-stored =
       subst (λ (l : List ℕ). (conditionSide l .packed ≡ packed (rowIn ws)) × (outputSide l .packed ≡ packed (rowIn ws))) (s .same)
-      (slot-form n (entryIn ws) (s .row) (s .atoms))
+      (slot-form n (entryIn ws) (s .row))
 
   pub grouped-stored : packed (rowIn ws) ≡ true
       → Grouped n ws (conditionSide ws) (groups (rowIn ws .conditions)) × Grouped n ws (outputSide ws) (groups (rowIn ws .outputs))
@@ -294,15 +295,15 @@ module _ (n : ℕ) (ws : List ℕ) (s : Stored n ws) where
   grouped-stored k =
       subst (λ (l : List ℕ). Grouped n l (conditionSide l) (groups (rowIn ws .conditions))
       × Grouped n l (outputSide l) (groups (rowIn ws .outputs))) (s .same)
-      (slot-grouped n (entryIn ws) (s .row) (s .atoms) k)
+      (slot-grouped n (entryIn ws) (s .row) k)
 
   -- no atom of a group of conditions has both signs
   pub conditions-apart : packed (rowIn ws) ≡ true → (g : ℕ) → g < length (groups (rowIn ws .conditions))
       → bitAnd (getD ws (conditionSide ws .base + groupLength * g + 1) 0) (getD ws (conditionSide ws .base + groupLength * g + 2) 0) ≡ 0
   conditions-apart k g l =
-      let w = grouped-stored k .0 .words g l in
+      let here = grouped-stored k .0 .words g l in
       let v = valid-of n (rowIn ws) (s .row) in
-      ap₂ bitAnd (w .present) (w .absent)
+      ap₂ bitAnd (here .present) (here .absent)
       ∙ each-at Apart (groups (rowIn ws .conditions)) g
       (groups-apart (rowIn ws .conditions) (v .conditions) (row-atoms n (rowIn ws) (s .row))) l
 
@@ -311,7 +312,7 @@ pub record Singles (ws : List ℕ) (s : Side) (cs : List ℕ) : Type 0 where
   pub count : s .count ≡ length cs
   pub code : (i : ℕ) → i < length cs → getD ws (s .base + i) 0 ≡ getD cs i 0
 
-pub singles : (ws : List ℕ) (s : Side) → Sound ws s → s .packed ≡ false → Singles ws s (listOf ws s)
+pub singles : {w : ℕ} (ws : List ℕ) (s : Side) → SoundWide w ws s → s .packed ≡ false → Singles ws s (listOf ws s)
 unfolding listOf literalsAt
 singles ws s sound k = subst (λ (b : Bool). Singles ws s (literalsAt b ws (s .base) (s .count))) (sym k) here
   where
@@ -350,7 +351,7 @@ proposal-length r v =
       length-replicate {A = ℕ} (slotWords - n) 0,
     )
 
-pub laid-proposal : (r : Row) → Valid r → Laid (proposal r)
+pub laid-proposal : {w : ℕ} (r : Row) → Valid r → LaidWide w (proposal r)
 unfolding proposal pad
 laid-proposal r v = laid-scalar (proposal r) (proposal-length r v) counts zero-groups
   where

@@ -9,8 +9,7 @@ use lib.Bits.{bitOr}
 use lib.ListN.{length, getD, take, drop}
 use Rattle.lists.specs.Lists.{select, range}
 use Rattle.words.specs.Bit.{testBit}
-use Rattle.words.specs.Literal.{atom, isPresent, bitOf}
-use Rattle.words.specs.Region.{maxWords}
+use Rattle.words.specs.Literal.{codeBits, wordsWide, atom, isPresent, bitOf}
 use Rattle.model.specs.Records.{groupLength}
 use Rattle.model.specs.Slots.{codesOf, ungroup}
 use Rattle.slots.specs.declared.Side.{Side}
@@ -48,16 +47,19 @@ abbrev pub given : List ℕ → Side → Step → List ℕ
 given ws s (Literal k c) = k ∷ rest ws s c
 given ws s End = []
 
--- the side lies within the slot, and each group has an index in range and some bit
-pub record Sound (ws : List ℕ) (s : Side) : Type 0 where
+-- the side lies within the slot, and each group has the index of a word of atoms with codes of w bits, and some bit
+pub record SoundWide (w : ℕ) (ws : List ℕ) (s : Side) : Type 0 where
   pub single : s .packed ≡ false → s .base + s .count ≤ length ws
   pub whole : s .packed ≡ true → s .base + groupLength * s .count ≤ length ws
-  pub small : s .packed ≡ true → (g : ℕ) → g < s .count → getD ws (s .base + groupLength * g) 0 < maxWords
+  pub small : s .packed ≡ true → (g : ℕ) → g < s .count → getD ws (s .base + groupLength * g) 0 < wordsWide w
   pub some : s .packed ≡ true → (g : ℕ) → g < s .count
       → 0 < bitOr (getD ws (s .base + groupLength * g + 2) 0) (getD ws (s .base + groupLength * g + 1) 0)
 
+abbrev pub Sound : List ℕ → Side → Type 0
+Sound ws s = SoundWide codeBits ws s
+
 abbrev pub Placed : Side → Cursor → Type 0
-Placed s c = (c .next ≤ s .count) × (c .word < maxWords)
+Placed s c = (c .next ≤ s .count) × (c .word < wordsWide codeBits)
 
 abbrev pub PlacedStep : Side → Step → Type 0
 PlacedStep s (Literal k c) = Placed s c

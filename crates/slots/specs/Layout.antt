@@ -7,12 +7,12 @@ use Prim.Native.Nat.{ℕ, _+_, _-_, _*_, _/_, _≤_, _<_}
 use lib.Dec.{T, eqb}
 use lib.ListN.{length, getD, take, drop}
 use Rattle.lists.specs.Lists.{pad}
-use Rattle.words.specs.Region.{maxAtoms}
+use Rattle.words.specs.Literal.{codeBits, atomsWide}
 use Rattle.model.specs.Records.{Row, isRow, slotWords, maxRows, maxConditions, maxOutputs, conditionsAt, outputsAt, totalGroupsAt}
 use Rattle.model.specs.Records.{conditionGroupsAt, bodyAt, groupLength, bodyWords}
 use Rattle.model.specs.Slots.{slotOf, slotsOf, rowIn, entryIn, entriesIn}
 use Rattle.slots.specs.declared.Side.{Side}
-use Rattle.slots.specs.Cursor.{listOf, Sound}
+use Rattle.slots.specs.Cursor.{listOf, SoundWide}
 
 unfoldable pub conditionSide : List ℕ → Side
 conditionSide ws =
@@ -39,22 +39,28 @@ pub record Counted (ws : List ℕ) : Type 0 where
   pub parts : getD ws conditionGroupsAt 0 ≤ getD ws totalGroupsAt 0
   pub words : groupLength * getD ws totalGroupsAt 0 ≤ bodyWords
 
--- the words of a slot that hold a row, in either form, as `prepare` leaves it or as a scalar proposal
-pub record Laid (ws : List ℕ) : Type 0 where
+-- the words of a slot that hold a row of codes of w bits, in either form, as `prepare` leaves it or as a scalar proposal
+pub record LaidWide (w : ℕ) (ws : List ℕ) : Type 0 where
   pub long : length ws ≡ slotWords
   pub counted : Counted ws
-  pub first : Sound ws (conditionSide ws)
-  pub second : Sound ws (outputSide ws)
+  pub first : SoundWide w ws (conditionSide ws)
+  pub second : SoundWide w ws (outputSide ws)
   pub conditions : listOf ws (conditionSide ws) ≡ rowIn ws .conditions
   pub outputs : listOf ws (outputSide ws) ≡ rowIn ws .outputs
   pub conditionCount : length (rowIn ws .conditions) ≡ getD ws conditionsAt 0
   pub outputCount : length (rowIn ws .outputs) ≡ getD ws outputsAt 0
 
--- words that are the slot of a row over n atoms: what a ledger that was accepted holds
-pub record Stored (n : ℕ) (ws : List ℕ) : Type 0 where
-  pub atoms : n ≤ maxAtoms
+abbrev pub Laid : List ℕ → Type 0
+Laid ws = LaidWide codeBits ws
+
+-- words that are the slot of a row over n atoms, with codes of w bits: what a ledger that was accepted holds
+pub record StoredWide (w n : ℕ) (ws : List ℕ) : Type 0 where
+  pub atoms : n ≤ atomsWide w
   pub row : T (isRow n (rowIn ws))
   pub same : slotOf (entryIn ws) ≡ ws
+
+abbrev pub Stored : ℕ → List ℕ → Type 0
+Stored n ws = StoredWide codeBits n ws
 
 -- the row of two lists of codes
 abbrev pub rowOf : List ℕ → List ℕ → Row
@@ -82,18 +88,24 @@ pub record Holds (ws : List ℕ) : Type 0 where
   pub atoms : ℕ
   pub stored : Stored atoms ws
 
--- the first slots: rows over n atoms
-pub record RowsOver (n rows : ℕ) (ws : List ℕ) : Type 0 where
-  pub atoms : n ≤ maxAtoms
+-- the first slots: rows over n atoms, with codes of w bits
+pub record RowsWide (w n rows : ℕ) (ws : List ℕ) : Type 0 where
+  pub atoms : n ≤ atomsWide w
   pub few : rows ≤ maxRows
   pub long : slotWords * rows ≤ length ws
-  pub stored : (p : ℕ) → p < rows → Stored n (slotAt ws p)
+  pub stored : (p : ℕ) → p < rows → StoredWide w n (slotAt ws p)
 
--- all slots of a tier: rows over n atoms in the first, and nothing else
-pub record Held (n rows : ℕ) (ws : List ℕ) : Type 0 where
-  pub over : RowsOver n rows ws
+abbrev pub RowsOver : ℕ → ℕ → List ℕ → Type 0
+RowsOver n rows ws = RowsWide codeBits n rows ws
+
+-- all slots of a tier: such rows in the first, and nothing else
+pub record HeldWide (w n rows : ℕ) (ws : List ℕ) : Type 0 where
+  pub over : RowsWide w n rows ws
   pub most : tierOf ws ≤ maxRows
   pub same : slotsOf (tierOf ws) (entriesIn rows ws) ≡ ws
+
+abbrev pub Held : ℕ → ℕ → List ℕ → Type 0
+Held n rows ws = HeldWide codeBits n rows ws
 
 -- the first slots: rows over some number of atoms
 pub record Rows (rows : ℕ) (ws : List ℕ) : Type 0 where

@@ -5,7 +5,7 @@ ghost use Prim.Native.Nat.{_<_, _≤_};
 ghost use lib.Bits.{bitOr};
 ghost use lib.ListN.{length};
 ghost use Rattle.model.specs.Records.{bodyAt};
-ghost use Rattle.words.specs.Region.{maxWords};
+ghost use Rattle.words.specs.Literal.{codeBits, wordsWide};
 ghost use Rattle.model.specs.Slots.{codesOf};
 ghost use Rattle.slots.specs.Cursor.{begin, rest, given, Sound, Placed, PlacedStep, TakenFrom};
 ghost use Rattle.slots.specs.Layout.{conditionSide, outputSide, Counted};
@@ -47,7 +47,7 @@ pub struct Pending {
 
 // The first literal of a group that has one: trailing zeros of the joined masks give its atom, and of two signs absent is first.
 pub fn take(word: u64, present: u64, absent: u64) -> Pending
-    requires { ⌜ word < maxWords ⌝ ∗ ⌜ 0 < bitOr absent present ⌝ }
+    requires { ⌜ word < wordsWide codeBits ⌝ ∗ ⌜ 0 < bitOr absent present ⌝ }
     ensures { λ r. ⌜ codesOf word present absent ≡ r .code ∷ codesOf word (r .present) (r .absent) ⌝ }
 {
     let t = u64::trailing_zeros(absent | present) as u64;
@@ -81,7 +81,7 @@ pub fn start() -> Cursor
 
 // The next literal of the group that was begun, which has one.
 fn taken(c: Cursor) -> Step
-    requires { ⌜ c .word < maxWords ⌝ ∗ ⌜ 0 < bitOr (c .absent) (c .present) ⌝ }
+    requires { ⌜ c .word < wordsWide codeBits ⌝ ∗ ⌜ 0 < bitOr (c .absent) (c .present) ⌝ }
     ensures { λ r. ⌜ TakenFrom c r ⌝ }
 {
     let p = take(c.word, c.present, c.absent);

@@ -71,18 +71,18 @@ flag-small false = zero-le
 abbrev groupsOf : Row → ℕ
 groupsOf r = length (groups (r .conditions)) + length (groups (r .outputs))
 
-abbrev codesIn : Row → ℕ
-codesIn r = length (r .conditions) + length (r .outputs)
+abbrev codesWide : Row → ℕ
+codesWide r = length (r .conditions) + length (r .outputs)
 
-form-scalar : (r : Row) → packed r ≡ false → 2 * codesIn r ≤ 3 * groupsOf r
+form-scalar : (r : Row) → packed r ≡ false → 2 * codesWide r ≤ 3 * groupsOf r
 unfolding packed groupCount literals
-form-scalar r e = ltb-false (3 * groupsOf r) (2 * codesIn r) e
+form-scalar r e = ltb-false (3 * groupsOf r) (2 * codesWide r) e
 
-form-packed : (r : Row) → packed r ≡ true → 3 * groupsOf r < 2 * codesIn r
+form-packed : (r : Row) → packed r ≡ true → 3 * groupsOf r < 2 * codesWide r
 unfolding packed groupCount literals
-form-packed r e = ltb-true (3 * groupsOf r) (2 * codesIn r) e
+form-packed r e = ltb-true (3 * groupsOf r) (2 * codesWide r) e
 
-some-groups : (r : Row) → 3 * groupsOf r < 2 * codesIn r → groupsOf r ≡ 0 → ⊥
+some-groups : (r : Row) → 3 * groupsOf r < 2 * codesWide r → groupsOf r ≡ 0 → ⊥
 some-groups r h e =
     let c : length (groups (r .conditions)) ≡ 0 = omega arith in
     let o : length (groups (r .outputs)) ≡ 0 = omega arith in
@@ -276,13 +276,13 @@ tail-is : (r : Row) (b : List ℕ) → body r ≡ b → tail r ≡ b ++ replicat
 unfolding tail
 tail-is r b e = ap (λ (l : List ℕ). l ++ replicate (bodyWords - length l) 0) e
 
-scalar-form : (r : Row) → 2 * codesIn r ≤ 3 * groupsOf r → packed r ≡ false
+scalar-form : (r : Row) → 2 * codesWide r ≤ 3 * groupsOf r → packed r ≡ false
 unfolding packed groupCount literals
-scalar-form r h = le-ltb (3 * groupsOf r) (2 * codesIn r) h
+scalar-form r h = le-ltb (3 * groupsOf r) (2 * codesWide r) h
 
-packed-form : (r : Row) → 3 * groupsOf r < 2 * codesIn r → packed r ≡ true
+packed-form : (r : Row) → 3 * groupsOf r < 2 * codesWide r → packed r ≡ true
 unfolding packed groupCount literals
-packed-form r h = lt-ltb (3 * groupsOf r) (2 * codesIn r) h
+packed-form r h = lt-ltb (3 * groupsOf r) (2 * codesWide r) h
 
 abbrev scalarRow : List ℕ → Row
 scalarRow ws =

@@ -6,6 +6,7 @@ use Prim.Native.Nat.{ℕ, max, _≤_}
 use native.Mathlib.Omega.{arith}
 use lib.ListN.{getD}
 use Rattle.lists.proofs.Bools.{T-true}
+use Rattle.words.specs.Region.{maxAtoms}
 use Rattle.meter.specs.declared.Meter.{Meter}
 use Rattle.meter.specs.declared.Account.{Account}
 use Rattle.meter.specs.declared.Read.{Read}
@@ -49,9 +50,9 @@ module _ (n : ℕ) (row : List ℕ) (s : Stored n row) (p : List ℕ) (q : p ≡
   proposal-row : rowIn p ≡ rowIn row
   proposal-row = ap rowIn q ∙ row-proposal (rowIn row)
 
-  pub literals-proposed : Proposed p
-  literals-proposed =
-      subst Proposed (sym q) (proposed-over n (rowIn row) (s .atoms) (T-true (isRow n (rowIn row)) (s .row)))
+  pub literals-proposed : n ≤ maxAtoms → Proposed p
+  literals-proposed l =
+      subst Proposed (sym q) (proposed-over n (rowIn row) l (T-true (isRow n (rowIn row)) (s .row)))
 
   pub literals-row : isRow n (rowIn p) ≡ true
   literals-row = ap (isRow n) proposal-row ∙ T-true (isRow n (rowIn row)) (s .row)

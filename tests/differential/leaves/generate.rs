@@ -1,25 +1,33 @@
 //! Random cases. Atoms are few and close, or many and far apart; second rows, regions and cursors are made from the first
 //! row, so that every answer comes up.
 
+use oracle::literals::mask_words;
+
 use crate::case::{Case, Function, Row};
+use crate::far::{self, SPAN};
 use crate::random::Random;
 use crate::requires::{self, Place};
 use crate::rust;
 
-/// Numbers of atoms that are tried: tiny ones, both sides of a word's end, and the most.
-const ATOMS: [u64; 14] = [
-    1, 2, 3, 5, 9, 63, 64, 65, 128, 1000, 32_767, 32_768, 32_768, 32_768,
-];
+/// Numbers of atoms that are tried: tiny ones, both sides of a word's end. Those of `far` are tried as often.
+const ATOMS: [u64; 11] = [1, 2, 3, 5, 9, 63, 64, 65, 128, 1000, 32_767];
 
-/// Words of a mask over so many atoms.
-fn mask_words(atoms: u64) -> usize {
-    atoms.div_ceil(64) as usize
+/// A number of atoms.
+fn atoms(random: &mut Random) -> u64 {
+    if random.chance(1, 2) {
+        far::atoms(random)
+    } else {
+        random.pick(&ATOMS)
+    }
 }
 
-/// A pool of codes that lie together: all of a few words, or all over the atoms.
+/// A pool of codes that lie together: all of a few words, or all over the atoms; over many atoms also on both sides of a bound.
 fn pool(random: &mut Random, atoms: u64) -> Vec<u64> {
     let mut codes: Vec<u64> = Vec::new();
-    if random.chance(1, 2) {
+    if atoms > far::HALF && random.chance(1, 3) {
+        let pool = far::pool(random, atoms, false);
+        codes.extend(pool.iter().flat_map(|atom| [2 * atom, 2 * atom + 1]));
+    } else if random.chance(1, 2) {
         let spread = random.within(1, 90);
         codes.extend((0..spread).map(|_| random.below(2 * atoms)));
     } else {
@@ -227,7 +235,7 @@ fn words(random: &mut Random) -> Vec<u64> {
 
 /// A case of the function, with all it could want to pay.
 pub fn case(random: &mut Random, function: Function) -> Case {
-    let mut case = Case::new(function, random.pick(&ATOMS));
+    let mut case = Case::new(function, atoms(random));
     case.sharing = random.chance(1, 2);
     case.row = row(random, case.atoms);
     match function {
@@ -306,9 +314,12 @@ pub fn largest(words: u64) -> Row {
 
 /// The groups on both sides of the end of 8 bits.
 pub const GROUPS: [u64; 4] = [0, 255, 256, 511];
+/// The groups on both sides of 32,768 and of 65,536 atoms, that of atom 200,000, and the last.
+pub const FAR_GROUPS: [u64; 6] = [511, 512, 1_023, 1_024, 3_125, 16_383];
 
-/// Rows whose groups are these, each group with so many literals: two on either side, 256 apart; all four on both.
-pub fn far_groups(literals: u64) -> [Row; 2] {
+/// Rows whose groups are these, each group with so many literals: two on either side, 256 apart, and all four on both; the same with the
+/// groups of many atoms, where groups 512 apart hold codes with the same low 16 bits.
+pub fn far_groups(literals: u64) -> [Row; 4] {
     let codes = |groups: &[u64]| -> Vec<u64> {
         let atoms = groups
             .iter()
@@ -319,25 +330,31 @@ pub fn far_groups(literals: u64) -> [Row; 2] {
         conditions: codes(conditions),
         outputs: codes(outputs),
     };
-    [row(&[0, 256], &[255, 511]), row(&GROUPS, &GROUPS)]
+    [
+        row(&[0, 256], &[255, 511]),
+        row(&GROUPS, &GROUPS),
+        row(&[0, 512], &[511, 1_023]),
+        row(&FAR_GROUPS, &FAR_GROUPS),
+    ]
 }
 
 /// Breaks one thing of a case, where there is something to break: what it is called with may then be unfit.
 pub fn damage(random: &mut Random, case: &mut Case) {
     let odd = [case.atoms * 2, u64::MAX, random.word(), 1];
     let odd = random.pick(&odd);
+    let more = random.pick(&[SPAN, 1 << 32]);
     let row = if case.function.has_other() && random.chance(1, 2) {
         &mut case.other
     } else {
         &mut case.row
     };
-    match random.below(10) {
+    match random.below(11) {
         0 => row.conditions.push(odd),
         1 => row.outputs.push(odd),
         2 => row.outputs.reverse(),
         3 => row.conditions.insert(0, odd),
         4 => row.outputs.extend(0..65),
-        5 => case.atoms = random.pick(&[0, 32_769, u64::MAX, case.atoms / 2]),
+        5 => case.atoms = random.pick(&[0, far::TOO_MANY, u64::MAX, case.atoms / 2]),
         6 => case.held.push(0),
         7 => {
             let mask = if random.chance(1, 2) {
@@ -350,6 +367,11 @@ pub fn damage(random: &mut Random, case: &mut Case) {
             }
         }
         8 => case.cursor[random.below(4) as usize] ^= odd,
+        9 => row
+            .outputs
+            .last_mut()
+            .into_iter()
+            .for_each(|code| *code += more),
         _ => case.number = odd,
     }
     if case.function == Function::Includes {

@@ -8,6 +8,8 @@
 mod case;
 #[path = "../contradicted.rs"]
 mod contradicted;
+#[path = "../far.rs"]
+mod far;
 mod generate;
 mod library;
 #[path = "../../random.rs"]
@@ -24,6 +26,7 @@ mod verdict;
 use std::process::ExitCode;
 
 use case::{Case, End, Function, Row};
+use oracle::literals::{MOST_ATOMS, mask_words};
 use random::Random;
 use shapes::Counts;
 use verdict::verdict;
@@ -45,7 +48,7 @@ fn differs(case: &Case) -> bool {
 }
 
 impl Comparison {
-    fn compare(&mut self, case: &Case, shapes: u32) -> End {
+    fn compare(&mut self, case: &Case, shapes: u64) -> End {
         let expected = rust::run(case);
         self.counts.add(case, shapes, &expected);
         if expected != rattle::run(case) {
@@ -128,38 +131,58 @@ impl Comparison {
         }
     }
 
-    /// What random rows seldom have: the largest row, the empty one, groups on both sides of the end of 8 bits, and unions at the
-    /// greatest maximum and one over it.
+    /// A row with itself, over the most atoms.
+    fn alone(&mut self, random: &mut Random, function: Function, row: &Row) {
+        let mut case = Case::new(function, MOST_ATOMS);
+        case.row = row.clone();
+        case.other = row.clone();
+        if function.has_region() {
+            let words = mask_words(MOST_ATOMS);
+            (case.held, case.cut) = (vec![0; words], vec![0; words]);
+        }
+        if function == Function::Includes {
+            case.row.conditions.clear();
+            case.other.conditions.clear();
+        }
+        if function == Function::UnionOutputs {
+            case.number = 64;
+        }
+        self.sweep(random, case);
+    }
+
+    /// One atom too many, with words for it.
+    fn beyond(&mut self, function: Function) {
+        let mut case = Case::new(function, far::TOO_MANY);
+        if function.has_region() {
+            let words = mask_words(far::TOO_MANY);
+            (case.held, case.cut) = (vec![0; words], vec![0; words]);
+        }
+        self.compare(&case, shapes::of_case(&case));
+    }
+
+    /// What random rows seldom have: the largest row, the empty one, groups on both sides of the end of 8 bits and up to the last, and
+    /// unions at the greatest maximum and one over it.
     fn boundary(&mut self, random: &mut Random) {
         let largest = [1, 2, 40].map(generate::largest);
         let far = [1, 2, 4].map(generate::far_groups);
         let rows = largest.iter().chain(far.as_flattened());
-        for row in rows.chain(&[Row::default()]) {
-            for function in Function::ALL {
-                let mut case = Case::new(function, 32_768);
-                case.row = row.clone();
-                case.other = row.clone();
-                if function.has_region() {
-                    (case.held, case.cut) = (vec![0; 512], vec![0; 512]);
-                }
-                if function == Function::Includes {
-                    case.row.conditions.clear();
-                    case.other.conditions.clear();
-                }
-                if function == Function::UnionOutputs {
-                    case.number = 64;
-                }
-                self.sweep(random, case);
-            }
+        let fits = |row: &&Row| row.conditions.len() <= 16 && row.outputs.len() <= 64;
+        for row in rows.chain(&[Row::default()]).filter(fits) {
+            Function::ALL
+                .into_iter()
+                .for_each(|function| self.alone(random, function, row));
+        }
+        for function in Function::ALL {
+            self.beyond(function);
         }
         for over in [false, true] {
-            let mut case = Case::new(Function::UnionOutputs, 32_768);
+            let mut case = Case::new(Function::UnionOutputs, MOST_ATOMS);
             case.row = generate::largest(2);
             case.other = case.row.clone();
             case.row.outputs.truncate(40);
             case.other.outputs.drain(..20);
             if over {
-                case.other.outputs.push(60_000);
+                case.other.outputs.push(2 * MOST_ATOMS - 1);
             }
             case.number = 64;
             self.sweep(random, case);

@@ -1,8 +1,11 @@
 //! What occurred in the calls, counted; and what must occur.
 
+use oracle::literals::{MOST_ATOMS, is_row};
+
 use crate::case::{Answer, Case, End, Function, Row};
 use crate::contradicted;
-use crate::generate::GROUPS;
+use crate::far::{HALF, SPAN, TOO_MANY, alike, splits};
+use crate::generate::{FAR_GROUPS, GROUPS};
 use crate::rust;
 
 /// How a call ended. Inside: after its first tick.
@@ -85,6 +88,28 @@ const SHAPES: [&str; 19] = [
     "the sharing account",
 ];
 
+/// The shapes of rows over many atoms that must occur, in a fit call.
+const FAR_SHAPES: [&str; 7] = [
+    "a scalar row on both sides of 32,768",
+    "a packed row on both sides of 32,768",
+    "a scalar row on both sides of 65,536",
+    "a packed row on both sides of 65,536",
+    "groups 511, 512, 1,023, 1,024, 3,125 and 16,383",
+    "two codes of a row with the same low 16 bits",
+    "a row over 1,048,576 atoms",
+];
+
+/// The shapes of unfit calls that must occur.
+const UNFIT_SHAPES: [&str; 3] = [
+    "1,048,577 atoms, which are unfit",
+    "an unfit code whose low 16 bits are fit",
+    "an unfit code whose low 32 bits are fit",
+];
+
+/// All shapes, in the order of their bits.
+const ALL_SHAPES: usize =
+    SHAPES.len() + contradicted::SHAPES.len() + FAR_SHAPES.len() + UNFIT_SHAPES.len();
+
 /// The shapes of a row, in the order of `SHAPES`.
 fn of_row(row: &Row) -> [bool; 12] {
     let atoms = || {
@@ -128,9 +153,58 @@ fn united(row: &Row, other: &Row) -> u64 {
     outputs.len() as u64
 }
 
-/// The shapes of a case that has a row, and is fit: a bit for each of `SHAPES`, and behind them for each of those of Requires.
-pub fn of_case(case: &Case) -> u32 {
-    if !case.function.ticks() || rust::unfit(case).is_some() {
+/// The shapes of a row over many atoms.
+fn of_far(case: &Case) -> [bool; FAR_SHAPES.len()] {
+    let row = &case.row;
+    let codes = [&row.conditions[..], &row.outputs].concat();
+    let packed = !rust::form(row).groups.is_empty();
+    let (half, span) = (splits(&codes, HALF), splits(&codes, SPAN));
+    let has = |group: &u64| codes.iter().any(|code| code / 128 == *group);
+    [
+        half && !packed,
+        half && packed,
+        span && !packed,
+        span && packed,
+        FAR_GROUPS.iter().all(has),
+        alike(&codes),
+        case.atoms == MOST_ATOMS,
+    ]
+}
+
+/// The shapes of an unfit case.
+fn of_unfit(case: &Case) -> [bool; UNFIT_SHAPES.len()] {
+    let low = |bits: u64| {
+        let cut = |codes: &[u64]| -> Vec<u64> { codes.iter().map(|code| code % bits).collect() };
+        let row = |row: &Row| {
+            is_row(
+                case.atoms,
+                rust::MOST,
+                &cut(&row.conditions),
+                &cut(&row.outputs),
+            )
+        };
+        case.function.ticks() && rust::unfit(case) == Some(1) && row(&case.row) && row(&case.other)
+    };
+    let known = case.atoms <= MOST_ATOMS;
+    [
+        case.atoms == TOO_MANY,
+        known && low(SPAN),
+        known && low(1 << 32),
+    ]
+}
+
+/// A bit for each that was found.
+fn bits(found: impl IntoIterator<Item = bool>) -> u64 {
+    let found = found.into_iter().enumerate();
+    found.map(|(place, found)| u64::from(found) << place).sum()
+}
+
+/// The shapes of a case that has a row, and is fit, or of an unfit one: a bit for each of them.
+pub fn of_case(case: &Case) -> u64 {
+    if rust::unfit(case).is_some() {
+        return bits(of_unfit(case)) << (ALL_SHAPES - UNFIT_SHAPES.len());
+    }
+    if !case.function.ticks() {
         return 0;
     }
     let row = of_row(&case.row);
@@ -149,8 +223,7 @@ pub fn of_case(case: &Case) -> u32 {
         case.function.pays() && case.sharing,
     ];
     let found = row.into_iter().chain(more).chain(of_require(case));
-    let bits = found.enumerate();
-    bits.map(|(place, found)| u32::from(found) << place).sum()
+    bits(found.chain(of_far(case)))
 }
 
 /// The end of a call where nothing runs out.
@@ -180,15 +253,24 @@ fn passes_over(case: &Case) -> bool {
 }
 
 /// The counts: calls by function, by function and ending, and by shape.
-#[derive(Default)]
 pub struct Counts {
     calls: [u64; Function::ALL.len()],
     endings: [[u64; 7]; Function::ALL.len()],
-    shapes: [u64; SHAPES.len() + contradicted::SHAPES.len()],
+    shapes: [u64; ALL_SHAPES],
+}
+
+impl Default for Counts {
+    fn default() -> Self {
+        Self {
+            calls: Default::default(),
+            endings: Default::default(),
+            shapes: [0; ALL_SHAPES],
+        }
+    }
 }
 
 impl Counts {
-    pub fn add(&mut self, case: &Case, shapes: u32, end: &End) {
+    pub fn add(&mut self, case: &Case, shapes: u64, end: &End) {
         let function = case.function as usize;
         self.calls[function] += 1;
         let place = endings(case.function)
@@ -230,6 +312,7 @@ impl Counts {
         }
         println!("calls with");
         let names = SHAPES.iter().chain(&contradicted::SHAPES);
+        let names = names.chain(&FAR_SHAPES).chain(&UNFIT_SHAPES);
         for (name, count) in names.zip(&self.shapes) {
             println!("  {name:58}{count:9}");
             missing += usize::from(*count == 0);

@@ -33,8 +33,11 @@ pub struct Made {
     pub charge: u64,
     pub tier: Change,
     pub store: Change,
-    /// The atoms that it marked.
+    /// The atoms that it marked, and the greatest of them.
     pub decided: u32,
+    pub highest: Option<u64>,
+    /// The value of its answer.
+    pub value: u64,
     /// The hits that a closing counted.
     pub hits: u64,
     /// The Requires of a deduction or a closing.
@@ -87,7 +90,7 @@ impl World {
         let places = call.places();
         let before = (self.header(places.0), self.header(places.1));
         let given = End::lent(call, &self.ledgers);
-        let (marked, hits) = (given.marked(), self.hits(call));
+        let (before_marks, hits) = (given.marks(), self.hits(call));
         let told = told(call, &self.ledgers, &given);
         let Ended { answer, end } = rust::run(call, &mut self.ledgers)?;
         let mut lent = host::lend(call, &mut self.books, given)?;
@@ -101,12 +104,16 @@ impl World {
             .or_else(|| told_difference(call, &told, &end))
             .or_else(|| self.after(call, answer));
         let after = (self.header(places.0), self.header(places.1));
+        let [_, value, charge, _] = if end.result == 0 { end.answer } else { [0; 4] };
+        let decided = newly(&before_marks, &end.marks());
         Some(Made {
             answer,
-            charge: if end.result == 0 { end.answer[2] } else { 0 },
+            charge,
             tier: before.0.zip(after.0),
             store: before.1.zip(after.1),
-            decided: end.marked() - marked,
+            decided: decided.iter().map(|word| word.count_ones()).sum(),
+            highest: highest(&decided),
+            value,
             hits: self.hits(call).wrapping_sub(hits),
             told,
             difference,
@@ -160,6 +167,18 @@ impl World {
         let difference = head.or_else(|| if whole { inside() } else { None });
         difference.map(|text| format!("ledger {place}, {text}"))
     }
+}
+
+/// The marks that are new.
+fn newly(before: &[u64], after: &[u64]) -> Vec<u64> {
+    let words = before.iter().zip(after);
+    words.map(|(before, after)| after & !before).collect()
+}
+
+/// The greatest atom of a mask.
+fn highest(mask: &[u64]) -> Option<u64> {
+    let place = mask.iter().rposition(|&word| word != 0)?;
+    Some(64 * place as u64 + u64::from(mask[place].ilog2()))
 }
 
 /// What differs in the words lent besides ledgers.

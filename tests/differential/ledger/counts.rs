@@ -5,6 +5,7 @@ use oracle::{Answer, Header, Ledger};
 use crate::call::{Call, Meter};
 use crate::compare::{Made, World};
 use crate::contradicted;
+use crate::distant;
 use crate::told::{Require, Told};
 
 const OPERATIONS: usize = Call::NAMES.len();
@@ -159,8 +160,8 @@ const SHAPES: [&str; 57] = [
     "a tier that was delivered to",
 ];
 
-/// All shapes: those of Requires behind the others.
-const ALL_SHAPES: usize = SHAPES.len() + contradicted::SHAPES.len();
+/// All shapes: those of Requires and those of many atoms behind the others.
+const ALL_SHAPES: usize = SHAPES.len() + contradicted::SHAPES.len() + distant::SHAPES.len();
 
 /// The counts: by operation and ending, and by shape.
 pub struct Counts {
@@ -179,7 +180,8 @@ impl Default for Counts {
 
 /// The names of all shapes.
 fn shape_names() -> impl Iterator<Item = &'static str> {
-    SHAPES.into_iter().chain(contradicted::SHAPES)
+    let first = SHAPES.into_iter().chain(contradicted::SHAPES);
+    first.chain(distant::SHAPES)
 }
 
 /// The shapes of a call.
@@ -422,10 +424,14 @@ impl Counts {
         let place = ENDINGS[operation].iter().position(|other| *other == name);
         let place = place.unwrap_or_else(|| panic!("{} ends with {name}", Call::NAMES[operation]));
         self.endings[operation][place] += 1;
-        if matches!(made.answer, Answer::Refused(_)) {
-            return;
+        self.note(distant::shapes(call, world, made));
+        if !matches!(made.answer, Answer::Refused(_)) {
+            self.note(shapes(call, world, made));
         }
-        for shape in shapes(call, world, made) {
+    }
+
+    fn note(&mut self, shapes: Vec<&'static str>) {
+        for shape in shapes {
             let place = shape_names().position(|other| other == shape);
             self.shapes[place.expect("a shape that is listed")] += 1;
         }

@@ -71,10 +71,10 @@ impl End {
         }
     }
 
-    /// The atoms that the region marks.
-    pub fn marked(&self) -> u32 {
-        let words = self.region.held.iter().chain(&self.region.cut);
-        words.map(|word| word.count_ones()).sum()
+    /// The atoms that the region marks, held or cut.
+    pub fn marks(&self) -> Vec<u64> {
+        let words = self.region.held.iter().zip(&self.region.cut);
+        words.map(|(held, cut)| held | cut).collect()
     }
 
     /// The words of an answer that was charged so much; a refusal changes the result alone.

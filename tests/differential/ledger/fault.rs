@@ -2,6 +2,7 @@
 
 use crate::call::Call;
 use crate::end::Scratch;
+use crate::far::SPAN;
 use crate::host::Lent;
 use crate::layout::{ANSWER, HEAD, SLOT};
 use crate::told::{Require, Told};
@@ -14,6 +15,10 @@ pub enum Fault {
     Meter,
     /// A required literal has the wrong sign.
     Sign,
+    /// A required literal and an output have their low 16 bits alone.
+    Narrow,
+    /// So has the first code of a row that is stored.
+    Stored,
     /// The greatest contradicted output is named.
     Greatest,
     /// The atom of an output is named.
@@ -55,10 +60,12 @@ pub enum Fault {
 }
 
 impl Fault {
-    pub const ALL: [Self; 22] = [
+    pub const ALL: [Self; 24] = [
         Self::Ticks,
         Self::Meter,
         Self::Sign,
+        Self::Narrow,
+        Self::Stored,
         Self::Greatest,
         Self::Atom,
         Self::First,
@@ -93,6 +100,7 @@ impl Fault {
         match call {
             Call::Offer { .. } => self.alter_offer(head, lent),
             Call::Deduce { .. } if self == Self::Sign && answer[0] == 3 => answer[1] ^= 1,
+            Call::Deduce { .. } | Call::Next { .. } if self == Self::Narrow => answer[1] %= SPAN,
             Call::Hit { position, .. } if self == Self::Hits && *position > 0 => {
                 lent.tier.slots[SLOT * *position as usize + 4] += 1;
             }
@@ -126,6 +134,7 @@ impl Fault {
             Self::Meter if case == 4 => end.meter[0] -= 1,
             Self::Evicted => tier.head[17] = head[17],
             Self::Attempts if case == 2 => tier.head[14] = head[14],
+            Self::Stored if case == 5 => tier.slots[SLOT * value as usize + 8] %= SPAN,
             Self::Unused if case == 5 && value > 0 => {
                 let last = SLOT * (value as usize + 1) - 1;
                 tier.slots[last] = 1;

@@ -4,6 +4,7 @@ use oracle::literals::mask;
 use oracle::{Answer, Ledger, Limits, Masks};
 
 use crate::call::{Call, Field, Meter, PLACES, Region};
+use crate::far::{self, SPAN};
 use crate::parts;
 use crate::random::Random;
 
@@ -27,6 +28,20 @@ pub enum Kind {
     Wide,
     /// Tiers of 64 rows and more, so that there are postings.
     Many,
+    /// Tiers of 1 to 6 rows over 32,768 atoms and more, with rows on both sides of that.
+    Far,
+    /// The same with 64 rows and more.
+    FarMany,
+}
+
+impl Kind {
+    fn is_many(self) -> bool {
+        matches!(self, Self::Many | Self::FarMany)
+    }
+
+    fn is_far(self) -> bool {
+        matches!(self, Self::Far | Self::FarMany)
+    }
 }
 
 /// Chooses the calls of a script.
@@ -59,11 +74,18 @@ impl Author {
                 random.pick(&[100, 128, 130, 130, 4_096]),
                 random.within(40, 100),
             ),
+            Kind::Far => (far::atoms(&mut random), 0),
+            Kind::FarMany => (random.pick(&[SPAN, SPAN + 1, SPAN + 1, 200_001]), 0),
         };
-        let pool = parts::pool(&mut random, atoms, pool);
-        let (ledgers, wanted) = match kind {
-            Kind::Many => (2, random.pick(&[63, 64, 65, 66, 70, 80, 90])),
-            _ => (random.within(2, PLACES as u64) as usize, 0),
+        let pool = if kind.is_far() {
+            far::pool(&mut random, atoms, kind.is_many())
+        } else {
+            parts::pool(&mut random, atoms, pool)
+        };
+        let (ledgers, wanted) = if kind.is_many() {
+            (2, random.pick(&[63, 64, 65, 66, 70, 80, 90]))
+        } else {
+            (random.within(2, PLACES as u64) as usize, 0)
         };
         Self {
             random,
@@ -81,8 +103,8 @@ impl Author {
     pub fn length(&mut self) -> usize {
         let most = match self.kind {
             Kind::Tiny => self.random.within(20, 80),
-            Kind::Wide => self.random.within(10, 30),
-            Kind::Many => self.random.within(20, 50),
+            Kind::Wide | Kind::Far => self.random.within(10, 30),
+            Kind::Many | Kind::FarMany => self.random.within(20, 50),
         };
         most as usize
     }
@@ -119,9 +141,10 @@ impl Author {
         let place = self.place(ledgers);
         let ledger = ledgers[place].as_ref().expect("a ledger that is made");
         // With many rows searches and closings are what is looked for.
-        let weights = match self.kind {
-            Kind::Many => self.random.pick(&[(0, 99), (36, 45), (36, 45), (81, 90)]),
-            _ => (0, 99),
+        let weights = if self.kind.is_many() {
+            self.random.pick(&[(0, 99), (36, 45), (36, 45), (81, 90)])
+        } else {
+            (0, 99)
         };
         match self.random.within(weights.0, weights.1) {
             0..27 => self.offer(place, ledger),
@@ -154,7 +177,7 @@ impl Author {
     fn limits(&mut self) -> Limits {
         let random = &mut self.random;
         let tiny = random.within(1, 6);
-        let many = self.kind == Kind::Many && !random.chance(1, 30);
+        let many = self.kind.is_many() && !random.chance(1, 30);
         let tier_rows = if many {
             self.wanted as u64 + random.below(7)
         } else {
@@ -192,7 +215,7 @@ impl Author {
         let random = &mut self.random;
         if random.chance(1, 12) {
             match random.below(6) {
-                0 => limits.atoms = random.pick(&[0, 32_769, u64::MAX]),
+                0 => limits.atoms = random.pick(&[0, far::TOO_MANY, u64::MAX]),
                 1 => limits.tier_rows = random.pick(&[0, 4_097, u64::MAX]),
                 2 => limits.founded_conditions = random.pick(&[17, u64::MAX]),
                 3 => limits.founded_outputs = random.pick(&[65, u64::MAX]),
@@ -388,7 +411,7 @@ impl Author {
     fn decide(&mut self) -> Call {
         let random = &mut self.random;
         let atoms = if random.chance(1, 12) {
-            random.pick(&[0, 32_769, u64::MAX])
+            random.pick(&[0, far::TOO_MANY, u64::MAX])
         } else {
             self.atoms
         };

@@ -16,7 +16,10 @@ mod compare;
 #[path = "../contradicted.rs"]
 mod contradicted;
 mod counts;
+mod distant;
 mod end;
+#[path = "../far.rs"]
+mod far;
 mod fault;
 mod generate;
 mod host;

@@ -4,6 +4,7 @@
 use oracle::{Cursor, Ledger, Row};
 
 use crate::call::{Meter, Region};
+use crate::far::SPAN;
 use crate::random::Random;
 
 /// A row's conditions and outputs.
@@ -137,7 +138,7 @@ pub fn row(random: &mut Random, ledger: &Ledger, pool: &[u64]) -> Codes {
     (conditions, outputs)
 }
 
-/// What is no row any more, or may be none: turned, doubled, too long, with an unknown atom.
+/// What is no row any more, or may be none: turned, doubled, too long, with an unknown atom, with a code that is the same in its low bits.
 pub fn spoil(random: &mut Random, ledger: &Ledger, (conditions, outputs): &mut Codes) {
     let limits = ledger.limits();
     let list = if random.chance(1, 2) {
@@ -145,11 +146,15 @@ pub fn spoil(random: &mut Random, ledger: &Ledger, (conditions, outputs): &mut C
     } else {
         &mut *outputs
     };
-    match random.below(5) {
+    match random.below(6) {
         0 => list.reverse(),
         1 => list.extend(list.clone().last()),
         2 => list.push(2 * limits.atoms + random.below(2)),
-        3 => list.push(random.pick(&[u64::MAX, 1 << 32, 65_536, 131_072])),
+        3 => list.push(random.pick(&[u64::MAX, 1 << 32, SPAN, 2 * SPAN])),
+        4 => {
+            let more = random.pick(&[SPAN, 1 << 32]);
+            list.last_mut().into_iter().for_each(|code| *code += more);
+        }
         _ => {
             *conditions = (0..limits.founded_conditions + random.below(2))
                 .map(|atom| 2 * atom)

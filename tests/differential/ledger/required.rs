@@ -151,7 +151,7 @@ pub fn script(random: &mut Random) -> Vec<Call> {
     let mut calls = Vec::new();
     let atoms = random.pick(&requires::ATOMS);
     wide(random, atoms, &mut calls);
-    let atoms = random.pick(&[4, 64, 130, 32_768]);
+    let atoms = random.pick(&[4, 64, 130, 32_768, 65_537]);
     chain(random, atoms, &mut calls);
     late(random, atoms, &mut calls);
     calls

@@ -117,6 +117,8 @@ impl Comparison {
         let kind = match random.below(400) {
             0..12 => Kind::Many,
             12..28 => Kind::Wide,
+            28..36 => Kind::Far,
+            36..38 => Kind::FarMany,
             _ => Kind::Tiny,
         };
         let mut author = Author::new(Random(random.word()), kind, false);

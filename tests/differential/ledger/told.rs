@@ -171,11 +171,8 @@ fn is_region(atoms: u64, region: &Masks) -> bool {
 
 /// The atoms that one region decides and the other did not, ascending.
 fn decided_since(before: &Masks, after: &Masks) -> Vec<u64> {
-    let decides = |region: &Masks, atom: u64| {
-        let words = region.held[atom as usize / 64] | region.cut[atom as usize / 64];
-        words >> (atom % 64) & 1 == 1
-    };
-    (0..64 * after.held.len() as u64)
-        .filter(|&atom| decides(after, atom) && !decides(before, atom))
-        .collect()
+    let decided = |region: &Masks, word: usize| region.held[word] | region.cut[word];
+    let anew = |word: usize| decided(after, word) & !decided(before, word);
+    let words: Vec<u64> = (0..after.held.len()).map(anew).collect();
+    literals::atoms_of(&words)
 }

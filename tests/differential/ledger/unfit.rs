@@ -1,13 +1,14 @@
 //! Calls that are lent unfit words: refusals 1, 2 and 3, which the Rust has no counterpart of. What is refused, and by which number, is
 //! restated here from document 01; the call must leave every lent word as it was.
 
-use oracle::literals::is_row;
+use oracle::literals::{MOST_ATOMS, is_row, mask_words};
 use oracle::{Answer, Row};
 
 use crate::book::Book;
 use crate::call::{Call, Role, Slice, Wound};
 use crate::compare::{Made, World};
 use crate::end::{End, lengths};
+use crate::far::{SPAN, TOO_MANY};
 use crate::host::{self, Lent};
 use crate::layout::{self, POSTINGS, SLOT};
 use crate::random::Random;
@@ -49,6 +50,8 @@ pub fn step(world: &World, call: &Call, wounds: &[Wound]) -> Option<Made> {
         tier: None,
         store: None,
         decided: 0,
+        highest: None,
+        value: 0,
         hits: 0,
         told: Told::default(),
         difference,
@@ -112,7 +115,7 @@ fn refusal(call: &Call, lent: &Lent) -> Option<u64> {
         Call::Decide { atoms, .. } => {
             let words = atoms.div_ceil(64) as usize;
             let region = &lent.end.region;
-            let fits = (1..=32_768).contains(atoms)
+            let fits = (1..=MOST_ATOMS).contains(atoms)
                 && region.held.len() == words
                 && region.cut.len() == words;
             (!fits).then_some(6)
@@ -127,7 +130,7 @@ fn refusal(call: &Call, lent: &Lent) -> Option<u64> {
 /// 1, 2 or 3, of a ledger and the buffers of a call.
 fn ledger_refusal(book: &Book, buffers: bool) -> Option<u64> {
     let [atoms, tier_rows, conditions, outputs, ..] = book.head;
-    let in_range = (1..=32_768).contains(&atoms)
+    let in_range = (1..=MOST_ATOMS).contains(&atoms)
         && (1..=4_096).contains(&tier_rows)
         && conditions <= MOST.0
         && outputs <= MOST.1;
@@ -228,11 +231,7 @@ pub fn wound(random: &mut Random, call: &Call, world: &World) -> Wound {
             let lengths = (book.slots.len(), book.postings.len());
             length(random, call, role, lengths)
         }
-        4 => Wound::Word {
-            slice: Slice::Postings(role),
-            index: index(random, &book.postings),
-            word: random.pick(&[0, 1, 4_096, 4_097, u64::MAX]),
-        },
+        4 => posting(random, role, book),
         _ => slot_word(random, role, book),
     }
 }
@@ -241,11 +240,22 @@ pub fn wound(random: &mut Random, call: &Call, world: &World) -> Wound {
 fn slot_word(random: &mut Random, role: Role, book: &Book) -> Wound {
     let index = index(random, &book.slots);
     let (old, bit) = (book.slots[index], 1 << random.below(64));
-    let more = old.wrapping_add(1);
+    let more = old.wrapping_add(random.pick(&[1, SPAN, 1 << 32]));
     Wound::Word {
         slice: Slice::Slots(role),
         index,
         word: random.pick(&[0, 1, 2, 65, u64::MAX, old ^ 1, old ^ bit, more]),
+    }
+}
+
+/// Another posting. Every posting has 32 bits at most.
+fn posting(random: &mut Random, role: Role, book: &Book) -> Wound {
+    let index = index(random, &book.postings);
+    let more = book.postings[index].wrapping_add(1 << 32);
+    Wound::Word {
+        slice: Slice::Postings(role),
+        index,
+        word: random.pick(&[0, 1, 4_096, 4_097, u64::MAX, more]),
     }
 }
 
@@ -258,7 +268,7 @@ fn index(random: &mut Random, words: &[u64]) -> usize {
 /// A limit out of its range, or another that is in it.
 fn limit(random: &mut Random, role: Role) -> Wound {
     let (index, words) = random.pick(&[
-        (0, [0, 32_769, u64::MAX, 131]),
+        (0, [0, TOO_MANY, u64::MAX, 131]),
         (1, [0, 4_097, u64::MAX, 3]),
         (2, [17, u64::MAX, 1 << 32, 0]),
         (3, [65, u64::MAX, 1 << 40, 0]),
@@ -295,7 +305,7 @@ fn length(random: &mut Random, call: &Call, role: Role, lengths: (usize, usize))
     );
     let (slice, length) = match call {
         Call::Decide { atoms, .. } => {
-            let words = atoms.div_ceil(64).min(512) as usize;
+            let words = mask_words(*atoms.min(&MOST_ATOMS));
             random.pick(&[(Slice::Held, words), (Slice::Cut, words)])
         }
         Call::Make { limits, .. } => {

@@ -10,7 +10,7 @@ use zetesis_ferraris::regions::{
 };
 
 use crate::answer::Answer;
-use crate::literals::{MOST_ATOMS, code, codes, groups, is_region, is_row, literals};
+use crate::literals::{MOST_ATOMS, atoms_of, code, codes, groups, is_region, is_row, literals};
 
 /// The limits, in document 01's order.
 #[derive(Clone, Copy, Debug, PartialEq, Eq)]
@@ -571,14 +571,11 @@ fn mark(region: &mut Region, (atom, value): (usize, bool)) -> bool {
 /// The Rust's region with these words, which are a region.
 fn region_of(atoms: u64, masks: &Masks) -> Region {
     let mut region = Region::all_open(atoms as usize);
-    for atom in 0..atoms as usize {
-        let bit = |mask: &[u64]| mask[atom / 64] >> (atom % 64) & 1 == 1;
-        if bit(&masks.held) {
-            region.hold(atom);
-        }
-        if bit(&masks.cut) {
-            region.cut(atom);
-        }
+    for atom in atoms_of(&masks.held) {
+        region.hold(atom as usize);
+    }
+    for atom in atoms_of(&masks.cut) {
+        region.cut(atom as usize);
     }
     region
 }

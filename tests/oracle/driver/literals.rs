@@ -3,7 +3,7 @@
 use zetesis_ferraris::regions::Literal;
 
 /// The greatest number of atoms.
-pub const MOST_ATOMS: u64 = 32_768;
+pub const MOST_ATOMS: u64 = 1_048_576;
 
 /// The literal of a code: 2 * atom, plus 1 for present.
 pub fn literal(code: u64) -> Literal {
@@ -61,9 +61,9 @@ pub fn is_region(atoms: u64, held: &[u64], cut: &[u64]) -> bool {
 }
 
 /// The mask of a list of atoms. An atom at `atoms` or above makes it a word too long, and so no part of a region; with
-/// too many atoms there is no region, and no word is made.
+/// far too many atoms there is no region, and no word is made.
 pub fn mask(atoms: u64, list: &[u64]) -> Vec<u64> {
-    if atoms > MOST_ATOMS {
+    if atoms > 2 * MOST_ATOMS {
         return Vec::new();
     }
     let unfit = list.iter().any(|&atom| atom >= atoms);
@@ -76,7 +76,12 @@ pub fn mask(atoms: u64, list: &[u64]) -> Vec<u64> {
 
 /// The atoms of a mask, ascending.
 pub fn atoms_of(mask: &[u64]) -> Vec<u64> {
-    (0..mask.len() as u64 * 64)
-        .filter(|&atom| mask[atom as usize / 64] >> (atom % 64) & 1 == 1)
-        .collect()
+    let marked = mask.iter().enumerate().filter(|(_, word)| **word != 0);
+    let atoms = |(place, word): (usize, &u64)| {
+        let (first, word) = (64 * place as u64, *word);
+        (0..64)
+            .filter(move |bit| word >> bit & 1 == 1)
+            .map(move |bit| first + bit)
+    };
+    marked.flat_map(atoms).collect()
 }

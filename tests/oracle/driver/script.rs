@@ -6,12 +6,14 @@ use zetesis_ferraris::regions::Cursor;
 
 use crate::answer::Answer;
 use crate::ledger::{self, Closed, Done, Header, Ledger, Limits, Masks, Row};
-use crate::literals::{atoms_of, mask};
+use crate::literals::{MOST_ATOMS, atoms_of, mask};
 
 /// The number of ledgers of a script.
 const LEDGERS: usize = 4;
 /// The rows that each ledger of a script has room for.
 const ROOM: u64 = 512;
+/// The atoms that a script has room for.
+const ROOM_ATOMS: u64 = 200_000;
 
 /// The ledgers of a script.
 #[derive(Default)]
@@ -121,7 +123,7 @@ impl Script {
         let limits = limits(line)?;
         let number = line.number()?;
         line.end()?;
-        if limits.in_range() && limits.tier_rows > ROOM {
+        if limits.in_range() && (limits.tier_rows > ROOM || limits.atoms > ROOM_ATOMS) {
             return None;
         }
         put(out, format_args!("make {place} "));
@@ -322,6 +324,9 @@ fn decide(line: &mut Line<'_>, out: &mut String) -> Option<()> {
     };
     let (held, cut) = (line.list()?, line.list()?);
     line.end()?;
+    if atoms > ROOM_ATOMS && atoms <= MOST_ATOMS {
+        return None;
+    }
     let closed = ledger::decide(atoms, atom, value, masks(atoms, &held, &cut));
     put(out, format_args!("decide {}", closed.answer));
     match closed.answer {

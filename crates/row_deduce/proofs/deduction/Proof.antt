@@ -7,7 +7,8 @@ use native.Mathlib.Omega.{arith}
 use borrow.Author.Needs.{needs}
 use Rattle.lists.specs.Lists.{ascending}
 use Rattle.lists.proofs.Bools.{T-true}
-use Rattle.words.specs.Region.{Region, region, maxAtoms}
+use Rattle.words.specs.Literal.{codeBits, atomsWide}
+use Rattle.words.specs.Region.{Region, region}
 use Rattle.meter.specs.declared.Meter.{Meter}
 use Rattle.meter.specs.declared.Tick.the-variants.{Ticked}
 use Rattle.meter.specs.Meter.{tickOf}
@@ -98,7 +99,7 @@ concluded-requires c κs =
     = undecided-under (r k) (2 * start k .pre .holds .atoms) (row k) (first k) code (k .conditions .result .meter)
     (row-under (start k .pre .holds .atoms) (row k) (start k .pre .holds .stored .row) .0)
     (seen k (condition.Undecided code) (c .before .state .given .1)) in
-    let most : start k .pre .holds .atoms ≤ maxAtoms = start k .pre .holds .stored .atoms in
+    let most : start k .pre .holds .atoms ≤ atomsWide codeBits = start k .pre .holds .stored .atoms in
     (start k .pre, omega arith)
 
 returns : tie.Need-returns

@@ -1,6 +1,7 @@
 -- `row_deduce::given`: the first pending output, and the masks without it. Assumes nothing.
 use mathlib.Core.Path.{sym, _∙_}
 use native.Mathlib.Omega.{arith}
+use Rattle.words.specs.Literal.{codeBits}
 use Rattle.row_deduce.proofs.Publishing.{given-stopped, given-ticked, code-lt}
 use borrow.Author.Needs.{needs}
 use Rattle.row_deduce.proofs.given.Statement.{statement}
@@ -34,15 +35,15 @@ published-requires c κs = search needs
 enum-known-m-2 : tie.Need-enum-known-m-2
 enum-known-m-2 c = search needs
 
-cast-t11 : tie.Need-cast-t11
-cast-t11 c =
+cast-code : tie.Need-cast-code
+cast-code c =
     let t = at-take (c .before .before .before .before) in
     let start = at-start t in
     let a = start .args in
     omega (
       arith,
       code-lt (a .cursor) (a .work) (t .take .result .code) (t .take .result .present) (t .take .result .absent) (t .take .ensures)
-          (start .pre .0),
+          codeBits (omega arith) (start .pre .0),
     )
 
 published-requires-2 : tie.Need-published-requires-2
@@ -78,7 +79,7 @@ given-spec =
     enum-known-m
     published-requires
     enum-known-m-2
-    cast-t11
+    cast-code
     published-requires-2
     returns
     returns-2)

@@ -3,7 +3,8 @@ use mathlib.Core.Path.{_≡_, refl, sym, ap, _∙_}
 use Prim.Native.Nat.{ℕ, _+_, _-_, _*_, _<_}
 use native.Mathlib.Omega.{arith}
 use lib.ListN.{getD}
-use Rattle.words.specs.Region.{region, maxWords}
+use Rattle.words.specs.Literal.{codeBits, wordsWide}
+use Rattle.words.specs.Region.{region}
 use Rattle.model.specs.Records.{groupLength}
 use Rattle.model.specs.declared.OutputCursor.{OutputCursor}
 use Rattle.model.specs.Slots.{indexOf}
@@ -45,7 +46,7 @@ at-loop-from-published c = at-loop-from-then2 (c .before)
 
 -- the index of a group is that of a word of the region
 index-lt : (l : tie.At-loop Inv-loop μ-loop) (g : ℕ) → g < start l .args .side .count
-    → indexOf (chunkAt (start l .args .slot .now) (start l .args .side) g) < maxWords
+    → indexOf (chunkAt (start l .args .slot .now) (start l .args .side) g) < wordsWide codeBits
 index-lt l g h =
     let p = start l .pre .0 in
     let a = start l .args in

@@ -42,17 +42,17 @@ enum-known-m-2 c = search needs
 add-at : tie.Need-add-at
 add-at c = search needs
 
-add-t15 : tie.Need-add-t15
-add-t15 c = search needs
+add-code : tie.Need-add-code
+add-code c = search needs
 
-mul-t16 : tie.Need-mul-t16
-mul-t16 c = search needs
+mul-code : tie.Need-mul-code
+mul-code c = search needs
 
-shared-slice-read-t15 : tie.Need-shared-slice-read-t15
-shared-slice-read-t15 c = search needs
+shared-slice-read-code : tie.Need-shared-slice-read-code
+shared-slice-read-code c = search needs
 
-cast-t18 : tie.Need-cast-t18
-cast-t18 c =
+cast-code : tie.Need-cast-code
+cast-code c =
     let tick = at-tick (c .before .before .before .before) in
     let start = at-start tick in
     omega (
@@ -95,10 +95,10 @@ scalar-next-spec =
     published-requires-2
     enum-known-m-2
     add-at
-    add-t15
-    mul-t16
-    shared-slice-read-t15
-    cast-t18
+    add-code
+    mul-code
+    shared-slice-read-code
+    cast-code
     published-requires-3
     returns-2
     returns-3)

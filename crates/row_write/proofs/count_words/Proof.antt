@@ -33,7 +33,7 @@ module _ (c : tie.After-shared-slice-known Inv-loop μ-loop) where
   cs = now (top .args .codes)
 
   first-under : getD cs 0 0 / 2 / 64 < maxAtoms / wordBits
-  first-under = group-under cs 0 (top .pre) (omega (arith, c .before .if1 .left))
+  first-under = omega (arith, group-under maxAtoms cs 0 (top .pre) (omega (arith, c .before .if1 .left)))
 
 -- a turn: the code at i, and its group
 module _ (c : tie.In-loop Inv-loop μ-loop) where
@@ -41,7 +41,7 @@ module _ (c : tie.In-loop Inv-loop μ-loop) where
   at = c .before .loop .i
 
   turn-under : getD (cs (c .before .before)) at 0 / 2 / 64 < maxAtoms / wordBits
-  turn-under = group-under (cs (c .before .before)) at (top (c .before .before) .pre) (c .loop-test .taken)
+  turn-under = omega (arith, group-under maxAtoms (cs (c .before .before)) at (top (c .before .before) .pre) (c .loop-test .taken))
 
 returns : tie.Need-returns Inv-loop μ-loop
 returns c = count-none (now (c .before .args .codes)) (c .if1 .taken)

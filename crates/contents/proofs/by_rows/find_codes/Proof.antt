@@ -9,7 +9,7 @@ use lib.ListN.{length, getD, take, drop}
 use lib.Seq.{take-all}
 use borrow.Author.Needs.{needs}
 use Rattle.lists.proofs.Counts.{each-at}
-use Rattle.words.specs.Region.{maxAtoms}
+use Rattle.words.specs.Literal.{codeBits, codesWide}
 use Rattle.words.specs.Codes.{runs}
 use Rattle.contents.specs.Lent.{hasAtom, oneIf}
 use Rattle.contents.specs.Placed.{Grown}
@@ -55,7 +55,7 @@ loop-holds c =
       refl,
       (λ h. absurd (omega arith)),
       search needs,
-      omega (arith, later-start 18446744073709551615 (a .codes .now) (s .pre .1 .1 .1) (omega arith)),
+      omega (arith, later-start codeBits 18446744073709551615 (a .codes .now) (s .pre .1 .1 .1) (omega arith)),
       grown-none (a .words .now) (a .position) (a .places .now) (λ k. oneIf (hasAtom k (take 0 (a .codes .now))))
           (λ k. has-nothing k (a .codes .now)),
     )
@@ -72,7 +72,7 @@ find-new-requires c κs =
     let at = turn .before in
     let s = at .before .before .before .before in
     let b : getD (s .args .codes .now) (at .loop .i) 0
-    < 2 * maxAtoms = each-at (λ v. v < 2 * maxAtoms) (s .args .codes .now) (at .loop .i) (s .pre .1 .1 .1) (turn .loop-test .taken) in
+    < codesWide codeBits = each-at (λ v. v < codesWide codeBits) (s .args .codes .now) (at .loop .i) (s .pre .1 .1 .1) (turn .loop-test .taken) in
     search needs
 
 same-length : tie.Need-same-length Inv-loop μ-loop

@@ -1,23 +1,25 @@
 -- `post_side`. The loop: what is left of the side, filled from here, is the whole side filled from the start. Assumes nothing.
 use mathlib.Core.Path.{_≡_, refl, sym, ap, _∙_, subst}
 use mathlib.Core.List.{List, [], _∷_}
-use Prim.Native.Nat.{ℕ}
+use Prim.Native.Nat.{ℕ, _+_, _*_, _/_, _^_, _<_}
 use native.Mathlib.Omega.{arith}
 use lib.ListN.{length, length-set}
 use denote.Ref.{now}
 use borrow.Author.Needs.{needs}
-use Rattle.words.specs.Region.{maxAtoms}
+use Rattle.words.specs.Bit.{maxWord}
+use Rattle.words.specs.Literal.{codeBits}
+use Rattle.model.specs.Records.{maxRows}
 use Rattle.slots.specs.Cursor.{listOf, rest, rest-start, given, Placed, PlacedStep}
 use Rattle.postings.specs.Steps.{walk}
 use Rattle.postings.specs.Filling.{put, filledTo, sidePostings, leftPostings}
 use Rattle.postings.proofs.Walking.{walk-none}
-use Rattle.postings.proofs.Fills.{Room, room-head, room-skip, room-post, left-start, left-none, left-skip, left-step}
+use Rattle.postings.proofs.Fills.{posting-fits, Room, room-head, room-skip, room-post, left-start, left-none, left-skip, left-step}
 use Rattle.postings.proofs.filling.post_side.Statement.{statement}
 use Rattle.postings.proofs.filling.post_side.Tie as tie
 
 abbrev Inv-loop : tie.InvT-loop
 Inv-loop slot side position postings₀ at next₀ meter₀ last₀ cursor₀ postings next meter last cursor =
-    Placed side cursor × (length postings ≡ length postings₀) × Room (rest slot side cursor) next (length postings₀)
+    Placed side cursor × (length postings ≡ length postings₀) × Room codeBits (rest slot side cursor) next (length postings₀)
     × (walk put (leftPostings position last (rest slot side cursor)) (filledTo next postings) meter
     ≡ walk put (sidePostings position (listOf slot side)) (filledTo at postings₀) meter₀)
 
@@ -56,8 +58,11 @@ module _ (c : tie.After-known-told Inv-loop μ-loop) where
   placed : Placed (root at .args .side) (c .before .code .given .0 .1 .0)
   placed = subst (PlacedStep (root at .args .side)) (c .before .code .given .1) (c .before .before .before .next .ensures .1)
 
-  room : Room (code ∷ past) (at .loop .next) (length (now (root at .args .postings)))
+  room : Room codeBits (code ∷ past) (at .loop .next) (length (now (root at .args .postings)))
   room = rw taken at (at .loop .inv .2)
+
+  fits : code / 2 * maxRows + root at .args .position < 2 ^ 64
+  fits = posting-fits codeBits (omega arith) code (root at .args .position) (room-head room .0) (root at .pre .place)
 
   -- the literal and what is past it are the whole
   turn : let a = root at .args in
@@ -79,7 +84,8 @@ loop-holds c =
       refl,
       rw start (record { low = pre .low; room = pre .room }),
       ap (λ (l : List ℕ). walk put l (filledTo (a .at) (now (a .postings))) (a .work))
-          (ap (leftPostings (a .position) maxAtoms) start ∙ left-start (a .position) (listOf (now (a .slot)) (a .side)) (pre .low)),
+          (ap (leftPostings (a .position) maxWord) start
+          ∙ left-start (a .position) codeBits maxWord (listOf (now (a .slot)) (a .side)) (pre .low) (omega arith)),
     )
 
 next-requires : tie.Need-next-requires Inv-loop μ-loop
@@ -125,12 +131,12 @@ returns c =
 mul-postings : tie.Need-mul-postings Inv-loop μ-loop
 mul-postings c =
     let b = told (c .before .before .before) in
-    omega (arith, room-head (room b))
+    omega (arith, fits b)
 
 add-postings : tie.Need-add-postings Inv-loop μ-loop
 add-postings c =
     let b = told (c .before .before .before) in
-    omega (arith, room-head (room b))
+    omega (arith, fits b)
 
 mul-postings-2 : tie.Need-mul-postings-2 Inv-loop μ-loop
 mul-postings-2 c = search needs

@@ -3,8 +3,10 @@ use mathlib.Core.Path.{_≡_, sym, ap, _∙_}
 use mathlib.Core.List.{List}
 use mathlib.Core.Option.{Option}
 use Prim.Native.Nat.{ℕ}
+use native.Mathlib.Omega.{arith}
 use denote.Ref.{now}
 use borrow.Author.Needs.{needs}
+use Rattle.words.specs.Literal.{codeBits}
 use Rattle.meter.specs.declared.Tick.{Tick}
 use Rattle.postings.specs.Steps.{walk, onward}
 use Rattle.postings.specs.Searching.{look, marks, looks}
@@ -47,7 +49,7 @@ returns c =
     let a = t .args in
     sym (ended b (m .m .given .1)
     ∙ ap (λ (xs : List (Option ℕ)). walk look xs (now (a .answer)) (m .m .given .0 .0))
-    (marks-beyond (a .atom) (now (a .postings)) (t .pre .0 .low) (c .if1 .taken))
+    (marks-beyond (a .atom) (now (a .postings)) codeBits (t .pre .0 .low) (omega (arith, c .if1 .taken)))
     ∙ walk-none look (now (a .answer)) (m .m .given .0 .0))
 
 mark-from-requires : tie.Need-mark-from-requires
