@@ -15,9 +15,16 @@ use text::put_decimal;
 use text::value;
 use text::word;
 use words::Found;
+use words::MAX_ATOMS;
 
-// Every code of an atom that there is room for is below this.
-pub const CODES: u64 = 2 * ATOMS;
+// Every code is below this.
+const ALL_CODES: u64 = 2 * MAX_ATOMS;
+
+// The first code of no atom that there is room for. No ledger has it: it stands in a set for all codes from it on.
+const UNFIT: u64 = 2 * ATOMS;
+
+// Every code of a set is below this.
+pub const CODES: u64 = UNFIT + 1;
 
 // A literal's code; or bytes that are none.
 enum Read {
@@ -53,7 +60,7 @@ fn signed(s: &[u8], from: usize, to: usize, points: &[u64], sign: u64) -> Read
     if key == 0 {
         return Read::Bad;
     }
-    if ATOMS < key {
+    if MAX_ATOMS < key {
         return Read::Bad;
     }
     if sign == 0 {
@@ -69,7 +76,7 @@ fn code(s: &[u8], from: usize, to: usize) -> Read
     let Parsed::Number(n, _) = value(s, from, to) else {
         return Read::Bad;
     };
-    if CODES <= n {
+    if ALL_CODES <= n {
         return Read::Bad;
     }
     Read::Code(n)
@@ -95,6 +102,15 @@ fn item(s: &[u8], from: usize, to: usize, points: &[u64], codes: bool) -> Read
     signed(s, from, to, points, 1)
 }
 
+// Puts a code among a set of codes.
+fn insert(set: &mut [u64], code: u64) {
+    if UNFIT < code {
+        words::insert(set, UNFIT);
+        return;
+    }
+    words::insert(set, code);
+}
+
 // Puts the literals between the commas of a word among a set of codes, and answers whether each is one.
 fn word_items(
     s: &[u8],
@@ -112,7 +128,7 @@ fn word_items(
         let Read::Code(c) = item(s, i, end, points, codes) else {
             return false;
         };
-        words::insert(set, c);
+        insert(set, c);
         if to <= end {
             return true;
         }

@@ -41,8 +41,8 @@ const TABLE: usize = NAMES + 5120;
 // The words of a list of a call: a set of atoms, and one more.
 const LIST: usize = (ATOMS / WORD_BITS) as usize + 1;
 
-// The words with a bit for each code.
-const LITERALS: usize = (2 * ATOMS / WORD_BITS) as usize;
+// The words with a bit for each code of those atoms, and for one more.
+const LITERALS: usize = (2 * ATOMS / WORD_BITS) as usize + 1;
 
 // The table, all zero.
 pub fn table() -> [u64; TABLE]
@@ -100,9 +100,9 @@ pub fn rows() -> [u64; ROWS as usize]
     [0; ROWS as usize]
 }
 
-// A bit for each code.
+// A bit for each code of the atoms that there is room for, and for one more.
 pub fn literals() -> [u64; LITERALS]
-    ensures { λ r. ⌜ 2 * roomAtoms / wordBits ≡ length r ⌝ }
+    ensures { λ r. ⌜ 2 * roomAtoms / wordBits + 1 ≡ length r ⌝ }
 {
     [0; LITERALS]
 }

@@ -1,16 +1,16 @@
 // `point ATOM NAME`: `point ATOM NAME`. From then on the name stands for the atom in `rule` and `plan`. A name is a letter and then
 // letters, digits, `-`, `_` and `.`, 31 bytes at most. An atom has one name, and a name one atom; an error is another name for an atom, a
-// name that is another atom's, an atom of 200,000 or more, a bad name, and the first name after 1,024. `reset` leaves the names.
+// name that is another atom's, an atom of 1,048,576 or more, a bad name, and the first name after 1,024. `reset` leaves the names.
 ghost use Prim.Native.Nat.{_+_, _≤_};
 ghost use lib.ListN.{length};
 use crate::calls::Said;
-use crate::memory::ATOMS;
 use text::Parsed;
 use text::pack;
 use text::put;
 use text::put_decimal;
 use text::put_field;
 use text::put_packed;
+use words::MAX_ATOMS;
 
 // The words of a name's entry: the atom plus 1, or 0 where it is free, and the name.
 const ENTRY: usize = 5;
@@ -151,7 +151,7 @@ fn store(points: &mut [u64], e: usize, key: u64, name: Name) -> bool
 
 // Names an atom, and answers whether it has the name now.
 fn add(points: &mut [u64], atom: u64, name: Name) -> bool {
-    if ATOMS <= atom {
+    if MAX_ATOMS <= atom {
         return false;
     }
     let key = atom + 1;
@@ -178,7 +178,7 @@ fn put_entry(out: &mut [u8], at: usize, points: &[u64], e: usize) -> usize
 
 // Whether an atom has a name.
 pub fn has(points: &[u64], atom: u64) -> bool {
-    if ATOMS <= atom {
+    if MAX_ATOMS <= atom {
         return false;
     }
     entry(points, atom + 1) < points.len()
@@ -186,7 +186,7 @@ pub fn has(points: &[u64], atom: u64) -> bool {
 
 // An atom by its name, or by its number where it has none.
 pub fn put_atom(out: &mut [u8], at: usize, points: &[u64], atom: u64) -> usize {
-    if ATOMS <= atom {
+    if MAX_ATOMS <= atom {
         return put_decimal(out, at, atom);
     }
     let e = entry(points, atom + 1);
