@@ -152,26 +152,22 @@ fn publish(
                 earned = earned | one.earned;
                 count = one.decided;
             }
-            NextAnswer::End => {
-                return Reading {
-                    ended: Ended {
-                        flow: Flow::Continues,
-                        meter: meter,
-                    },
-                    earned: earned,
-                    decided: count,
-                };
-            }
-            _ => {
-                return Reading {
-                    ended: Ended {
-                        flow: Flow::Stopped,
-                        meter: meter,
-                    },
-                    earned: earned, // what was decided before the stop
-                    decided: count,
-                };
-            }
+            NextAnswer::End => return Reading {
+                ended: Ended {
+                    flow: Flow::Continues,
+                    meter: meter,
+                },
+                earned: earned,
+                decided: count,
+            },
+            _ => return Reading {
+                ended: Ended {
+                    flow: Flow::Stopped,
+                    meter: meter,
+                },
+                earned: earned, // what was decided before the stop
+                decided: count,
+            },
         }
     }
 }

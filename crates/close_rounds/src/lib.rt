@@ -76,18 +76,17 @@ fn round(
         );
         let ended = one.ended;
         let flow = ended.flow;
-        if let Flow::Continues = flow {
-            // field by field: the next row's deduction reads it so, from memory, and need not wait for a longer store
-            meter = Meter {
-                charged: ended.meter.charged,
-                limit: ended.meter.limit,
-            };
-            contradicted = one.contradicted;
-            decided = one.decided;
-            i += 1;
-        } else {
+        let Flow::Continues = flow else {
             return one;
-        }
+        };
+        // field by field: the next row's deduction reads it so, from memory, and need not wait for a longer store
+        meter = Meter {
+            charged: ended.meter.charged,
+            limit: ended.meter.limit,
+        };
+        contradicted = one.contradicted;
+        decided = one.decided;
+        i += 1;
     }
     Acted {
         ended: Ended {

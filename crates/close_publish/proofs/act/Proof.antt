@@ -102,8 +102,8 @@ returns c =
     let d = deduction .deduction in (
       λ h. act-stopped (a .atoms) (a .position) (beside (ledgerOf h (a .rows) (a .slots .now)) (a .before)) (a .held .now) (a .cut .now)
           (a .work) _
-          (part-row (a .atoms) (a .rows) (a .position) (a .slots .now) (a .held .now) (a .cut .now) (a .work) (t .pre .0 .holds) (t .pre .1 .0)
-          h)
+          (part-row (a .atoms) (a .rows) (a .position) (a .slots .now) (a .held .now) (a .cut .now) (a .work) (t .pre .0 .holds)
+          (t .pre .1 .0) h)
           (d .result) (d .ensures) (c .if1 .taken),
       (t .pre .0, logs-none (a .atoms) (a .decided) (a .noted .now) (region (a .held .now) (a .cut .now)) (t .pre .1 .1)),
     )
@@ -128,8 +128,8 @@ returns-2 c =
     let d = deduction .deduction in (
       λ h. act-nothing (a .atoms) (a .position) (beside (ledgerOf h (a .rows) (a .slots .now)) (a .before)) (a .held .now) (a .cut .now)
           (a .work) _
-          (part-row (a .atoms) (a .rows) (a .position) (a .slots .now) (a .held .now) (a .cut .now) (a .work) (t .pre .0 .holds) (t .pre .1 .0)
-          h)
+          (part-row (a .atoms) (a .rows) (a .position) (a .slots .now) (a .held .now) (a .cut .now) (a .work) (t .pre .0 .holds)
+          (t .pre .1 .0) h)
           (d .result) (d .ensures) (c .before .before .if1 .left) (c .enum-told .given .1),
       (t .pre .0, logs-none (a .atoms) (a .decided) (a .noted .now) (region (a .held .now) (a .cut .now)) (t .pre .1 .1)),
     )
@@ -206,7 +206,8 @@ returns-3 c =
     let d = deduction .deduction in
     let g = place .follow in
     let z = hits joined2 in
-    let s = hits-stand (a .atoms) (a .rows) _ (a .slots .now) (a .held .now) (a .cut .now) (t .pre .0) _ (a .position) (t .pre .1 .0) _ z in (
+    let s = hits-stand (a .atoms) (a .rows) _ (a .slots .now) (a .held .now) (a .cut .now) (t .pre .0) _ (a .position) (t .pre .1 .0) _
+    z in (
       λ h. act-reads (a .atoms) (a .rows) (a .position) (a .slots .now) (a .held .now) (a .cut .now) (a .work) (t .pre .0 .holds)
           (t .pre .1 .0) (d .result) (d .ensures) (match-keys2 .before .if1 .left) (g .result) _ _ (g .ensures .0) (g .ensures .1 .0)
           (a .before) h _ z _ (c .named .ensures),

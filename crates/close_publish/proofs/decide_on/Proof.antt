@@ -30,8 +30,9 @@ module _ (c : tie.After-note) where
   abbrev start : tie.Start
   start = at-start place
 
-  logs : Logs (start .args .atoms) (start .args .decided) (start .args .noted .now) (region (start .args .held .now) (start .args .cut .now))
-      (c .note .result) (c .note .last .0) (region (place .decide-literal .last .1 .0) (place .decide-literal .last .1 .1 .0))
+  logs : Logs (start .args .atoms) (start .args .decided) (start .args .noted .now)
+      (region (start .args .held .now) (start .args .cut .now)) (c .note .result) (c .note .last .0)
+      (region (place .decide-literal .last .1 .0) (place .decide-literal .last .1 .1 .0))
   logs =
       let a = start .args in
       let d = place .decide-literal .ensures in

@@ -221,7 +221,8 @@ returns-2 c =
     let ordered = at-in-order c in
     let k = at-round ordered in
     let a = start k .args in
-    let since = logs-since (a .header .limits .atoms) (a .noted .now) (region (a .held .now) (a .cut .now)) _ _ _ (k .round .ensures .1 .1) in
+    let since = logs-since (a .header .limits .atoms) (a .noted .now) (region (a .held .now) (a .cut .now)) _ _ _
+    (k .round .ensures .1 .1) in
     (turn k, (runs k, (under k, record { gathered = λ e. subst (Gathered _ _) since (ordered .in-order .ensures) })))
 
 same-length-11 : tie.Need-same-length-11

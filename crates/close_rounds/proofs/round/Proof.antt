@@ -1,6 +1,5 @@
 -- `close_rounds::round`. What is left of the round, run from here, is the whole round run from the start; beside it stand the atoms noted.
 -- Assumes nothing.
-use mathlib.Core.Path.{_∙_}
 use Prim.Native.Nat.{_-_, _<_}
 use lib.ListN.{length}
 use borrow.Author.Needs.{needs}
@@ -83,33 +82,6 @@ act-requires c κs =
 enum-told : tie.Need-enum-told Inv-loop μ-loop
 enum-told c = search needs
 
-add-i : tie.Need-add-i Inv-loop μ-loop
-add-i c =
-    let in-loop = at-in-loop (at-act c) in
-    let x = in-loop .loop-test .taken in
-    let start = at-start (at-loop in-loop) .good in
-    search needs
-
-loop-less : tie.Need-loop-less Inv-loop μ-loop
-loop-less c = search needs
-
-loop-again : tie.Need-loop-again Inv-loop μ-loop
-loop-again c =
-    let k = at-act c in
-    let in-loop = at-in-loop k in
-    let loop = at-loop in-loop in
-    let t = at-start loop in
-    let g = k .act in
-    let l = loop .loop in
-    let x = in-loop .loop-test .taken in (
-      read-on (t .args .atoms) (t .args .rows) (t .args .positions .now) (t .args .slots .now) (t .args .held .now) (t .args .cut .now)
-          (t .args .work) (t .args .before) (l .slots) (l .held) (l .cut) (l .meter) (l .contradicted) (l .i) (l .inv .0) x (g .result) _ _ _
-          (g .ensures .0) (g .ensures .1 .0)
-          (c .enum-told .given .1) (g .kept .1 .1 .0) (g .kept .1 .1 .1 .1 .0) (g .kept .1 .1 .1 .1 .1 .0),
-      logging-on (t .args .atoms) 0 (t .args .noted .now) (region (t .args .held .now) (t .args .cut .now)) (t .pre .1 .1) (l .decided)
-          (l .noted) (region (l .held) (l .cut)) (l .inv .1) _ _ _ (g .ensures .1 .1) (g .kept .1 .1 .1 .1 .1 .1 .0),
-    )
-
 same-length : tie.Need-same-length Inv-loop μ-loop
 same-length c = search needs
 
@@ -132,16 +104,43 @@ returns c =
     let l = loop .loop in
     let x = in-loop .loop-test .taken in (
       read-ended (t .args .atoms) (t .args .rows) (t .args .positions .now) (t .args .slots .now) (t .args .held .now) (t .args .cut .now)
-          (t .args .work) (t .args .before) (l .slots) (l .held) (l .cut) (l .meter) (l .contradicted) (l .i) (l .inv .0) x (g .result) _ _ _
-          (g .ensures .0) (g .ensures .1 .0)
+          (t .args .work) (t .args .before) (l .slots) (l .held) (l .cut) (l .meter) (l .contradicted) (l .i) (l .inv .0) x (g .result)
+          _ _ _ (g .ensures .0) (g .ensures .1 .0)
           (c .match .keys2),
       (
-        read-stands (t .args .atoms) (t .args .rows) (t .args .positions .now) (t .args .slots .now) (t .args .held .now) (t .args .cut .now)
-            (t .args .work) (t .args .before) (l .slots) (l .held) (l .cut) (l .meter) (l .contradicted) (l .i) (l .inv .0) x (g .result)
-            _ _ _ (g .ensures .0) (g .ensures .1 .0),
+        read-stands (t .args .atoms) (t .args .rows) (t .args .positions .now) (t .args .slots .now) (t .args .held .now)
+            (t .args .cut .now) (t .args .work) (t .args .before) (l .slots) (l .held) (l .cut) (l .meter) (l .contradicted) (l .i)
+            (l .inv .0) x (g .result) _ _ _ (g .ensures .0) (g .ensures .1 .0),
         logs-both (t .args .atoms) 0 (t .args .noted .now) (region (t .args .held .now) (t .args .cut .now)) (t .pre .1 .1) (l .decided)
             (l .noted) (region (l .held) (l .cut)) (l .inv .1) _ _ _ (g .ensures .1 .1),
       ),
+    )
+
+add-i : tie.Need-add-i Inv-loop μ-loop
+add-i c =
+    let in-loop = at-in-loop (at-act c) in
+    let x = in-loop .loop-test .taken in
+    let start = at-start (at-loop in-loop) .good in
+    search needs
+
+loop-less : tie.Need-loop-less Inv-loop μ-loop
+loop-less c = search needs
+
+loop-again : tie.Need-loop-again Inv-loop μ-loop
+loop-again c =
+    let k = at-act c in
+    let in-loop = at-in-loop k in
+    let loop = at-loop in-loop in
+    let t = at-start loop in
+    let g = k .act in
+    let l = loop .loop in
+    let x = in-loop .loop-test .taken in (
+      read-on (t .args .atoms) (t .args .rows) (t .args .positions .now) (t .args .slots .now) (t .args .held .now) (t .args .cut .now)
+          (t .args .work) (t .args .before) (l .slots) (l .held) (l .cut) (l .meter) (l .contradicted) (l .i) (l .inv .0) x (g .result)
+          _ _ _ (g .ensures .0) (g .ensures .1 .0)
+          (c .enum-told .given .1) (g .kept .1 .1 .0) (g .kept .1 .1 .1 .1 .0) (g .kept .1 .1 .1 .1 .1 .0),
+      logging-on (t .args .atoms) 0 (t .args .noted .now) (region (t .args .held .now) (t .args .cut .now)) (t .pre .1 .1) (l .decided)
+          (l .noted) (region (l .held) (l .cut)) (l .inv .1) _ _ _ (g .ensures .1 .1) (g .kept .1 .1 .1 .1 .1 .1 .0),
     )
 
 same-length-5 : tie.Need-same-length-5 Inv-loop μ-loop
@@ -178,14 +177,14 @@ round-spec =
     shared-slice-read-act
     act-requires
     enum-told
-    add-i
-    loop-less
-    loop-again
     same-length
     same-length-2
     same-length-3
     same-length-4
     returns
+    add-i
+    loop-less
+    loop-again
     same-length-5
     same-length-6
     same-length-7
