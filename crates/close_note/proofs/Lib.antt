@@ -1,2 +1,2 @@
-pub mod Marking
-pub mod Gathering
+pub mod Undecided
+pub mod Logging

@@ -9,8 +9,10 @@ ghost use Rattle.model.specs.Slots.{rowIn};
 ghost use Rattle.model.specs.Deduction.{startCursor};
 ghost use Rattle.model.specs.Closing.{decideOn, publish, follow, naming, act};
 ghost use Rattle.slots.specs.Layout.{Stored, rowsIn};
+ghost use Rattle.close_note.specs.Noting.{Room, Logs};
 ghost use Rattle.close_publish.specs.Turns.{Beside, beside, state, turned, acted, Earned, ledgerOf};
 ghost use Rattle.close_publish.specs.Standing.{Standing};
+use close_note::note;
 use meter::Meter;
 use model::Contradicted;
 use model::Deduction;
@@ -44,27 +46,42 @@ pub struct Ended {
     pub meter: Meter,
 }
 
-// The same after a row or a round, and the contradicted output of the last Require that the closing acted on.
+// The same after a row or a round, the contradicted output of the last Require that the closing acted on, and how many atoms are noted.
 pub struct Acted {
     pub ended: Ended,
     pub contradicted: Contradicted,
+    pub decided: usize,
 }
 
-// How the reading of a row ended, and whether it earned a hit: it decided an atom, or ended in Conflict.
+// How the reading of a row ended, whether it earned a hit, by an atom decided or a Conflict, and how many atoms are noted.
 struct Reading {
     ended: Ended,
     earned: bool,
+    decided: usize,
 }
 
-// Decides a literal. Conflict, and nothing changed, if it is out of range or its opposite is marked.
-fn decide_on(atoms: u64, held: &mut [u64], cut: &mut [u64], literal: u64, work: Meter) -> Reading
-    requires { ⌜ T (isRegion atoms (region (now held) (now cut))) ⌝ }
+// Decides a literal, and notes its atom if that is decided anew. Conflict, and no region changed, if it is out of range or its opposite is
+// marked.
+fn decide_on(
+    atoms: u64,
+    held: &mut [u64],
+    cut: &mut [u64],
+    noted: &mut [u64],
+    decided: usize,
+    literal: u64,
+    work: Meter,
+) -> Reading
+    requires { ⌜ T (isRegion atoms (region (now held) (now cut))) ⌝
+        ∗ ⌜ Room atoms decided (now noted) (region (now held) (now cut)) ⌝ }
     ensures turn { λ r. ⌜ ((l : Beside) → turned (r .ended) l (now (held .exit)) (now (cut .exit))
         ≡ decideOn atoms literal (state l (now (held .entry)) (now (cut .entry)) work)) ⌝ }
     ensures earned { λ r. ⌜ Earned atoms r (now (held .entry)) (now (cut .entry)) (now (held .exit)) (now (cut .exit)) ⌝ }
     ensures whole { λ _. ⌜ T (isRegion atoms (region (now (held .exit)) (now (cut .exit)))) ⌝ }
+    ensures logged { λ r. ⌜ Logs atoms decided (now (noted .entry)) (region (now (held .entry)) (now (cut .entry))) (r .decided)
+        (now (noted .exit)) (region (now (held .exit)) (now (cut .exit))) ⌝ }
 {
     let marking = decide_literal(atoms, held, cut, literal);
+    let after = note(noted, decided, literal / 2, marking);
     match marking {
         Marking::Anew => Reading {
             ended: Ended {
@@ -72,6 +89,7 @@ fn decide_on(atoms: u64, held: &mut [u64], cut: &mut [u64], literal: u64, work: 
                 meter: work,
             },
             earned: true,
+            decided: after,
         },
         Marking::Already => Reading {
             ended: Ended {
@@ -79,6 +97,7 @@ fn decide_on(atoms: u64, held: &mut [u64], cut: &mut [u64], literal: u64, work: 
                 meter: work,
             },
             earned: false,
+            decided: after,
         },
         Marking::False => Reading {
             ended: Ended {
@@ -86,21 +105,34 @@ fn decide_on(atoms: u64, held: &mut [u64], cut: &mut [u64], literal: u64, work: 
                 meter: work,
             },
             earned: true, // also if nothing was decided
+            decided: after,
         },
     }
 }
 
 // Decides each output that a row publishes. Conflict at the first false decision, Stopped at the first tick that was not made; what was
 // decided before stays.
-fn publish(slot: &[u64], atoms: u64, held: &mut [u64], cut: &mut [u64], work: Meter) -> Reading
-    requires { ⌜ Stored atoms (now slot) ⌝ ∗ ⌜ T (isRegion atoms (region (now held) (now cut))) ⌝ }
+fn publish(
+    slot: &[u64],
+    atoms: u64,
+    held: &mut [u64],
+    cut: &mut [u64],
+    noted: &mut [u64],
+    decided: usize,
+    work: Meter,
+) -> Reading
+    requires { ⌜ Stored atoms (now slot) ⌝ ∗ ⌜ T (isRegion atoms (region (now held) (now cut))) ⌝
+        ∗ ⌜ Room atoms decided (now noted) (region (now held) (now cut)) ⌝ }
     ensures turn { λ r. ⌜ ((l : Beside) → turned (r .ended) l (now (held .exit)) (now (cut .exit))
         ≡ publish (suc (length (rowIn (now (slot .entry)) .outputs))) atoms (rowIn (now (slot .entry))) startCursor
         (state l (now (held .entry)) (now (cut .entry)) work)) ⌝ }
     ensures earned { λ r. ⌜ Earned atoms r (now (held .entry)) (now (cut .entry)) (now (held .exit)) (now (cut .exit)) ⌝ }
     ensures whole { λ _. ⌜ T (isRegion atoms (region (now (held .exit)) (now (cut .exit)))) ⌝ }
+    ensures logged { λ r. ⌜ Logs atoms decided (now (noted .entry)) (region (now (held .entry)) (now (cut .entry))) (r .decided)
+        (now (noted .exit)) (region (now (held .exit)) (now (cut .exit))) ⌝ }
 {
     let mut meter = work;
+    let mut count = decided;
     let mut earned = false;
     let mut cursor = START;
     let side = slots::outputs(slot);
@@ -111,32 +143,31 @@ fn publish(slot: &[u64], atoms: u64, held: &mut [u64], cut: &mut [u64], work: Me
         let answer = found.answer;
         match answer {
             NextAnswer::Output(literal) => {
-                let one = decide_on(atoms, held, cut, literal.0 as u64, meter);
+                let one = decide_on(atoms, held, cut, noted, count, literal.0 as u64, meter);
                 let ended = one.ended;
                 let flow = ended.flow;
                 let Flow::Continues = flow else {
                     return one;
                 };
                 earned = earned | one.earned;
+                count = one.decided;
             }
-            NextAnswer::End => {
-                return Reading {
-                    ended: Ended {
-                        flow: Flow::Continues,
-                        meter: meter,
-                    },
-                    earned: earned,
-                };
-            }
-            _ => {
-                return Reading {
-                    ended: Ended {
-                        flow: Flow::Stopped,
-                        meter: meter,
-                    },
-                    earned: earned, // what was decided before the stop
-                };
-            }
+            NextAnswer::End => return Reading {
+                ended: Ended {
+                    flow: Flow::Continues,
+                    meter: meter,
+                },
+                earned: earned,
+                decided: count,
+            },
+            _ => return Reading {
+                ended: Ended {
+                    flow: Flow::Stopped,
+                    meter: meter,
+                },
+                earned: earned, // what was decided before the stop
+                decided: count,
+            },
         }
     }
 }
@@ -148,13 +179,18 @@ fn follow(
     said: Deduction,
     held: &mut [u64],
     cut: &mut [u64],
+    noted: &mut [u64],
+    decided: usize,
     work: Meter,
 ) -> Reading
-    requires { ⌜ Stored atoms (now slot) ⌝ ∗ ⌜ T (isRegion atoms (region (now held) (now cut))) ⌝ }
+    requires { ⌜ Stored atoms (now slot) ⌝ ∗ ⌜ T (isRegion atoms (region (now held) (now cut))) ⌝
+        ∗ ⌜ Room atoms decided (now noted) (region (now held) (now cut)) ⌝ }
     ensures turn { λ r. ⌜ ((l : Beside) → turned (r .ended) l (now (held .exit)) (now (cut .exit))
         ≡ follow atoms (rowIn (now (slot .entry))) said (state l (now (held .entry)) (now (cut .entry)) work)) ⌝ }
     ensures earned { λ r. ⌜ Earned atoms r (now (held .entry)) (now (cut .entry)) (now (held .exit)) (now (cut .exit)) ⌝ }
     ensures whole { λ _. ⌜ T (isRegion atoms (region (now (held .exit)) (now (cut .exit)))) ⌝ }
+    ensures logged { λ r. ⌜ Logs atoms decided (now (noted .entry)) (region (now (held .entry)) (now (cut .entry))) (r .decided)
+        (now (noted .exit)) (region (now (held .exit)) (now (cut .exit))) ⌝ }
 {
     match said {
         Deduction::Nothing => Reading {
@@ -163,12 +199,13 @@ fn follow(
                 meter: work,
             },
             earned: false,
+            decided: decided,
         },
-        Deduction::Force => publish(slot, atoms, held, cut, work),
+        Deduction::Force => publish(slot, atoms, held, cut, noted, decided, work),
         Deduction::Require {
             required,
             contradicted: _,
-        } => decide_on(atoms, held, cut, required.0 as u64, work),
+        } => decide_on(atoms, held, cut, noted, decided, required.0 as u64, work),
     }
 }
 
@@ -196,15 +233,20 @@ pub fn act(
     position: usize,
     held: &mut [u64],
     cut: &mut [u64],
+    noted: &mut [u64],
+    decided: usize,
     before: Contradicted,
     work: Meter,
 ) -> Acted
-    requires { ⌜ Standing atoms rows (rowsIn rows (now slots)) (now slots) (now held) (now cut) ⌝ ∗ ⌜ position < rows ⌝ }
+    requires { ⌜ Standing atoms rows (rowsIn rows (now slots)) (now slots) (now held) (now cut) ⌝ ∗ ⌜ position < rows ⌝
+        ∗ ⌜ Room atoms decided (now noted) (region (now held) (now cut)) ⌝ }
     ensures turn { λ r. ⌜ ((h : Header) → acted r (ledgerOf h rows (now (slots .exit))) (now (held .exit)) (now (cut .exit))
         ≡ act atoms position
         (state (beside (ledgerOf h rows (now (slots .entry))) before) (now (held .entry)) (now (cut .entry)) work)) ⌝ }
     ensures stands { λ _. ⌜ Standing atoms rows (rowsIn rows (now (slots .entry))) (now (slots .exit)) (now (held .exit))
         (now (cut .exit)) ⌝ }
+    ensures logged { λ r. ⌜ Logs atoms decided (now (noted .entry)) (region (now (held .entry)) (now (cut .entry))) (r .decided)
+        (now (noted .exit)) (region (now (held .exit)) (now (cut .exit))) ⌝ }
 {
     let a = SLOT_WORDS * position;
     let e = a + SLOT_WORDS;
@@ -218,6 +260,7 @@ pub fn act(
                 meter: meter,
             },
             contradicted: before,
+            decided: decided,
         };
     }
     if let Deduction::Nothing = said {
@@ -227,9 +270,10 @@ pub fn act(
                 meter: meter,
             },
             contradicted: before,
+            decided: decided,
         };
     }
-    let read = follow(&slots[a..e], atoms, said, held, cut, meter);
+    let read = follow(&slots[a..e], atoms, said, held, cut, noted, decided, meter);
     if read.earned {
         hit(slots, position);
     }
@@ -237,5 +281,6 @@ pub fn act(
     Acted {
         ended,
         contradicted: named(said, before),
+        decided: read.decided,
     }
 }

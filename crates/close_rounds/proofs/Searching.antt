@@ -1,4 +1,4 @@
--- One round of a closing: the search, the rows that it found, and the atoms decided by them. Assumes nothing.
+-- One round of a closing: the search, and the rows that it found. Assumes nothing.
 use mathlib.Core.Path.{_≡_, refl, sym, ap, ap₂, _∙_, subst}
 use mathlib.Core.Logic.{inl, inr}
 use mathlib.Core.Bool.{Bool, true, false}
@@ -9,15 +9,12 @@ use native.Mathlib.Nat.{le-refl, sub-zero}
 use native.Mathlib.Omega.{arith}
 use types.Run.{OneOf}
 use denote.Enum.Declared.{tagOf}
-use lib.Dec.{T}
 use lib.ListN.{length, take, replicate, length-append}
 use Rattle.lists.specs.Lists.{sortOf, concat, pad, upTo}
 use Rattle.lists.specs.Counts.{Each}
 use Rattle.lists.proofs.Selects.{range-from}
 use Rattle.lists.proofs.Sorts.{sort-each, distinct-each}
 use Rattle.lists.proofs.Pads.{take-pad}
-use Rattle.words.specs.Region.{region, isRegion, wordsFor}
-use Rattle.words.proofs.Regions.{sound-of}
 use Rattle.meter.specs.declared.Meter.{Meter}
 use Rattle.meter.specs.declared.Tick.{Tick}
 use Rattle.meter.specs.declared.Tick.the-variants.{Ticked, Stopped}
@@ -30,7 +27,7 @@ use Rattle.model.specs.Records.{withStale}
 use Rattle.model.specs.Postings.{Search, searched, rebuilt, searchTicks, positions, postedAt, postingsOf, filed, candidates}
 use Rattle.model.specs.Refusals.{ledgerIn}
 use Rattle.model.specs.Operations.{candidatesAnswer, foundWords}
-use Rattle.model.specs.Closing.{State, Turn, halted, round, decidedSince}
+use Rattle.model.specs.Closing.{State, Turn, halted, round}
 use Rattle.model.proofs.CandidatesAnswer.{the-type}
 use Rattle.postings.specs.declared.searching.Searched.{Searched}
 use Rattle.slots.specs.Layout.{rowsIn}
@@ -41,14 +38,15 @@ use Rattle.postings.proofs.Finding.{positions-sort, found-each}
 use Rattle.postings.proofs.Standing.{here-searchable}
 use Rattle.slots.proofs.Holding.{stands-under}
 use Rattle.postings.proofs.Keeping.{candidates-keep}
-use Rattle.close_publish.specs.declared.Flow.the-variants as flow
+use Rattle.close_publish.specs.declared.Flow.{Flow}
+use Rattle.close_publish.specs.declared.Flow.the-variants.{Continues}
 use Rattle.close_publish.specs.declared.Acted.{Acted}
 use Rattle.close_publish.specs.Turns.{ledgerOf, beside, state, endedAs, acted}
 use Rattle.close_publish.specs.Standing.{Standing}
 use Rattle.close_rounds.specs.Running.{Running}
-use Rattle.close_note.specs.Noting.{notedIn, newIn, Noted, Gathered}
+use Rattle.close_rounds.specs.declared.RoundEnd.{RoundEnd}
 use Rattle.close_rounds.specs.Rounds.{stateIn, oneRound, Under, New}
-use Rattle.close_note.proofs.Gathering.{noted-long, new-since}
+use Rattle.close_publish.proofs.Flow.{the-type as flow-type}
 
 -- ---- what a search finds are rows
 abbrev FoundBelow : ℕ → Option (List ℕ) → Type 0
@@ -136,19 +134,14 @@ pad-fits : (n : ℕ) (xs : List ℕ) → length (pad n xs) ≡ n → length xs �
 unfolding pad
 pad-fits n xs e = let a = length-append xs (replicate (n - length xs) 0) in omega arith
 
--- a stopped search says nothing of the scratch
-pub new-stopped : (h : Header) (m : Meter) (o : Contradicted) (ys ds : List ℕ)
-    → New (record { flow = flow.Stopped; header = h; meter = m; contradicted = o; decided = 0 }) ys ds
-new-stopped h m o ys ds = record { gathered = λ e. absurd (never e) }
+-- a round that does not go on says nothing of the scratch
+pub new-ended : (g : RoundEnd) (ys ds : List ℕ) → OneOf (1 ∷ 2 ∷ []) (tagOf flow-type (g .flow)) → New g ys ds
+new-ended g ys ds i =
+    record { gathered = λ e. absurd (never (subst (λ (w : Flow). OneOf (1 ∷ 2 ∷ []) (tagOf flow-type w)) e i)) }
   where
-    never : flow.Stopped ≡ flow.Continues → ⊥
-    never e = let z : _≡_ {A = ℕ} 0 1 = cc in omega arith
-
--- the slices of a region have the words of its atoms
-region-noted : (n : ℕ) (held cut : List ℕ) (k : ℕ) → k ≡ n → T (isRegion n (region held cut)) → Noted k held cut
-region-noted n held cut k e t =
-    let s = sound-of n (region held cut) t in
-    record { heldLong = s .held .long ∙ ap wordsFor (sym e); cutLong = s .cut .long ∙ ap wordsFor (sym e) }
+    never : OneOf (1 ∷ 2 ∷ []) (tagOf flow-type Continues) → ⊥
+    never (inl e) = omega arith
+    never (inr e) = omega arith
 
 -- ---- a round
 module _ (h : Header) (slots postings held cut ys : List ℕ) (k : ℕ) (m : Meter) (o : Contradicted)
@@ -174,28 +167,6 @@ module _ (h : Header) (slots postings held cut ys : List ℕ) (k : ℕ) (m : Met
   one-is : oneRound (h .limits .atoms) (take k ys) before ≡ after (search .found)
   unfolding oneRound after
   one-is = refl
-
-  -- noted before the rows are read, and gathered after
-  pub search-noted : length ys ≡ h .limits .atoms → Noted (length ys) held cut
-  search-noted l = region-noted (h .limits .atoms) held cut (length ys) l (run .region)
-
-  module _ (held′ cut′ ys₁ : List ℕ) (t : T (isRegion (h .limits .atoms) (region held′ cut′))) (l : length ys ≡ h .limits .atoms)
-      (e : ys₁ ≡ notedIn (region held cut) ys) where
-    noted-same : length ys₁ ≡ h .limits .atoms
-    noted-same =
-        ap length e ∙ noted-long (h .limits .atoms) (region held cut) (region held′ cut′)
-        (sound-of (h .limits .atoms) (region held cut) (run .region)) (sound-of (h .limits .atoms) (region held′ cut′) t) ys l
-
-    pub round-noted : Noted (length ys₁) held′ cut′
-    round-noted = region-noted (h .limits .atoms) held′ cut′ (length ys₁) noted-same t
-
-    pub since-new : (d : ℕ) (ys₂ : List ℕ) → Gathered d ys₂ (newIn (region held′ cut′) ys₁)
-        → Gathered d ys₂ (decidedSince (h .limits .atoms) (region held cut) (region held′ cut′))
-    since-new d ys₂ g =
-        subst (Gathered d ys₂)
-        (ap (newIn (region held′ cut′)) e
-        ∙ new-since (h .limits .atoms) (region held cut) (region held′ cut′)
-        (sound-of (h .limits .atoms) (region held cut) (run .region)) (sound-of (h .limits .atoms) (region held′ cut′) t) ys l) g
 
   module _ (f : Searched) (xs xs′ : List ℕ)
       (q : foundEnd f xs′ ≡ searchEnd (candidates (lentLedger h slots postings) (take (k - 0) ys) m) (length xs)) where

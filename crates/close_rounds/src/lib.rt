@@ -9,12 +9,12 @@ ghost use Rattle.model.specs.declared.Header.{Header};
 ghost use Rattle.model.specs.declared.Contradicted.the-variants.{None};
 ghost use Rattle.model.specs.Closing.{round, decidedSince, rounds};
 ghost use Rattle.slots.specs.Layout.{rowsIn};
+ghost use Rattle.close_note.specs.Noting.{Room, Logs};
 ghost use Rattle.close_publish.specs.Turns.{beside, state, acted, ledgerOf};
 ghost use Rattle.close_publish.specs.Standing.{Standing};
 ghost use Rattle.close_rounds.specs.Running.{Running};
 ghost use Rattle.close_rounds.specs.Rounds.{stateIn, roundTurn, oneRound, Under, New};
-use close_note::decided_since;
-use close_note::note_decided;
+use close_note::in_order;
 use close_publish::Acted;
 use close_publish::Ended;
 use close_publish::Flow;
@@ -34,7 +34,8 @@ pub struct RoundEnd {
     pub decided: usize,
 }
 
-// Reads the rows at the positions given, in turn. Going if all were read, else as the first one ended that did not go on.
+// Reads the rows at the positions given, in turn. Going if all were read, else as the first one ended that did not go on. The atoms decided
+// are noted from the first word of `noted` on.
 fn round(
     atoms: u64,
     rows: u64,
@@ -42,19 +43,23 @@ fn round(
     positions: &[u64],
     held: &mut [u64],
     cut: &mut [u64],
+    noted: &mut [u64],
     before: Contradicted,
     work: Meter,
 ) -> Acted
     requires { ⌜ Standing atoms rows (rowsIn rows (now slots)) (now slots) (now held) (now cut) ⌝
-        ∗ ⌜ Each (λ p. p < rows) (now positions) ⌝ }
+        ∗ ⌜ Each (λ p. p < rows) (now positions) ⌝ ∗ ⌜ Room atoms 0 (now noted) (region (now held) (now cut)) ⌝ }
     ensures turn { λ r. ⌜ ((h : Header) → acted r (ledgerOf h rows (now (slots .exit))) (now (held .exit)) (now (cut .exit))
         ≡ round atoms (now (positions .entry))
         (state (beside (ledgerOf h rows (now (slots .entry))) before) (now (held .entry)) (now (cut .entry)) work)) ⌝ }
     ensures stands { λ _. ⌜ Standing atoms rows (rowsIn rows (now (slots .entry))) (now (slots .exit)) (now (held .exit))
         (now (cut .exit)) ⌝ }
+    ensures logged { λ r. ⌜ Logs atoms 0 (now (noted .entry)) (region (now (held .entry)) (now (cut .entry))) (r .decided)
+        (now (noted .exit)) (region (now (held .exit)) (now (cut .exit))) ⌝ }
 {
     let mut meter = work;
     let mut contradicted = before;
+    let mut decided: usize = 0;
     let mut i: usize = 0;
     while i < positions.len() {
         let one = act(
@@ -64,22 +69,24 @@ fn round(
             positions[i] as usize,
             held,
             cut,
+            noted,
+            decided,
             contradicted,
             meter,
         );
         let ended = one.ended;
         let flow = ended.flow;
-        if let Flow::Continues = flow {
-            // field by field: the next row's deduction reads it so, from memory, and need not wait for a longer store
-            meter = Meter {
-                charged: ended.meter.charged,
-                limit: ended.meter.limit,
-            };
-            contradicted = one.contradicted;
-            i += 1;
-        } else {
+        let Flow::Continues = flow else {
             return one;
-        }
+        };
+        // field by field: the next row's deduction reads it so, from memory, and need not wait for a longer store
+        meter = Meter {
+            charged: ended.meter.charged,
+            limit: ended.meter.limit,
+        };
+        contradicted = one.contradicted;
+        decided = one.decided;
+        i += 1;
     }
     Acted {
         ended: Ended {
@@ -87,6 +94,7 @@ fn round(
             meter: meter,
         },
         contradicted: contradicted,
+        decided: decided,
     }
 }
 
@@ -128,7 +136,6 @@ fn one_round(
             decided: 0,
         };
     };
-    note_decided(held, cut, noted);
     let end = count as usize;
     let read = round(
         header.limits.atoms,
@@ -137,20 +144,23 @@ fn one_round(
         &places[0..end],
         held,
         cut,
+        noted,
         before,
         meter,
     );
-    let decided = decided_since(held, cut, noted);
     let ended = read.ended;
     let flow = ended.flow;
     let spent = ended.meter;
     let contradicted = read.contradicted;
+    if let Flow::Continues = flow {
+        in_order(noted, read.decided, header.limits.atoms);
+    }
     RoundEnd {
         flow: flow,
         header: after,
         meter: spent,
         contradicted: contradicted,
-        decided: decided,
+        decided: read.decided,
     }
 }
 
