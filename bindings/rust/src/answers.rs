@@ -116,8 +116,8 @@ impl Deduction {
             1 => Deduction::Force,
             2 => Deduction::Stopped,
             _ => Deduction::Require {
-                required: Literal::from_code(value),
-                contradicted: Literal::from_code(contradicted),
+                required: Literal::of_word(value),
+                contradicted: Literal::of_word(contradicted),
             },
         }
     }
@@ -138,7 +138,7 @@ impl NextOutput {
     pub(crate) fn of([case, value, ..]: Answer) -> NextOutput {
         match case {
             0 => NextOutput::End,
-            1 => NextOutput::Output(Literal::from_code(value)),
+            1 => NextOutput::Output(Literal::of_word(value)),
             _ => NextOutput::Stopped,
         }
     }
@@ -180,7 +180,7 @@ impl Closed {
         let [_, named, _, contradicted] = answer;
         Closed {
             end: Closing::of(answer),
-            contradicted: (named == 1).then_some(Literal::from_code(contradicted)),
+            contradicted: (named == 1).then_some(Literal::of_word(contradicted)),
         }
     }
 }

@@ -113,10 +113,11 @@ impl Ledger {
         conditions: &[Literal],
         outputs: &[Literal],
     ) -> Result<Charged<Offer>, Refusal> {
+        let (conditions, outputs) = (codes(conditions), codes(outputs));
         let answer = answered(|answer| {
             call!(ledger_offer(
                 &mut self.header, answer, &mut meter.words, [mut self.slots], [mut self.postings],
-                [codes(conditions)], [codes(outputs)]
+                [conditions], [outputs]
             ))
         })?;
         Ok(Charged::new(Offer::of(answer), answer))

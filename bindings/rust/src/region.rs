@@ -5,35 +5,42 @@ use crate::boundary::{call, ledger_decide};
 use crate::limits::MOST_ATOMS;
 use std::ops::Not;
 
-/// An atom with a sign: held, or cut. It is one word, the code 2 × atom, plus 1 for held.
+/// An atom with a sign: held, or cut. It is the code 2 × atom, plus 1 for held, of 32 bits.
 #[derive(Clone, Copy, Debug, PartialEq, Eq, PartialOrd, Ord, Hash)]
-#[repr(transparent)]
-pub struct Literal(u64);
+pub struct Literal(u32);
 
 impl Literal {
     /// The atom held. An atom that no code has gives the greatest code, which is refused wherever it is offered.
     pub const fn held(atom: u64) -> Literal {
-        Literal(atom.saturating_mul(2).saturating_add(1))
+        Literal::of_word(atom.saturating_mul(2).saturating_add(1))
     }
 
     /// The atom cut. An atom that no code has gives the greatest code, which is refused wherever it is offered.
     pub const fn cut(atom: u64) -> Literal {
-        Literal(atom.saturating_mul(2))
+        Literal::of_word(atom.saturating_mul(2))
     }
 
     /// The literal of a code.
-    pub const fn from_code(code: u64) -> Literal {
+    pub const fn from_code(code: u32) -> Literal {
         Literal(code)
     }
 
+    /// The literal of a code in a word. One that does not fit, which no answer has, gives the greatest code.
+    pub(crate) const fn of_word(word: u64) -> Literal {
+        if word > u32::MAX as u64 {
+            return Literal(u32::MAX);
+        }
+        Literal(word as u32)
+    }
+
     /// Its code.
-    pub const fn code(self) -> u64 {
+    pub const fn code(self) -> u32 {
         self.0
     }
 
     /// Its atom.
     pub const fn atom(self) -> u64 {
-        self.0 / 2
+        self.0 as u64 / 2
     }
 
     /// Whether it holds its atom; else it cuts it.
@@ -42,10 +49,9 @@ impl Literal {
     }
 }
 
-/// The codes of literals.
-pub(crate) const fn codes(literals: &[Literal]) -> &[u64] {
-    // SAFETY: a literal is laid out as its code, one word.
-    unsafe { std::slice::from_raw_parts(literals.as_ptr().cast(), literals.len()) }
+/// The codes of literals, a word each, as a call is lent them.
+pub(crate) fn codes(literals: &[Literal]) -> Vec<u64> {
+    literals.iter().map(|literal| u64::from(literal.0)).collect()
 }
 
 /// The same atom with the opposite sign.
@@ -138,7 +144,10 @@ impl Region {
 
     /// The literals marked, by ascending codes.
     pub fn literals(&self) -> impl Iterator<Item = Literal> {
-        (0..2 * self.atoms)
+        let marked = |&word: &usize| self.held[word] | self.cut[word] != 0;
+        (0..self.held.len())
+            .filter(marked)
+            .flat_map(|word| 128 * word as u32..128 * (word as u32 + 1))
             .map(Literal)
             .filter(|&literal| self.contains(literal))
     }

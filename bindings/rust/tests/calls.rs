@@ -6,7 +6,7 @@ use ledger::{
     Meter, NextOutput, Offer, Refusal, Region, Transfer,
 };
 
-fn codes<const N: usize>(codes: [u64; N]) -> [Literal; N] {
+fn codes<const N: usize>(codes: [u32; N]) -> [Literal; N] {
     codes.map(Literal::from_code)
 }
 
@@ -499,7 +499,7 @@ fn codes_have_32_bits() {
     );
     let offered = ledger.offer(&mut meter, &[near], &[Literal::held(65_536)]);
     assert_eq!(offered.unwrap().answer, Offer::Added(1));
-    for code in [400_000, (1 << 32) + 7] {
+    for code in [400_000, u32::MAX] {
         assert_eq!(
             ledger.offer(&mut meter, &codes([code]), &[last]),
             Err(Refusal(4))

@@ -105,7 +105,8 @@ module _ {h : Header} {slots postings : List ℕ} where
   here-searchable s n l =
       record {
         sorted = sort-sorted (posts h slots);
-        low = sort-each (λ x. x < atomsWide codeBits * maxRows) (posts h slots) (λ x k. omega (arith, s .held .over .atoms, here-low s x k));
+        low = sort-each (λ x. x < atomsWide codeBits * maxRows) (posts h slots)
+            (λ x k. omega (arith, s .held .over .atoms, here-low s x k));
         placed = sort-each (λ x. x % maxRows < n) (posts h slots) (λ x k. omega (arith, here-placed s x k));
       }
 

@@ -208,7 +208,8 @@ module _ (n : ℕ) (t : Row) (ok : T (isRow n t)) where
       go [] e = tt
       go (g ∷ gs) e = (let h = headed-index n g (e .0) in let l = words-for-le w n most in omega arith, go gs (e .1))
 
-  pub pointed-next : n ≤ atomsWide codeBits → (r : Region) (k : OutputCursor) (m : Meter) → Pointed t k → Pointed t (nextOutput r t k m .cursor)
+  pub pointed-next : n ≤ atomsWide codeBits → (r : Region) (k : OutputCursor) (m : Meter) → Pointed t k
+      → Pointed t (nextOutput r t k m .cursor)
   pointed-next most r k m w = record { next = λ p. stands p .0; word = λ p. stands p .1 }
     where
       stands : packed t ≡ true → Stands codeBits (length (groups (t .outputs))) (nextOutput r t k m .cursor)

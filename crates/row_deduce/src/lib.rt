@@ -446,7 +446,8 @@ fn packed_next(
     cut: &[u64],
     work: Meter,
 ) -> NextResult
-    requires { ⌜ Publishable (now slot) side (now held) (now cut) ⌝ ∗ ⌜ cursor .next ≤ side .count ⌝ ∗ ⌜ cursor .word < wordsWide codeBits ⌝ }
+    requires { ⌜ Publishable (now slot) side (now held) (now cut) ⌝ ∗ ⌜ cursor .next ≤ side .count ⌝
+        ∗ ⌜ cursor .word < wordsWide codeBits ⌝ }
     ensures { λ r. ⌜ r
         ≡ nextEnd work (packedNext (region (now (held .entry)) (now (cut .entry)))
         (chunksFrom (now (slot .entry)) side (side .count - cursor .next) (cursor .next)) cursor work) ⌝ }

@@ -1,5 +1,5 @@
-// `decide A ATOM VALUE HELD CUT`, VALUE 0 or 1: `decide ANSWER held=LIST cut=LIST`, ANSWER `True` or `False`. An error where the program has
-// no room for so many atoms; more than there can be are refused.
+// `decide A ATOM VALUE HELD CUT`, VALUE 0 or 1: `decide ANSWER held=LIST cut=LIST`, ANSWER `True` or `False`. An error where the program
+// has no room for so many atoms; more than there can be are refused.
 use boundary::ledger_decide;
 use script_answers::put_case;
 use script_answers::put_refused;

@@ -1,6 +1,6 @@
 -- 02, Seven: the atoms, codes and words of atoms that codes of w bits have. Assumes nothing.
 use mathlib.Core.Path.{_≡_, refl, sym, ap, _∙_}
-use Prim.Native.Nat.{ℕ, zero, suc, _+_, _-_, _*_, _/_, _^_, _≤_, _<_}
+use Prim.Native.Nat.{ℕ, suc, _+_, _-_, _*_, _/_, _^_, _≤_, _<_}
 use native.Mathlib.Omega.{arith}
 use Rattle.words.specs.Bit.{wordBits}
 use Rattle.words.specs.Literal.{codeBits, atomsWide, codesWide, wordsWide, atom, wordOf}
@@ -22,7 +22,7 @@ unfolding wordsFor
 words-for-le w n h = let e : wordsWide w ≡ (atomsWide w + (wordBits - 1)) / wordBits = refl in omega arith
 
 -- from 7 bits on the atoms fill whole words
-whole : (k : ℕ) → wordBits * ((2 ^ suc (suc (suc (suc (suc (suc k))))) + (wordBits - 1)) / wordBits) ≡ 2 ^ suc (suc (suc (suc (suc (suc k)))))
+whole : (k : ℕ) → let n = suc (suc (suc (suc (suc (suc k))))) in wordBits * ((2 ^ n + (wordBits - 1)) / wordBits) ≡ 2 ^ n
 whole k = omega arith
 
 words-whole : (w : ℕ) → 7 ≤ w → wordBits * wordsWide w ≡ atomsWide w

@@ -6,9 +6,9 @@ use crate::rows::{ATOMS, ROWS, Row};
 use zetesis_ferraris::regions::{LearningLimits, Literal, Retention, Tier, metered};
 
 const PLENTY: u64 = 1 << 40;
-fn limits() -> Limits {
+fn limits(atoms: u64) -> Limits {
     let rows = ROWS as u64;
-    [ATOMS, rows, 16, 64, 0, PLENTY, PLENTY, PLENTY, 16, 2]
+    [atoms, rows, 16, 64, 0, PLENTY, PLENTY, PLENTY, 16, 2]
 }
 
 fn learning() -> LearningLimits {
@@ -70,15 +70,24 @@ pub struct Both {
 
 impl Both {
     pub fn empty(number: u64) -> Self {
+        Self::over(ATOMS, number)
+    }
+
+    fn over(atoms: u64, number: u64) -> Self {
         Self {
-            lent: Lent::new(&limits(), number),
+            lent: Lent::new(&limits(atoms), number),
             tier: Tier::new(learning()),
         }
     }
 
     /// Offers the rows to both; their answers are the same.
     pub fn offered(rows: &[Row]) -> Self {
-        let mut both = Self::empty(1);
+        Self::offered_over(ATOMS, rows)
+    }
+
+    /// The same over so many atoms.
+    pub fn offered_over(atoms: u64, rows: &[Row]) -> Self {
+        let mut both = Self::over(atoms, 1);
         for row in rows {
             let answer = both.lent.offer(&row.conditions, &row.outputs);
             assert_eq!(answer, Offered::new(row).to(&mut both.tier), "an offer");

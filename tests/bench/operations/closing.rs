@@ -11,22 +11,22 @@ use zetesis_ferraris::regions::{Tier, metered};
 const REGIONS: usize = 16;
 
 /// What the Rust's closing works in.
-struct Scratch {
+pub struct Scratch {
     before: Vec<u64>,
     decided: Vec<usize>,
     rows: Vec<usize>,
 }
 
 impl Scratch {
-    fn new() -> Self {
+    pub fn new(words: usize) -> Self {
         Self {
-            before: vec![0; WORDS],
+            before: vec![0; words],
             decided: Vec::new(),
             rows: Vec::new(),
         }
     }
 
-    fn close(&mut self, tier: &mut Tier, region: &mut Region) -> (Option<u64>, u64) {
+    pub fn close(&mut self, tier: &mut Tier, region: &mut Region) -> (Option<u64>, u64) {
         let (rounds, ticks) = metered(u64::MAX, |work| {
             tier.close(
                 region,
@@ -58,7 +58,7 @@ fn region_of(marks: &Marks) -> Region {
 /// fired and atoms decided.
 fn agree(both: &mut Both, regions: &[Marks]) -> [f64; 3] {
     let (mut scratch, mut rows, mut atoms) =
-        (Scratch::new(), vec![0; ROWS], vec![0; ATOMS as usize]);
+        (Scratch::new(WORDS), vec![0; ROWS], vec![0; ATOMS as usize]);
     let mut sums = [0; 3];
     for marks in regions {
         let mut region = region_of(marks);
@@ -106,7 +106,7 @@ fn closings(name: &str, start: &Both, regions: &[Marks]) {
         let (mut lent, mut tier, mut checked) =
             (start.lent.clone(), start.tier.clone(), start.lent.clone());
         let (mut scratch, mut rows, mut atoms) =
-            (Scratch::new(), vec![0; ROWS], vec![0; ATOMS as usize]);
+            (Scratch::new(WORDS), vec![0; ROWS], vec![0; ATOMS as usize]);
         measure(
             &format!("  postings {state}"),
             REGIONS,

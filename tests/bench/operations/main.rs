@@ -2,7 +2,7 @@
 //! the Rust's by its own functions, which check nothing. Both sides get the same rows and regions, and must give the same
 //! answers and ticks before anything is measured. Times are in microseconds.
 //!
-//!     operations operations | closing
+//!     operations operations | closing | rounds
 
 #[allow(dead_code)]
 #[path = "../../book.rs"]
@@ -18,6 +18,7 @@ mod operations;
 mod place;
 #[path = "../../random.rs"]
 mod random;
+mod rounds;
 mod rows;
 mod timing;
 
@@ -25,6 +26,7 @@ fn main() {
     match std::env::args().nth(1).as_deref() {
         Some("operations") => operations::operations(),
         Some("closing") => closing::closing(),
-        _ => panic!("one word: operations or closing"),
+        Some("rounds") => rounds::rounds(),
+        _ => panic!("one word: operations, closing or rounds"),
     }
 }

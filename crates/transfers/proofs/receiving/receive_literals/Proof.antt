@@ -97,7 +97,8 @@ retain-requires c κs =
     let n : ℕ = a .header .limits .atoms in
     let s = t l .pre .1 .0 in
     let m = most-fits n (now (a .row)) s (P l) (laid-out l) (a .outputs) (l .larger .result) (l .larger .ensures) (t l .pre .1 .1) in
-    (t l .pre .0, (literals-proposed n (now (a .row)) s (P l) (laid-out l) (t l .pre .0 .atoms), (literals-row n (now (a .row)) s (P l) (laid-out l), m)))
+    let o = literals-proposed n (now (a .row)) s (P l) (laid-out l) (t l .pre .0 .atoms) in
+    (t l .pre .0, (o, (literals-row n (now (a .row)) s (P l) (laid-out l), m)))
 
 enum-told-2 : tie.Need-enum-told-2
 enum-told-2 c = search needs
