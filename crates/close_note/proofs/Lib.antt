@@ -1,2 +1,4 @@
 pub mod Undecided
 pub mod Logging
+pub mod Marked
+pub mod Gathering

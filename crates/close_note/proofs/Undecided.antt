@@ -11,7 +11,7 @@ use borrow.Author.Tests.{eq-eqb, ne-eqb}
 use Rattle.lists.specs.Counts.{is, times, Each}
 use Rattle.lists.specs.Lists.{upTo}
 use Rattle.lists.proofs.Bools.{or-assoc}
-use Rattle.lists.proofs.Counts.{same-or, is-equal, is-other, times-select-yes, times-select-no}
+use Rattle.lists.proofs.Counts.{same-or, lt-or-ge, is-equal, is-other, times-select-yes, times-select-no, each-none}
 use Rattle.lists.proofs.Selects.{each-select, select-short, length-upTo, range-from}
 use Rattle.lists.proofs.Marks.{times-range}
 use Rattle.words.specs.Literal.{atom, isPresent, wordOf}
@@ -78,6 +78,15 @@ module _ (n : ℕ) (r : Region) where
   unfolding undecided upTo
   undecided-below =
       each-select (λ a. a < n) (λ a. not (decided r a)) (upTo n) (λ a h. let b = range-from 0 n a h in omega arith)
+
+  pub undecided-once : (v : ℕ) → times v (undecided n r) ≤ 1
+  unfolding upTo
+  undecided-once v = go (decided r v) refl (lt-or-ge v n)
+    where
+      go : (b : Bool) → decided r v ≡ b → (v < n) ⊎ (n ≤ v) → times v (undecided n r) ≤ 1
+      go true e o = let z = times-decided v e in omega arith
+      go false e (inl l) = let t = times-open v e in let u = times-range v 0 n (omega arith) (omega arith) in omega arith
+      go false e (inr l) = let z = each-none (λ a. a < n) v (undecided n r) undecided-below (λ h. omega arith) in omega arith
 
   pub undecided-few : length (undecided n r) ≤ n
   unfolding undecided

@@ -153,7 +153,7 @@ fn one_round(
     let spent = ended.meter;
     let contradicted = read.contradicted;
     if let Flow::Continues = flow {
-        in_order(noted, read.decided, header.limits.atoms);
+        in_order(noted, read.decided, header.limits.atoms, places);
     }
     RoundEnd {
         flow: flow,

@@ -1,11 +1,12 @@
 -- `close_rounds::one_round`. The search, then the rows that it found, then the notes in order. Assumes nothing.
-use mathlib.Core.Path.{_≡_, refl, subst}
+use mathlib.Core.Path.{_≡_, refl, _∙_, subst}
 use mathlib.Core.Logic.{inr}
+use native.Mathlib.Omega.{arith}
 use lib.ListN.{take}
 use borrow.Author.Needs.{needs}
 use Rattle.words.specs.Region.{region}
 use Rattle.close_note.specs.Noting.{Gathered}
-use Rattle.close_note.proofs.Logging.{room-start, logs-below, logs-since}
+use Rattle.close_note.proofs.Logging.{room-start, logs-notes, logs-since}
 use Rattle.close_publish.specs.Turns.{endedAs}
 use Rattle.close_rounds.specs.Running.{Running}
 use Rattle.close_rounds.specs.Rounds.{stateIn, oneRound, Under}
@@ -54,11 +55,14 @@ at-round-from-spent c = at-round-from-slice-known12 (c .before .before)
 abbrev at-round-from-enum-told : tie.After-enum-told → tie.After-round
 at-round-from-enum-told c = at-round-from-spent (c .before .before)
 
-abbrev at-in-order : tie.After-slice-known13 → tie.After-in-order
-at-in-order c = c .before .before
+abbrev at-round-from-in-order-arg2 : tie.After-in-order-arg2 → tie.After-round
+at-round-from-in-order-arg2 c = at-round-from-enum-told (c .before .before)
+
+abbrev at-in-order : tie.After-slice-known14 → tie.After-in-order
+at-in-order c = c .before .before .before .before
 
 abbrev at-round : tie.After-in-order → tie.After-round
-at-round c = at-round-from-enum-told (c .before .before)
+at-round c = at-round-from-in-order-arg2 (c .before)
 
 -- what a round leaves, however it ended
 module _ (c : tie.After-round) where
@@ -193,10 +197,12 @@ enum-told c = search needs
 
 in-order-requires : tie.Need-in-order-requires
 in-order-requires c κs =
-    let k = at-round-from-enum-told (c .before) in
+    let k = at-round-from-in-order-arg2 c in
     let a = start k .args in
     let g = k .round .ensures .1 .1 in
-    (g .within, logs-below (a .header .limits .atoms) (a .noted .now) (region (a .held .now) (a .cut .now)) _ _ _ g)
+    let kept = k .round .kept .1 .1 .1 .1 .1 .1 .0 in
+    let long = start k .pre .1 .1 .0 in
+    (logs-notes (a .header .limits .atoms) (a .noted .now) (region (a .held .now) (a .cut .now)) _ _ _ g, omega arith)
 
 same-length-5 : tie.Need-same-length-5
 same-length-5 c = search needs
@@ -211,7 +217,9 @@ same-length-8 : tie.Need-same-length-8
 same-length-8 c = search needs
 
 same-length-9 : tie.Need-same-length-9
-same-length-9 c = found (at-round (at-in-order c)) .candidates .kept .1 .1 .1 .1 .0
+same-length-9 c =
+    let ordered = at-in-order c in
+    ordered .in-order .kept .1 .1 .1 .0 ∙ found (at-round ordered) .candidates .kept .1 .1 .1 .1 .0
 
 same-length-10 : tie.Need-same-length-10
 same-length-10 c = search needs
