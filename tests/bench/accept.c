@@ -1,29 +1,40 @@
-/* What the acceptance of a lent ledger costs: Begin, which is the acceptance and one flag, on 256 rows with their postings built, beside one
- * read of the same buffers, a plain sum over all their words. Of each size of rows and number of atoms two kinds of ledger: rows whose atoms
- * lie anywhere, laid out code by code where they are few, and rows whose atoms lie close together, which are packed. Each time is the
- * least of many calls on one ledger; the time of a first call is the middle one of 200 ledgers, each met once, since a processor learns
- * the branches that a ledger takes when it meets it again. The rows and their words are made here, by document 01 alone.
- *     accept [calls]            prints the figures
- *     accept calls KIND         makes that many calls on one ledger of `kinds` and prints nothing: for a profiler */
+/* What the acceptance of a lent ledger costs: Begin, which is the acceptance and one flag, on a full tier with its postings built, beside one
+ * read of the same buffers, a plain sum over all their words. Of each number of rows, size of rows and number of atoms two kinds of ledger:
+ * rows whose atoms lie anywhere, laid out code by code where they are few, and rows whose atoms lie close together, which are packed. Each
+ * time is the least of many calls on one ledger; the time of a first call is the middle one of 200 ledgers, each met once, since a processor
+ * learns the branches that a ledger takes when it meets it again. The rows and their words are made here, by document 01 alone. A line that
+ * ends in OVER is above what is asked.
+ *     accept [calls]            prints the figures; so many calls on 64 rows, fewer on more
+ *     accept calls KIND ROWS    makes that many calls on one ledger and prints nothing: for a profiler. KIND counts the lines of 64 rows from 0 */
 #include "ledger.h"
 #include <stdio.h>
 #include <stdlib.h>
 #include <string.h>
 #include <time.h>
 
-enum { ROWS = 256, MOST_CONDITIONS = 16, MOST_OUTPUTS = 64, MOST_POSITIONS = 4096, LEDGERS = 200 };
-enum { SLOTS = ROWS * LEDGER_SLOT_WORDS, POSTINGS = ROWS * LEDGER_POSTING_WORDS };
+enum { MOST_CONDITIONS = 16, MOST_OUTPUTS = 64, MOST_POSITIONS = 4096, LEDGERS = 200, FIRST_ROWS = 256, LEAST_CALLS = 50 };
 
-static uint64_t head[LEDGER_HEAD_WORDS], answer[LEDGER_ANSWER_WORDS], slots[SLOTS], postings[POSTINGS];
-static int packed_rows;
+static uint64_t head[LEDGER_HEAD_WORDS], answer[LEDGER_ANSWER_WORDS];
+static uint64_t slots[MOST_POSITIONS * LEDGER_SLOT_WORDS], postings[MOST_POSITIONS * LEDGER_POSTING_WORDS];
+static int rows, packed_rows;
+
+static size_t slots_length(void) { return (size_t)rows * LEDGER_SLOT_WORDS; }
+static size_t postings_length(void) { return (size_t)rows * LEDGER_POSTING_WORDS; }
 
 /* Over 4,096 atoms at most each atom has a place of its own in the check of the postings; over more, each row has one. */
 struct kind { uint64_t atoms; int conditions, outputs, close; };
-static const struct kind kinds[] = {
-    { 4096, 4, 8, 0 }, { 4096, 4, 8, 1 }, { 32768, 4, 8, 0 }, { 32768, 4, 8, 1 },
-    { 4096, 16, 64, 0 }, { 4096, 16, 64, 1 }, { 32768, 16, 64, 0 }, { 32768, 16, 64, 1 },
-};
-enum { KINDS = sizeof kinds / sizeof *kinds };
+static const int row_counts[] = { 64, 256, 1024, 4096 };
+static const uint64_t atom_counts[] = { 128, 4096, 8192, 32768, 200000, 1048576 };
+/* At most so many times one read is what is asked. */
+static const struct { int conditions, outputs; double most; } sizes[] = { { 4, 8, 4 }, { 16, 64, 17 } };
+#define COUNT(list) ((int)(sizeof(list) / sizeof *(list)))
+enum { KINDS = COUNT(sizes) * COUNT(atom_counts) * 2 };
+
+static struct kind kind(int n)
+{
+    int size = n / 2 / COUNT(atom_counts);
+    return (struct kind){ atom_counts[n / 2 % COUNT(atom_counts)], sizes[size].conditions, sizes[size].outputs, n % 2 };
+}
 
 /* xorshift64*: the same rows in every run. */
 static uint64_t state;
@@ -95,16 +106,16 @@ static int lay(const struct kind *k, int position, uint64_t *c, int at)
 /* A ledger: the conditions of `close` rows lie within a word, their outputs within two. */
 static void build(const struct kind *k, int seed)
 {
-    const uint64_t limits[LEDGER_LIMIT_WORDS] = { k->atoms, ROWS, 16, 64, 64, 256, 131072, 131072, 8, 2 };
+    const uint64_t limits[LEDGER_LIMIT_WORDS] = { k->atoms, rows, 16, 64, 64, 256, 131072, 131072, 8, 2 };
     memset(head, 0, sizeof head);
-    memset(slots, 0, sizeof slots);
-    memset(postings, 0, sizeof postings);
+    memset(slots, 0, sizeof *slots * slots_length());
+    memset(postings, 0, sizeof *postings * postings_length());
     memcpy(head, limits, sizeof limits);
-    head[LEDGER_ROWS] = head[LEDGER_BORN] = ROWS;
+    head[LEDGER_ROWS] = head[LEDGER_BORN] = rows;
     state = 88172645463325252u + 1000003u * (uint64_t)seed;
     packed_rows = 0;
     int at = 0;
-    for (int p = 0; p < ROWS; p++) {
+    for (int p = 0; p < rows; p++) {
         uint64_t c[MOST_CONDITIONS + MOST_OUTPUTS];
         codes(c, k->conditions, k->close ? 64 * below(k->atoms / 64) : 0, k->close ? 64 : k->atoms);
         codes(c + k->conditions, k->outputs, k->close ? 64 * below(k->atoms / 64 - 1) : 0, k->close ? 128 : k->atoms);
@@ -113,7 +124,7 @@ static void build(const struct kind *k, int seed)
     qsort(postings, at, sizeof *postings, ascending);
 }
 
-static uint64_t begin(void) { return ledger_begin(head, answer, slots, SLOTS, postings, POSTINGS); }
+static uint64_t begin(void) { return ledger_begin(head, answer, slots, slots_length(), postings, postings_length()); }
 
 /* One read, as a plain loop and as four quarters side by side: which is faster depends on the compiler, and the faster one counts. Both lengths
  * are multiples of 4. */
@@ -131,8 +142,8 @@ __attribute__((noinline)) static uint64_t sum4(const uint64_t *w, size_t n)
         s += w[i] + w[m + i] + w[2 * m + i] + w[3 * m + i];
     return s;
 }
-static uint64_t sums(void) { return sum(slots, SLOTS) + sum(postings, POSTINGS); }
-static uint64_t sums4(void) { return sum4(slots, SLOTS) + sum4(postings, POSTINGS); }
+static uint64_t sums(void) { return sum(slots, slots_length()) + sum(postings, postings_length()); }
+static uint64_t sums4(void) { return sum4(slots, slots_length()) + sum4(postings, postings_length()); }
 
 static double now(void)
 {
@@ -172,34 +183,52 @@ static double first(const struct kind *k)
     return took[LEDGERS / 2];
 }
 
+/* One line: nanoseconds a row, and in brackets times one read. */
+static int line(const struct kind *k, double most, int calls)
+{
+    build(k, 0);
+    if (begin() != 0 || answer[LEDGER_CASE] != LEDGER_DONE || head[LEDGER_FULL] != 1) {
+        printf("Begin did not answer Done\n");
+        return 1;
+    }
+    int packed = packed_rows;
+    double accept = least(begin, calls), plain = least(sums, calls), quarters = least(sums4, calls), read = plain < quarters ? plain : quarters;
+    head[LEDGER_STALE] = 1;
+    memset(postings, 0, sizeof *postings * postings_length());
+    if (begin() != 0) {
+        printf("Begin did not answer Done without postings\n");
+        return 1;
+    }
+    double stale = least(begin, calls);
+    printf("%4d rows of %2d and %2d, %7d atoms, %5s, %4d packed: read %5.1f, accepted %6.1f (%5.2f), stale %6.1f (%5.2f)", rows, k->conditions,
+           k->outputs, (int)k->atoms, k->close ? "close" : "any", packed, read / rows, accept / rows, accept / read, stale / rows, stale / read);
+    if (rows == FIRST_ROWS) {
+        double once = first(k);
+        printf(", first call %6.1f (%5.2f)", once / rows, once / read);
+    }
+    printf("%s\n", accept > most * read ? " OVER" : "");
+    fflush(stdout);
+    return 0;
+}
+
 int main(int argc, char **argv)
 {
     int calls = argc > 1 ? atoi(argv[1]) : 20000;
-    if (argc > 2) {
-        build(&kinds[atoi(argv[2]) % KINDS], 0);
+    if (argc > 3) {
+        struct kind k = kind(atoi(argv[2]) % KINDS);
+        rows = atoi(argv[3]);
+        build(&k, 0);
         for (int i = 0; i < calls; i++)
             kept = begin();
         return kept != 0;
     }
-    for (const struct kind *k = kinds; k < kinds + KINDS; k++) {
-        build(k, 0);
-        if (begin() != 0 || answer[LEDGER_CASE] != LEDGER_DONE || head[LEDGER_FULL] != 1) {
-            printf("Begin did not answer Done\n");
-            return 1;
+    for (int r = 0; r < COUNT(row_counts); r++)
+        for (int n = 0; n < KINDS; n++) {
+            struct kind k = kind(n);
+            rows = row_counts[r];
+            int fewer = (int)((long)calls * row_counts[0] / rows);
+            if (line(&k, sizes[n / 2 / COUNT(atom_counts)].most, fewer < LEAST_CALLS ? LEAST_CALLS : fewer))
+                return 1;
         }
-        int packed = packed_rows;
-        double accept = least(begin, calls), plain = least(sums, calls), quarters = least(sums4, calls), read = plain < quarters ? plain : quarters;
-        head[LEDGER_STALE] = 1;
-        memset(postings, 0, sizeof postings);
-        if (begin() != 0) {
-            printf("Begin did not answer Done without postings\n");
-            return 1;
-        }
-        double stale = least(begin, calls), once = first(k);
-        printf("%d and %d literals over %d atoms, %s, %d of %d rows packed. ns a row: one read %.1f, acceptance %.1f, without postings %.1f, "
-               "first call %.1f. Times one read: %.2f, %.2f, %.2f\n",
-               k->conditions, k->outputs, (int)k->atoms, k->close ? "close" : "any", packed, ROWS, read / ROWS, accept / ROWS,
-               stale / ROWS, once / ROWS, accept / read, stale / read, once / read);
-    }
     return 0;
 }

@@ -84,7 +84,7 @@ add-result : tie.Need-add-result
 add-result c =
     let x = one-le (c .before .before .before .before .codes-have .result) in
     let y = one-le (c .before .codes-have2 .result) in
-    omega (arith, c .before .before .before .one-if .ensures, c .one-if2 .ensures)
+    omega (arith, c .before .before .before .one-if .ensures .0, c .one-if2 .ensures .0)
 
 returns : tie.Need-returns
 returns c =
@@ -96,8 +96,8 @@ returns c =
     (start .pre .0)
     (codes-have .before .before .before .before .if1 .taken)
     (start .args .atom) _ _
-    (one-if .one-if .ensures ∙ ap oneIf (codes-have .codes-have .ensures))
-    (c .one-if2 .ensures ∙ ap oneIf (codes-have2 .codes-have2 .ensures))
+    (one-if .one-if .ensures .0 ∙ ap oneIf (codes-have .codes-have .ensures))
+    (c .one-if2 .ensures .0 ∙ ap oneIf (codes-have2 .codes-have2 .ensures))
 
 shared-slice-read-from-2 : tie.Need-shared-slice-read-from-2
 shared-slice-read-from-2 c = search needs
@@ -154,7 +154,7 @@ add-result-2 : tie.Need-add-result-2
 add-result-2 c =
     let x = one-le (c .before .before .before .before .groups-have .result) in
     let y = one-le (c .before .groups-have2 .result) in
-    omega (arith, c .before .before .before .one-if3 .ensures, c .one-if4 .ensures)
+    omega (arith, c .before .before .before .one-if3 .ensures .0, c .one-if4 .ensures .0)
 
 returns-2 : tie.Need-returns-2
 returns-2 c =
@@ -166,8 +166,8 @@ returns-2 c =
     (start .pre .0)
     (groups-have .before .before .before .before .if1 .left)
     (start .args .atom) _ _
-    (one-if3 .one-if3 .ensures ∙ ap oneIf (groups-have .groups-have .ensures))
-    (c .one-if4 .ensures ∙ ap oneIf (groups-have2 .groups-have2 .ensures))
+    (one-if3 .one-if3 .ensures .0 ∙ ap oneIf (groups-have .groups-have .ensures))
+    (c .one-if4 .ensures .0 ∙ ap oneIf (groups-have2 .groups-have2 .ensures))
 
 pub times-posted-spec : {M : Type 1} → statement M
 times-posted-spec =
