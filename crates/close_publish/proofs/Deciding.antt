@@ -1,21 +1,29 @@
 -- A decision in a closing: the code's answer as a turn, the region after it, and whether an atom was decided. Assumes nothing.
 use mathlib.Core.Path.{_≡_, refl, sym, ap, ap₂, _∙_, subst}
 use mathlib.Core.Bool.{Bool, true, false, _||_}
-use mathlib.Core.List.{List}
+use mathlib.Core.Logic.{inl, inr}
+use mathlib.Core.List.{List, [], _∷_}
 use mathlib.Core.Option.{some}
 use Prim.Native.Nat.{ℕ}
-use lib.Dec.{T, eqb}
+use native.Mathlib.Omega.{arith}
+use types.Run.{OneOf}
+use denote.Enum.Declared.{tagOf}
+use lib.Dec.{T, eqb, ltb}
+use borrow.Author.Tests.{lt-ltb, le-ltb}
 use Rattle.lists.proofs.Bools.{and-both, T-true, T-of}
 use Rattle.words.specs.Region.{Region, region, isRegion, atomsOk, holds, decide, decisionOn, decisionWith, marking}
 use Rattle.words.specs.Region.{answerIn}
 use Rattle.words.specs.declared.Marking.{Marking}
-use Rattle.words.specs.declared.Marking.the-variants.{Anew, Already}
+use Rattle.words.specs.declared.Marking.the-variants.{Anew, Already, False}
+use Rattle.words.proofs.Marking.{the-type}
 use Rattle.words.proofs.Regions.{Sound, sound-of, region-test}
 use Rattle.words.proofs.Deciding.{sound-decide, answer-none, answer-some, decide-some, holds-mark, marked-anew, marked-already}
 use Rattle.meter.specs.declared.Meter.{Meter}
 use Rattle.model.specs.Closing.{State, going, conflict, decideOn, decides, earns}
 use Rattle.model.specs.Priority.{Contains}
 use Rattle.model.proofs.Priority.Earning.{decides-none, decides-anew}
+use Rattle.close_note.specs.Noting.{afterMark, Room, Logs}
+use Rattle.close_note.proofs.Logging.{logs-none}
 use Rattle.close_publish.specs.Turns.{Beside, state}
 
 -- words that are sound where there was a region are one
@@ -48,6 +56,14 @@ module _ (n : ℕ) (held cut : List ℕ) (c : ℕ) (b : Bool) (held′ cut′ : 
           let a = answer-none n held cut c false held′ cut′ q refl in
           subst (λ (r : Region). T (isRegion n r)) (ap₂ (λ (x y : List ℕ). region x y) (sym (a .1)) (sym (a .2))) t
 
+  -- and nothing is noted
+  pub conflict-logs : b ≡ false → (k : ℕ) (ws : List ℕ) → Room n k ws (region held cut)
+      → Logs n k ws (region held cut) k ws (region held′ cut′)
+  conflict-logs f k ws w =
+      let a = answer-none n held cut c b held′ cut′ e f in
+      subst (λ (r : Region). Logs n k ws (region held cut) k ws r) (ap₂ (λ (x y : List ℕ). region x y) (sym (a .1)) (sym (a .2)))
+      (logs-none n k ws (region held cut) w)
+
 -- ---- whether an atom was decided
 module _ (n : ℕ) (r q : Region) (c : ℕ) (e : decide n r c ≡ some q) (s : Sound n r) where
   pub decided-grown : Contains q r
@@ -64,6 +80,13 @@ module _ (n : ℕ) (r q : Region) (c : ℕ) (e : decide n r c ≡ some q) (s : S
   decided-anew m = sym (decides-anew n r q c e s (marked-anew n r c q e m))
 
 -- ---- what the code's answer says of it
+-- neither sort of mark is a false decision
+pub marked-yes : (k : Marking) → OneOf (0 ∷ 1 ∷ []) (tagOf the-type k) → answerIn k ≡ true
+marked-yes Anew o = refl
+marked-yes Already o = refl
+marked-yes False (inl z) = absurd (omega arith)
+marked-yes False (inr z) = absurd (omega arith)
+
 module _ (n : ℕ) (held cut : List ℕ) (c : ℕ) (k : Marking) (held′ cut′ : List ℕ) (q : k ≡ marking n (region held cut) c)
     (e : decisionWith (answerIn k) held′ cut′ ≡ decisionOn n held cut c) (t : T (isRegion n (region held cut))) where
   abbrev before : Region
@@ -72,13 +95,25 @@ module _ (n : ℕ) (held cut : List ℕ) (c : ℕ) (k : Marking) (held′ cut′
   made : answerIn k ≡ true → decide n (region held cut) c ≡ some (region held′ cut′)
   made a = answer-some n held cut c (answerIn k) held′ cut′ e a
 
-  pub anew-earns : k ≡ Anew → (m : Meter) (l : Beside) → true ≡ earns n (region held cut) (going (state l held′ cut′ m))
+  anew-earns : k ≡ Anew → (m : Meter) (l : Beside) → true ≡ earns n (region held cut) (going (state l held′ cut′ m))
   unfolding earns
   anew-earns a m l = decided-anew n before (region held′ cut′) c (made (ap answerIn a)) (sound-of n before t) (sym q ∙ a)
 
-  pub already-earns : k ≡ Already → (m : Meter) (l : Beside) → false ≡ earns n (region held cut) (going (state l held′ cut′ m))
+  already-earns : k ≡ Already → (m : Meter) (l : Beside) → false ≡ earns n (region held cut) (going (state l held′ cut′ m))
   unfolding earns
   already-earns a m l = decided-already n before (region held′ cut′) c (made (ap answerIn a)) (sound-of n before t) (sym q ∙ a)
+
+  -- more are noted than were exactly if an atom was decided
+  pub noted-earns : OneOf (0 ∷ 1 ∷ []) (tagOf the-type k) → (d d′ : ℕ) → d′ ≡ afterMark k d → (m : Meter) (l : Beside)
+      → ltb d d′ ≡ earns n (region held cut) (going (state l held′ cut′ m))
+  noted-earns o d d′ a m l = go k refl o a
+    where
+      go : (x : Marking) → k ≡ x → OneOf (0 ∷ 1 ∷ []) (tagOf the-type x) → d′ ≡ afterMark x d
+          → ltb d d′ ≡ earns n (region held cut) (going (state l held′ cut′ m))
+      go Anew y o a = lt-ltb d d′ (omega arith) ∙ anew-earns y m l
+      go Already y o a = le-ltb d d′ (omega arith) ∙ already-earns y m l
+      go False y (inl z) a = absurd (omega arith)
+      go False y (inr z) a = absurd (omega arith)
 
 -- a Conflict, whatever was decided
 pub conflict-earns : (n : ℕ) (old : Region) (s : State) → true ≡ earns n old (conflict s)

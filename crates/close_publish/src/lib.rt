@@ -81,32 +81,25 @@ fn decide_on(
         (now (noted .exit)) (region (now (held .exit)) (now (cut .exit))) ⌝ }
 {
     let marking = decide_literal(atoms, held, cut, literal);
-    let after = note(noted, decided, literal / 2, marking);
-    match marking {
-        Marking::Anew => Reading {
-            ended: Ended {
-                flow: Flow::Continues,
-                meter: work,
-            },
-            earned: true,
-            decided: after,
-        },
-        Marking::Already => Reading {
-            ended: Ended {
-                flow: Flow::Continues,
-                meter: work,
-            },
-            earned: false,
-            decided: after,
-        },
-        Marking::False => Reading {
+    if let Marking::False = marking {
+        return Reading {
             ended: Ended {
                 flow: Flow::Conflict,
                 meter: work,
             },
             earned: true, // also if nothing was decided
-            decided: after,
+            decided: decided,
+        };
+    }
+    // from here on without a branch: which of the literals are decided anew is not foreseen
+    let after = note(noted, decided, literal / 2, marking);
+    Reading {
+        ended: Ended {
+            flow: Flow::Continues,
+            meter: work,
         },
+        earned: decided < after,
+        decided: after,
     }
 }
 
