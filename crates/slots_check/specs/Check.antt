@@ -10,7 +10,7 @@ use lib.ListN.{length, getD, take, drop}
 use Rattle.lists.specs.Lists.{same, zeroed}
 use Rattle.words.specs.Bit.{wordBits}
 use Rattle.words.specs.Literal.{atom}
-use Rattle.words.specs.Codes.{climbs}
+use Rattle.words.specs.Codes.{climbs, runs}
 use Rattle.model.specs.Records.{Entry, isRow, maxConditions, maxOutputs}
 use Rattle.model.specs.Records.{conditionsAt, outputsAt, totalGroupsAt, conditionGroupsAt, bornAt, deliveredAt, bodyAt, groupLength}
 use Rattle.model.specs.Rows.{groups}
@@ -57,6 +57,10 @@ noSide = 4294967295
 
 unfoldable pub sideCodes : Bool → ℕ → List ℕ → ℕ
 sideCodes apart n ws = elim (groupsOk apart n 0 ws) [ true ↦ codeCount ws | false ↦ noSide ]
+
+-- the groups that the codes of a side would be; codes that are not in order, or of an atom at n or above, count as more than any side has
+unfoldable pub sideGroups : ℕ → ℕ → List ℕ → ℕ
+sideGroups n bits cs = elim (climbs n bits cs) [ true ↦ runs 7 cs | false ↦ noSide ]
 
 -- ---- one slot
 abbrev pub allZero : List ℕ → Bool

@@ -6,7 +6,7 @@ ghost use lib.Dec.{ltb};
 ghost use lib.ListN.{length, getD};
 ghost use Rattle.words.specs.Region.{maxAtoms};
 ghost use Rattle.model.specs.Records.{slotWords, maxConditions, maxOutputs, conditionsAt, outputsAt};
-ghost use Rattle.slots_check.specs.Check.{bitsBelow, groupOk, sideCodes, scalarOk, packedOk, slotOk};
+ghost use Rattle.slots_check.specs.Check.{bitsBelow, groupOk, sideCodes, sideGroups, scalarOk, packedOk, slotOk};
 use lists::all_zero;
 use model::BODY_AT;
 use model::BORN_AT;
@@ -19,8 +19,6 @@ use model::MAX_GROUPS;
 use model::MAX_OUTPUTS;
 use model::OUTPUTS_AT;
 use model::TOTAL_GROUPS_AT;
-use words::ascends;
-use words::run_count;
 
 // The number of codes of words that are no side of a slot: no side has so many.
 const NO_SIDE: usize = 0xffff_ffff;
@@ -94,6 +92,34 @@ fn group_codes(words: &[u64], apart: bool, atoms: u64) -> usize
     if at == words.len() { count } else { NO_SIDE }
 }
 
+// How many groups the codes would be, if they ascend once the low bits are shifted out and their atoms are below `atoms`; else more than any side has.
+// The last code is the greatest: it alone is held to the bound, and the walk goes from it to the first.
+fn code_groups(codes: &[u64], shift: u32, atoms: u64) -> usize
+    requires { ⌜ shift < 64 ⌝ ∗ ⌜ length (now codes) ≤ slotWords ⌝ }
+    ensures { λ r. ⌜ r ≡ sideGroups atoms shift (now (codes .entry)) ⌝ }
+{
+    if codes.len() == 0 {
+        return 0;
+    }
+    let mut i = codes.len() - 1;
+    if atoms <= codes[i] / 2 {
+        return NO_SIDE;
+    }
+    let mut count: usize = 1;
+    while 0 < i {
+        let x = codes[i - 1];
+        let y = codes[i];
+        if y >> shift <= x >> shift {
+            return NO_SIDE;
+        }
+        if x >> 7 != y >> 7 {
+            count += 1;
+        }
+        i -= 1;
+    }
+    count
+}
+
 // The scalar form: the codes in order, too few to be packed, and zeros after them.
 fn is_scalar(slot: &[u64], atoms: u64) -> bool
     requires { ⌜ length (now slot) ≡ slotWords ⌝ ∗ ⌜ getD (now slot) conditionsAt 0 ≤ maxConditions ⌝
@@ -107,13 +133,15 @@ fn is_scalar(slot: &[u64], atoms: u64) -> bool
     let no = slot[OUTPUTS_AT] as usize;
     let from = BODY_AT + nc;
     let end = from + no;
-    if !ascends(&slot[BODY_AT..from], 1, atoms) {
+    let g = code_groups(&slot[BODY_AT..from], 1, atoms);
+    if g == NO_SIDE {
         return false;
     }
-    if !ascends(&slot[from..end], 0, atoms) {
+    let h = code_groups(&slot[from..end], 0, atoms);
+    if h == NO_SIDE {
         return false;
     }
-    let w = run_count(&slot[BODY_AT..from], 7) + run_count(&slot[from..end], 7);
+    let w = g + h;
     if 3 * w < 2 * (nc + no) {
         return false;
     }
