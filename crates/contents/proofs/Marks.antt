@@ -212,7 +212,8 @@ module _ (ws : List ℕ) (rs : List Row) (n : ℕ) (h : Ended (length (postingsO
       go (yes e) = due-no ws rs n e (h .inside) f
       go (no d) = sym (same-no ws (pad (length ws) (postingsDue false rs)) (λ e. h .last d (behind d e)))
 
-  pub ended-rest : same (take (n - 0) ws) (sortOf (postingsOf rs)) ≡ true → allZero (drop n ws) ≡ same ws (pad (length ws) (postingsDue false rs))
+  pub ended-rest : same (take (n - 0) ws) (sortOf (postingsOf rs)) ≡ true
+      → allZero (drop n ws) ≡ same ws (pad (length ws) (postingsDue false rs))
   ended-rest f =
       let q = ap length (same-true (take (n - 0) ws) (sortOf (postingsOf rs)) f) in
       let e : n ≡ length (postingsOf rs) =

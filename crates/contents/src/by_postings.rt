@@ -25,8 +25,9 @@ use model::SLOT_WORDS;
 use model::TOTAL_GROUPS_AT;
 use words::run_count;
 
-// The place of a row says where its next postings should be found: its remainder by SIDE for the next condition, what is left for the next output.
-// Below PACKED it counts the row's codes from its body on, from PACKED on and below NOWHERE its groups; from NOWHERE on it says nothing.
+// The place of a row says where its next postings should be found: its remainder by SIDE for the next condition, what is left for the
+// next output. Below PACKED it counts the row's codes from its body on, from PACKED on and below NOWHERE its groups; from NOWHERE on it
+// says nothing.
 const SIDE: usize = 256;
 
 const PACKED: usize = 32768;
@@ -225,8 +226,8 @@ fn mark_rows(slots: &[u64], rows: usize, places: &mut [u16]) -> usize
     count
 }
 
-// Looks for an atom among the codes of the row in a slot at a place a side: 1 for the first, SIDE for the second, 0 where it is at neither. Behind its
-// codes a slot has zeros, and 0 is a code of atom 0: only for the other atoms what is seen is sure.
+// Looks for an atom among the codes of the row in a slot at a place a side: 1 for the first, SIDE for the second, 0 where it is at
+// neither. Behind its codes a slot has zeros, and 0 is a code of atom 0: only for the other atoms what is seen is sure.
 fn code_steps(slot: &[u64], place: usize, atom: u64) -> usize
     requires { ⌜ LaidOut (now slot) ⌝ ∗ ⌜ getD (now slot) totalGroupsAt 0 ≡ 0 ⌝ ∗ ⌜ place < packedFrom ⌝ }
     ensures { λ r. ⌜ (r ≤ 257) × (1 ≤ atom → 1 ≤ r → 1 ≤ times atom (postedAtoms (rowIn (now (slot .entry))))) ⌝ }
@@ -261,8 +262,8 @@ fn group_steps(slot: &[u64], place: usize, atom: u64) -> usize
     first + SIDE * second
 }
 
-// Whether the posting of a row laid out code by code is seen at the row's place, which moves on, or at the next one: one output further on, since both
-// signs of an output are two codes and one posting.
+// Whether the posting of a row laid out code by code is seen at the row's place, which moves on, or at the next one: one output further
+// on, since both signs of an output are two codes and one posting.
 fn sees_code(slots: &[u64], rows: usize, places: &mut [u16], posting: u64, place: usize) -> bool
     requires { ⌜ Rows rows (now slots) ⌝ ∗ ⌜ length (now places) ≡ maxRows ⌝ ∗ ⌜ Marked rows (now slots) (now places) ⌝
         ∗ ⌜ place ≡ getD (now places) (posting % maxRows) 0 ⌝ ∗ ⌜ place < packedFrom ⌝ }
@@ -304,8 +305,8 @@ fn sees_group(slots: &[u64], rows: usize, places: &mut [u16], posting: u64, plac
     has_group(&slots[a..e], next, posting / MAX_ROWS)
 }
 
-// Whether the posting is seen where it should stand in its row if all postings so far were those of the rows. A yes is sure but for atom 0, a no
-// says nothing.
+// Whether the posting is seen where it should stand in its row if all postings so far were those of the rows. A yes is sure but for atom
+// 0, a no says nothing.
 fn sees(slots: &[u64], rows: usize, places: &mut [u16], posting: u64) -> bool
     requires { ⌜ Rows rows (now slots) ⌝ ∗ ⌜ length (now places) ≡ maxRows ⌝ ∗ ⌜ Marked rows (now slots) (now places) ⌝ }
     ensures { λ r. ⌜ (r ≡ true → maxRows ≤ posting → 1 ≤ times posting (postingsOf (rowsIn rows (now (slots .entry))))) ⌝ }
@@ -398,8 +399,8 @@ fn are_ascending(words: &[u64], slots: &[u64], rows: usize, places: &mut [u16]) 
     true
 }
 
-// Whether the first words are the postings of the first rows, ascending, and the others 0. There are no more postings than words, and if fewer, the last
-// of these words is no 0.
+// Whether the first words are the postings of the first rows, ascending, and the others 0. There are no more postings than words, and if
+// fewer, the last of these words is no 0.
 fn are_filed(words: &[u64], slots: &[u64], rows: usize, places: &mut [u16], n: usize) -> bool
     requires { ⌜ Rows rows (now slots) ⌝ ∗ ⌜ Ended (length (postingsOf (rowsIn rows (now slots)))) (now words) n ⌝
         ∗ ⌜ length (now places) ≡ maxRows ⌝ ∗ ⌜ Marked rows (now slots) (now places) ⌝ }
@@ -412,8 +413,8 @@ fn are_filed(words: &[u64], slots: &[u64], rows: usize, places: &mut [u16], n: u
     all_zero(&words[n..])
 }
 
-// How many words the postings of the first rows take, or more if the last of these is no 0. Where no output stands in both signs there are as many
-// postings as literals, and none is looked at to count them.
+// How many words the postings of the first rows take, or more if the last of these is no 0. Where no output stands in both signs there
+// are as many postings as literals, and none is looked at to count them.
 fn posting_end(words: &[u64], slots: &[u64], rows: usize, most: usize) -> usize
     requires { ⌜ Rows rows (now slots) ⌝ ∗ ⌜ length (postingsOf (rowsIn rows (now slots))) ≤ most ⌝ ∗ ⌜ most ≤ length (now words) ⌝ }
     ensures { λ r. ⌜ Ended (length (postingsOf (rowsIn rows (now (slots .entry))))) (now (words .entry)) r ⌝ }

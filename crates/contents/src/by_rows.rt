@@ -2,7 +2,7 @@
 // The places are guesses, and nothing is known of them: a yes is sure, a no says nothing.
 ghost use mathlib.Core.Path.{_≡_};
 ghost use mathlib.Core.Bool.{true};
-ghost use Prim.Native.Nat.{ℕ, _*_, _≤_, _<_};
+ghost use Prim.Native.Nat.{ℕ, _≤_, _<_};
 ghost use lib.ListN.{length, drop};
 ghost use Rattle.lists.specs.Lists.{same, sortOf, distinct};
 ghost use Rattle.lists.specs.Counts.{is, times, Each, Sorted};
@@ -89,7 +89,8 @@ fn note_places(words: &[u64], places: &mut [u32]) -> bool
 
 // Whether the posting of an atom at a position stands at the atom's place, which then moves past it.
 fn finds(words: &[u64], places: &mut [u32], atom: u64, position: u64) -> bool
-    requires { ⌜ length (now words) ≤ 4294967295 ⌝ ∗ ⌜ length (now places) ≡ maxRows ⌝ ∗ ⌜ position < maxRows ⌝ ∗ ⌜ atom < atomsWide codeBits ⌝ }
+    requires { ⌜ length (now words) ≤ 4294967295 ⌝ ∗ ⌜ length (now places) ≡ maxRows ⌝ ∗ ⌜ position < maxRows ⌝
+        ∗ ⌜ atom < atomsWide codeBits ⌝ }
     ensures { λ r. ⌜ (r ≡ true → Grown (now (words .entry)) (now (places .entry)) (now (places .exit)) position (λ a. is a atom)) ⌝ }
 {
     let at = (atom % MAX_ROWS) as usize;
@@ -106,7 +107,8 @@ fn finds(words: &[u64], places: &mut [u32], atom: u64, position: u64) -> bool
 
 // Finds the posting so, unless its atom was found last: both signs of an output have one posting. The number found, or NOT_FOUND.
 fn find_new(words: &[u64], places: &mut [u32], last: u64, atom: u64, position: u64) -> usize
-    requires { ⌜ length (now words) ≤ 4294967295 ⌝ ∗ ⌜ length (now places) ≡ maxRows ⌝ ∗ ⌜ position < maxRows ⌝ ∗ ⌜ atom < atomsWide codeBits ⌝ }
+    requires { ⌜ length (now words) ≤ 4294967295 ⌝ ∗ ⌜ length (now places) ≡ maxRows ⌝ ∗ ⌜ position < maxRows ⌝
+        ∗ ⌜ atom < atomsWide codeBits ⌝ }
     ensures { λ r. ⌜ ((r ≡ notFound → ⊥)
         → (r ≡ newCount last atom) × Grown (now (words .entry)) (now (places .entry)) (now (places .exit)) position (newAtom last atom)) ⌝ }
 {
@@ -145,7 +147,8 @@ fn find_codes(words: &[u64], places: &mut [u32], codes: &[u64], position: u64) -
 
 // Whether the postings of the atoms of word x that have a bit stand at their places, which then move past them.
 fn finds_bits(words: &[u64], places: &mut [u32], x: u64, bits: u64, position: u64) -> bool
-    requires { ⌜ length (now words) ≤ 4294967295 ⌝ ∗ ⌜ length (now places) ≡ maxRows ⌝ ∗ ⌜ position < maxRows ⌝ ∗ ⌜ x < wordsWide codeBits ⌝ }
+    requires { ⌜ length (now words) ≤ 4294967295 ⌝ ∗ ⌜ length (now places) ≡ maxRows ⌝ ∗ ⌜ position < maxRows ⌝
+        ∗ ⌜ x < wordsWide codeBits ⌝ }
     ensures { λ r. ⌜ (r ≡ true
         → Grown (now (words .entry)) (now (places .entry)) (now (places .exit)) position (λ a. oneIf (hasBit x bits a))) ⌝ }
 {

@@ -36,7 +36,8 @@ module _ (n bits : ℕ) where
   unfolding climbs shifted below all ascending above
   climbs-high c h = let l : 2 * n ≤ c = omega arith in ap (λ (b : Bool). (b && true) && true) (le-ltb c (2 * n) l)
 
-  order-more : (x y : ℕ) (ys : List ℕ) → x / 2 ^ bits < y / 2 ^ bits → ascending (shifted bits (x ∷ y ∷ ys)) ≡ ascending (shifted bits (y ∷ ys))
+  order-more : (x y : ℕ) (ys : List ℕ) → x / 2 ^ bits < y / 2 ^ bits
+      → ascending (shifted bits (x ∷ y ∷ ys)) ≡ ascending (shifted bits (y ∷ ys))
   unfolding ascending shifted
   order-more x y ys h = above-yes (x / 2 ^ bits) (y / 2 ^ bits) (shifted bits ys) h
 
@@ -50,7 +51,8 @@ module _ (n bits : ℕ) where
   unfolding below all
   below-cons x xs = refl
 
-  pub climbs-more : (x y : ℕ) (ys : List ℕ) → x / 2 ^ bits < y / 2 ^ bits → climbs n bits (y ∷ ys) ≡ true → climbs n bits (x ∷ y ∷ ys) ≡ true
+  pub climbs-more : (x y : ℕ) (ys : List ℕ) → x / 2 ^ bits < y / 2 ^ bits → climbs n bits (y ∷ ys) ≡ true
+      → climbs n bits (x ∷ y ∷ ys) ≡ true
   unfolding climbs
   climbs-more x y ys h e =
       let s = and-both (below (2 * n) (y ∷ ys)) (ascending (shifted bits (y ∷ ys))) e in

@@ -92,8 +92,8 @@ fn group_codes(words: &[u64], apart: bool, atoms: u64) -> usize
     if at == words.len() { count } else { NO_SIDE }
 }
 
-// How many groups the codes would be, if they ascend once the low bits are shifted out and their atoms are below `atoms`; else more than any side has.
-// The last code is the greatest: it alone is held to the bound, and the walk goes from it to the first.
+// How many groups the codes would be, if they ascend once the low bits are shifted out and their atoms are below `atoms`; else more than
+// any side has. The last code is the greatest: it alone is held to the bound, and the walk goes from it to the first.
 fn code_groups(codes: &[u64], shift: u32, atoms: u64) -> usize
     requires { ⌜ shift < 64 ⌝ ∗ ⌜ length (now codes) ≤ slotWords ⌝ }
     ensures { λ r. ⌜ r ≡ sideGroups atoms shift (now (codes .entry)) ⌝ }

@@ -41,7 +41,8 @@ returns-2 : tie.Need-returns-2 Inv-loop μ-loop
 returns-2 c =
     let else1 = c .before .before in
     let a = else1 .before .args in
-    last-high (a .atoms) (a .shift) (a .codes .now) (length (a .codes .now) - 1) (omega (arith, else1 .if1 .left)) (omega (arith, else1 .if1 .left))
+    last-high (a .atoms) (a .shift) (a .codes .now) (length (a .codes .now) - 1) (omega (arith, else1 .if1 .left))
+    (omega (arith, else1 .if1 .left))
     (c .if2 .taken)
 
 loop-holds : tie.Need-loop-holds Inv-loop μ-loop

@@ -31,7 +31,8 @@ conditions s = let ws = s .args .slot .now in take ((bodyAt + getD ws conditions
 abbrev outputs : tie.Start → List ℕ
 outputs s =
     let ws = s .args .slot .now in
-    take ((bodyAt + getD ws conditionsAt 0 + getD ws outputsAt 0) - (bodyAt + getD ws conditionsAt 0)) (drop (bodyAt + getD ws conditionsAt 0) ws)
+    take ((bodyAt + getD ws conditionsAt 0 + getD ws outputsAt 0) - (bodyAt + getD ws conditionsAt 0))
+    (drop (bodyAt + getD ws conditionsAt 0) ws)
 
 few : (s : tie.Start) → (length (conditions s) ≤ maxConditions) × (length (outputs s) ≤ maxOutputs)
 few s =

@@ -18,7 +18,8 @@ use Rattle.contents.proofs.by_postings.are_ascending.Tie as tie
 
 abbrev Inv-loop : tie.InvT-loop
 Inv-loop words slots rows places₀ walk₀ places walk =
-    (length places ≡ maxRows) × Marked rows slots places × Walked words (postingsOf (rowsIn rows slots)) (walk .at) (walk .word) (walk .often)
+    (length places ≡ maxRows) × Marked rows slots places
+    × Walked words (postingsOf (rowsIn rows slots)) (walk .at) (walk .word) (walk .often)
 
 abbrev μ-loop : tie.MeasureT-loop
 μ-loop words slots rows places₀ walk₀ places walk = length words - walk .at
@@ -99,7 +100,8 @@ walk-on-requires-2 c κs =
     let next = posted .before in
     let then1 = at-then (next .before) in
     let at = at-loop then1 in
-    let l = ltb-false (times (met next) (due at)) (next .next .result .times) (sym (posted .posted-less .ensures) ∙ c .before .if3 .left) in (
+    let l = ltb-false (times (met next) (due at)) (next .next .result .times)
+    (sym (posted .posted-less .ensures) ∙ c .before .if3 .left) in (
       at-start at .pre .0,
       (
         at .loop .inv .0,

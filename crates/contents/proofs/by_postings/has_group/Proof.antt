@@ -73,10 +73,17 @@ shared-slice-read-group-mark-6 c = search needs
 group-mark-requires-2 : tie.Need-group-mark-requires-2
 group-mark-requires-2 c κs = search needs
 
+-- back from the first group to the start
+abbrev first-read : tie.After-group-mark → tie.After-shared-slice-known
+first-read c = c .before .before .before .before
+
+abbrev at-start : tie.After-group-mark → tie.Start
+at-start c = first-read c .before
+
 returns : tie.Need-returns
 returns c =
     let first = c .before .before .before .before in
-    let s = first .before .before .before .before .before in
+    let s = at-start first in
     groups-sure (s .args .slot .now) (s .pre .0) (s .pre .1 .0) _ _ (s .args .atom)
     (first .group-mark .result) (c .group-mark2 .result) (first .group-mark .ensures) (c .group-mark2 .ensures)
 

@@ -1,5 +1,5 @@
--- `contents::by_postings::mark_rows`. The loop: the places of the rows so far say their forms, and the literals counted are no fewer than the
--- postings. Assumes nothing.
+-- `contents::by_postings::mark_rows`. The loop: the places of the rows so far say their forms, and the literals counted are no fewer than
+-- the postings. Assumes nothing.
 use mathlib.Core.Path.{_≡_, refl, _∙_, subst}
 use Prim.Native.Nat.{ℕ, _+_, _-_, _*_, _≤_}
 use native.Mathlib.Omega.{arith}
@@ -108,7 +108,8 @@ loop-again c =
       omega arith,
       omega arith,
       search needs,
-      marked-put (loop .loop .p) (loop .loop .p + 1) (s .args .slots .now) (loop .loop .places) (loop .loop .p) _ (omega arith) (omega arith)
+      marked-put (loop .loop .p) (loop .loop .p + 1) (s .args .slots .now) (loop .loop .places) (loop .loop .p) _ (omega arith)
+          (omega arith)
           (loop .loop .inv .3 ∙ s .pre .1 .0) (loop .loop .inv .4)
           (subst (Form _) (total-code (s .args .slots .now) (loop .loop .p)) (c .first-place .ensures)),
     )

@@ -24,9 +24,13 @@ same-length c = search needs
 returns : tie.Need-returns
 returns c = search needs
 
+-- back to the place that was read
+abbrev at-known : tie.Then2 → tie.After-slice-known2
+at-known c = c .before .before
+
 returns-2 : tie.Need-returns-2
 returns-2 c =
-    let s = c .before .before .before .before .before in
+    let s = at-known c .before .before .before in
     (λ t. absurd (false≢true t), s .pre .1 .1)
 
 sees-group-requires : tie.Need-sees-group-requires

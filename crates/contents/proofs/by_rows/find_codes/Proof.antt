@@ -3,7 +3,7 @@
 use mathlib.Core.Path.{_≡_, refl, subst}
 use mathlib.Core.Bool.{true}
 use mathlib.Core.List.{List}
-use Prim.Native.Nat.{ℕ, _+_, _-_, _*_, _/_, _≤_, _<_}
+use Prim.Native.Nat.{ℕ, _+_, _-_, _/_, _≤_, _<_}
 use native.Mathlib.Omega.{arith}
 use lib.ListN.{length, getD, take, drop}
 use lib.Seq.{take-all}
@@ -72,7 +72,8 @@ find-new-requires c κs =
     let at = turn .before in
     let s = at .before .before .before .before in
     let b : getD (s .args .codes .now) (at .loop .i) 0
-    < codesWide codeBits = each-at (λ v. v < codesWide codeBits) (s .args .codes .now) (at .loop .i) (s .pre .1 .1 .1) (turn .loop-test .taken) in
+    < codesWide codeBits = each-at (λ v. v < codesWide codeBits) (s .args .codes .now) (at .loop .i) (s .pre .1 .1 .1)
+    (turn .loop-test .taken) in
     search needs
 
 same-length : tie.Need-same-length Inv-loop μ-loop
