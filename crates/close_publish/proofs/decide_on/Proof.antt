@@ -81,7 +81,8 @@ returns-2 c =
     let yes = marked-yes (k .decide-literal .result) kind in (
       decided-going (a .atoms) (a .held .now) (a .cut .now) (a .literal) _ _ _ (d .1) yes (a .work),
       (
-        noted-earns (a .atoms) (a .held .now) (a .cut .now) (a .literal) _ _ _ (d .0) (d .1) (t .pre .0) kind (a .decided) _ (e .0) (a .work),
+        noted-earns (a .atoms) (a .held .now) (a .cut .now) (a .literal) _ _ _ (d .0) (d .1) (t .pre .0) kind (a .decided) _ (e .0)
+            (a .work),
         (
           decided-region (a .atoms) (a .held .now) (a .cut .now) (a .literal) _ _ _ (d .1) (t .pre .0),
           logs-decision (a .atoms) (a .held .now) (a .cut .now) (a .literal) (a .decided) (a .noted .now) (t .pre .1) _ _ _ (d .0) (d .1)
