@@ -92,8 +92,10 @@ same-length c = search needs
 returns : tie.Need-returns
 returns c =
     let steps = c .before in
-    let s = at-start steps in
-    (λ t m. once s (steps .code-steps .ensures .1 (omega arith) (omega (arith, c .if1 .taken))), keeps s _)
+    let s = at-start steps in (
+      λ t m. once s (steps .code-steps .ensures .1 (omega arith) (omega (arith, c .if1 .taken))),
+      keeps s (s .args .place + steps .code-steps .result),
+    )
 
 add-next : tie.Need-add-next
 add-next c = search needs
@@ -132,8 +134,10 @@ same-length-2 c = search needs
 
 returns-2 : tie.Need-returns-2
 returns-2 c =
-    let s = at-start (c .before .before .before) in
-    (λ t m. once s (c .code-steps2 .ensures .1 (omega arith) (ltb-true 0 (c .code-steps2 .result) t)), keeps s _)
+    let s = at-start (c .before .before .before) in (
+      λ t m. once s (c .code-steps2 .ensures .1 (omega arith) (ltb-true 0 (c .code-steps2 .result) t)),
+      keeps s ((s .args .place + 256) % packedFrom + c .code-steps2 .result),
+    )
 
 pub sees-code-spec : {M : Type 1} → statement M
 sees-code-spec =
