@@ -4,6 +4,7 @@ pub mod Counts
 pub mod Marks
 pub mod Pads
 pub mod Puts
+pub mod Ranges
 pub mod Selects
 pub mod Sorts
 pub mod Tests

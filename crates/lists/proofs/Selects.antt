@@ -1,7 +1,6 @@
--- The laws of `select`, `first`, `count`, `upTo` and `adjust`. Assumes nothing.
+-- The laws of `select`, `range`, `upTo` and `adjust`. Assumes nothing.
 use mathlib.Core.Bool.{Bool, true, false, _||_}
 use mathlib.Core.List.{List, [], _∷_, _++_, map}
-use mathlib.Core.Option.{some}
 use mathlib.Core.Path.{_≡_, refl, sym, ap, _∙_}
 use Prim.Native.Nat.{ℕ, zero, suc, _+_, _-_, _≤_, _<_}
 use native.Mathlib.Numerals.{add-one}
@@ -9,7 +8,7 @@ use native.Mathlib.Omega.{arith}
 use lib.ListN.{length, getD, set, drop}
 use lib.Seq.{drop-cons}
 use Rattle.lists.specs.Counts.{Each}
-use Rattle.lists.specs.Lists.{any, select, filled, first, adjust, range, upTo}
+use Rattle.lists.specs.Lists.{any, select, filled, adjust, range, upTo}
 use Rattle.lists.proofs.Counts.{times-select-yes, times-select-no, each-at, each-cons, each-head, each-tail}
 
 -- ---- `select`
@@ -110,7 +109,7 @@ each-select P f xs h v k = go (f v) refl
     go true e = h v (omega (arith, times-select-yes f v xs e))
     go false e = absurd (omega (arith, times-select-no f v xs e))
 
--- ---- `count` and `upTo`
+-- ---- `range` and `upTo`
 pub length-range : (i n : ℕ) → length (range i n) ≡ n
 unfolding range
 length-range i zero = refl
@@ -160,15 +159,6 @@ range-from i zero = λ v h. absurd (omega arith)
 range-from i (suc n) =
     each-cons (λ v. (i ≤ v) × (v < i + suc n)) i (range (suc i) n) (omega arith, omega arith)
     (λ v h. let k = range-from (suc i) n v h in (omega arith, omega arith))
-
--- ---- `first`
-pub first-yes : {A : Type 0} (f : A → Bool) (x : A) (xs : List A) → f x ≡ true → first (select f (x ∷ xs)) ≡ some x
-unfolding first
-first-yes f x xs e = rw (select-yes f x xs e)
-
-pub first-no : {A : Type 0} (f : A → Bool) (x : A) (xs : List A) → f x ≡ false →
-    first (select f (x ∷ xs)) ≡ first (select f xs)
-first-no f x xs e = ap first (select-no f x xs e)
 
 -- ---- `adjust`
 module _ {A : Type 0} (f : A → A) where

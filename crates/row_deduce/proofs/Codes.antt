@@ -11,6 +11,7 @@ use lib.ListN.{getD}
 use borrow.Author.Tests.{eq-eqb, ne-eqb}
 use Rattle.lists.specs.Lists.{any, select, range}
 use Rattle.lists.proofs.Bools.{and-both, and-first, or-none}
+use Rattle.lists.proofs.Ranges.{select-ext}
 use Rattle.words.specs.Bit.{testBit}
 use Rattle.words.specs.Literal.{atom, isPresent, opposite, wordOf, bitOf}
 use Rattle.words.specs.Region.{Region, has, holds, contradicts}
@@ -18,7 +19,7 @@ use Rattle.words.proofs.Bits.{some-bit}
 use Rattle.words.proofs.Masks.{bit-of-zero}
 use Rattle.model.specs.Slots.{codesOf}
 use Rattle.model.specs.Deduction.{failing, contradicted, contradictions}
-use Rattle.slots.proofs.Codes.{select-ext, chosenBy, codes-select, chosen-absent, chosen-present, by-place}
+use Rattle.slots.proofs.Codes.{chosenBy, codes-select, chosen-absent, chosen-present, by-place}
 
 -- ---- tests of what is chosen
 select-select : (f g : ℕ → Bool) (xs : List ℕ) → select g (select f xs) ≡ select (λ z. f z && g z) xs

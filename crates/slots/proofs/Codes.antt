@@ -4,64 +4,18 @@ use mathlib.Core.Logic.{⊎-elim}
 use mathlib.Core.Bool.{Bool, true, false}
 use mathlib.Core.List.{List, [], _∷_}
 use Prim.Native.Nat.{ℕ, zero, suc, _+_, _-_, _*_, _/_, _%_, _^_, _≤_, _<_}
-use native.Mathlib.Nat.{le-refl}
 use native.Mathlib.Decide.{ℕ-discrete}
 use native.Mathlib.Omega.{arith}
 use lib.Bits.{bitAnd, bitOr, or-lt}
 use lib.Dec.{eqb}
 use Rattle.lists.specs.Lists.{select, range}
-use Rattle.lists.proofs.Selects.{select-cong, select-nothing, range-from}
+use Rattle.lists.proofs.Ranges.{select-ext, select-nowhere, select-next}
 use Rattle.lists.proofs.Bools.{or-none, or-right}
 use Rattle.words.specs.Bit.{testBit, firstBit}
 use Rattle.words.specs.Literal.{atom, isPresent, wordOf, bitOf}
 use Rattle.words.proofs.Bits.{bit-or, parity}
 use Rattle.words.proofs.Masks.{bit-of-zero, clear-same, clear-other, Lowest, first-bit-lowest}
 use Rattle.model.specs.Slots.{codesOf}
-use Rattle.model.proofs.Packing.{select-on, select-off}
-
--- ---- choosing among the numbers from a on
-pub select-ext : (f g : ℕ → Bool) (n a : ℕ) → ((z : ℕ) → a ≤ z → z < a + n → f z ≡ g z) → select f (range a n) ≡ select g (range a n)
-select-ext f g n a h = select-cong f g (range a n) (λ z t. let k = range-from a n z t in h z (k .0) (k .1))
-
-pub select-none : (f : ℕ → Bool) (n a : ℕ) → ((z : ℕ) → a ≤ z → z < a + n → f z ≡ false) → select f (range a n) ≡ []
-select-none f n a h = select-nothing f (range a n) (λ z t. let k = range-from a n z t in h z (k .0) (k .1))
-
--- k is the first that f chooses, and g chooses the others
-pub record Splits (f g : ℕ → Bool) (k a n : ℕ) : Type 0 where
-  pub low : a ≤ k
-  pub high : k < a + n
-  pub chosen : f k ≡ true
-  pub before : (z : ℕ) → a ≤ z → z < k → f z ≡ false
-  pub gone : g k ≡ false
-  pub others : (z : ℕ) → a ≤ z → z < a + n → (z ≡ k → ⊥) → f z ≡ g z
-
-pub select-next : (f g : ℕ → Bool) (k n a : ℕ) → Splits f g k a n → select f (range a n) ≡ k ∷ select g (range a n)
-select-next f g k zero a s = let h = s .high in absurd (out (s .low) h)
-  where
-    out : a ≤ k → k < a + 0 → ⊥
-    out l h = omega arith
-select-next f g k (suc n) a s = go (ℕ-discrete a k) (select-next f g k n (suc a))
-  where
-    go : Dec (a ≡ k) → (Splits f g k (suc a) n → select f (range (suc a) n) ≡ k ∷ select g (range (suc a) n))
-        → select f (range a (suc n)) ≡ k ∷ select g (range a (suc n))
-    go (yes e) ih =
-        select-on f a n (ap f e ∙ s .chosen)
-        ∙ ap₂ (λ (x : ℕ) (l : List ℕ). x ∷ l) e
-        (select-ext f g n (suc a) (λ z l m. s .others z (omega arith) (omega arith) (λ q. omega arith))
-        ∙ sym (select-off g a n (ap g e ∙ s .gone)))
-    go (no d) ih =
-        let l : a < k = let low = s .low in omega arith in
-        let off : f a ≡ false = s .before a (le-refl a) l in
-        select-off f a n off
-        ∙ ih (record {
-          low = l;
-          high = let h = s .high in omega arith;
-          chosen = s .chosen;
-          before = λ z i j. s .before z (omega arith) j;
-          gone = s .gone;
-          others = λ z i j q. s .others z (omega arith) (omega arith) q;
-        })
-        ∙ ap (λ (r : List ℕ). k ∷ r) (sym (select-off g a n (sym (s .others a (le-refl a) (omega arith) d) ∙ off)))
 
 -- ---- which codes two words hold
 unfoldable pub chosenBy : ℕ → ℕ → ℕ → Bool
@@ -129,7 +83,7 @@ codes-ext x p a q b h =
 pub codes-none : (x p a : ℕ) → bitOr a p ≡ 0 → codesOf x p a ≡ []
 codes-none x p a e =
     codes-select x p a
-    ∙ select-none (chosenBy p a) (2 * 64) (2 * 64 * x)
+    ∙ select-nowhere (chosenBy p a) (2 * 64) (2 * 64 * x)
     (by-place (λ z. chosenBy p a z ≡ false) x (λ i l. chosen-absent x p a i l ∙ none i .0) (λ i l. chosen-present x p a i l ∙ none i .1))
   where
     none : (i : ℕ) → (testBit a i ≡ false) × (testBit p i ≡ false)

@@ -12,6 +12,7 @@ use lib.Pow.{pow-pos, pow-lt}
 use borrow.Author.Tests.{eq-eqb, ne-eqb}
 use Rattle.lists.specs.Lists.{select, range}
 use Rattle.lists.proofs.Bools.{not-both}
+use Rattle.lists.proofs.Ranges.{select-on, select-off, select-zero}
 use Rattle.words.specs.Bit.{testBit, firstBit}
 use Rattle.words.specs.Literal.{atom, isPresent, wordOf, bitOf}
 use Rattle.words.proofs.Bits.{bit-and, bit-ext, bit-none}
@@ -19,7 +20,7 @@ use Rattle.words.proofs.Literals.{bit-of-lt}
 use Rattle.model.specs.Rows.{enter, groups}
 use Rattle.model.specs.Slots.{bitsOf, indexOf, codesOf}
 use Rattle.model.proofs.Cover.{member}
-use Rattle.model.proofs.Packing.{Asc, asc-less, OneWord, Fits, groups-fit, select-on, select-off, select-zero, bits-member, word-in}
+use Rattle.model.proofs.Packing.{Asc, asc-less, OneWord, Fits, groups-fit, bits-member, word-in}
 use Rattle.slots.proofs.Groups.{Each}
 use Rattle.slots.proofs.Codes.{chosenBy, codes-select, absent-parts, present-parts, chosen-absent, chosen-present, first-absent}
 use Rattle.slots.proofs.Codes.{first-present}
