@@ -23,6 +23,7 @@ use model::MAX_ROWS;
 use model::OUTPUTS_AT;
 use model::SLOT_WORDS;
 use model::TOTAL_GROUPS_AT;
+use words::MAX_WORD;
 use words::run_count;
 
 // The place of a row says where its next postings should be found: its remainder by SIDE for the next condition, what is left for the
@@ -35,6 +36,9 @@ const PACKED: usize = 32768;
 const NOWHERE: usize = PACKED + SIDE * MAX_GROUPS;
 
 const NO_ROW: u16 = 65535;
+
+// The slots of more rows than these do not stay in a small cache from one walk to the next.
+const MANY_ROWS: usize = 1024;
 
 // A condition's place is taken by its remainder: all conditions stand below, and so many codes or groups are within a slot.
 const MOST_CODES: usize = 128;
@@ -197,11 +201,17 @@ fn literal_count(slot: &[u64]) -> usize
     slot[CONDITIONS_AT] as usize + slot[OUTPUTS_AT] as usize
 }
 
-// The place of the row in a slot before any posting is met: the first condition's and the first output's.
-fn first_place(slot: &[u64]) -> u16
+// The place of the row in a slot before any posting is met: the first condition's and the first output's. Of many rows two words behind the
+// header are read here too, where row follows row, so that they are near when the walk asks for them in any order; no row has all their bits.
+fn first_place(slot: &[u64], many: bool) -> u16
     requires { ⌜ LaidOut (now slot) ⌝ }
     ensures { λ r. ⌜ Form r (getD (now (slot .entry)) totalGroupsAt 0) ⌝ }
 {
+    if many {
+        if slot[BODY_AT + 1] & slot[BODY_AT + 8] == MAX_WORD {
+            return NO_ROW;
+        }
+    }
     if slot[TOTAL_GROUPS_AT] == 0 {
         return (SIDE * slot[CONDITIONS_AT] as usize) as u16;
     }
@@ -220,7 +230,7 @@ fn mark_rows(slots: &[u64], rows: usize, places: &mut [u16]) -> usize
         let a = SLOT_WORDS * p;
         let e = a + SLOT_WORDS;
         count += literal_count(&slots[a..e]);
-        places[p] = first_place(&slots[a..e]);
+        places[p] = first_place(&slots[a..e], MANY_ROWS < rows);
         p += 1;
     }
     count
