@@ -8,14 +8,16 @@
  *
  * The result is 0, or the number of a refusal. A refused call writes nothing. The refusals:
  *   1  limits outside their ranges: atoms 1 to 1,048,576, tier_rows 1 to 4,096, founded_conditions 0 to 16, founded_outputs 0 to 64
- *   2  a slice of another length: slots 168 * tier_rows words, postings 80 * tier_rows words, and the buffers that a call asks for
- *   3  header, slots and postings that are no ledger's
+ *   2  a slice of another length: slots 169 * tier_rows words, postings 80 * tier_rows words, and the buffers that a call asks for
+ *   3  header, slots and postings that are no ledger's; so are a row whose source is over 1, and a founded count other than that of its
+ *      Founded rows
  *   4  conditions and outputs that are no row: more than founded_conditions or founded_outputs of them, a code at 2 * atoms or above,
  *      outputs that do not ascend, or conditions whose atoms do not ascend
  *   5  no row at the position
  *   6  held and cut are no region: each is (atoms + 63) / 64 words, with no common bit and no bit at `atoms` or above
  *   7  a tier and a store over different numbers of atoms
  *   8  a cursor that is not of this row
+ *   11 a source over 1 in an offer
  * They are tested in this order; the first that applies is the result. Of two ledgers the tier's 1, 2, 3 come first, then the store's.
  *
  * A call that is not refused writes `answer`, all four words: its case, a value where the case has one, the ticks that it charged, and the
@@ -31,7 +33,8 @@
 extern "C" {
 #endif
 
-/* ---- The header, `head`: the limits, the counts, two flags (any word but 0 is read as 1, and comes back as 1), the seed mark. */
+/* ---- The header, `head`: the limits, the counts, two flags (any word but 0 is read as 1, and comes back as 1), the seed mark, the count of
+ * Founded rows. */
 enum {
     LEDGER_ATOMS = 0,
     LEDGER_TIER_ROWS = 1,
@@ -59,7 +62,8 @@ enum {
     LEDGER_MARKED = 22,      /* 0: no mark, the next two words are ignored and come back as 0; any other: a mark, and it comes back as 1 */
     LEDGER_MARK_NUMBER = 23, /* the store's number */
     LEDGER_MARK_BORN = 24,
-    LEDGER_HEAD_WORDS = 25
+    LEDGER_FOUNDED = 25,     /* how many of the rows are Founded; the others are Tips */
+    LEDGER_HEAD_WORDS = 26
 };
 
 /* ---- The words of `answer`, and of `meter` (what is charged so far, and the limit that it may not pass). */
@@ -69,8 +73,11 @@ enum { LEDGER_CHARGED = 0, LEDGER_LIMIT = 1, LEDGER_METER_WORDS = 2 };
 /* ---- The words of a cursor over a row's outputs; four zeros are the start. */
 enum { LEDGER_NEXT = 0, LEDGER_WORD = 1, LEDGER_PRESENT = 2, LEDGER_ABSENT = 3, LEDGER_CURSOR_WORDS = 4 };
 
-/* ---- Words of the buffers for each row of the tier. */
-enum { LEDGER_SLOT_WORDS = 168, LEDGER_POSTING_WORDS = 80 };
+/* ---- Words of the buffers for each row of the tier; the last of a slot is the row's source. */
+enum { LEDGER_SLOT_WORDS = 169, LEDGER_SLOT_SOURCE = 168, LEDGER_POSTING_WORDS = 80 };
+
+/* ---- The source of a row. While there are no more Founded rows than founded_floor, only Tips are evicted; while there are more, any row. */
+enum { LEDGER_SOURCE_FOUNDED = 0, LEDGER_SOURCE_TIP = 1 };
 
 /* ---- The cases. A literal's code is 2 * atom, plus 1 for held. */
 enum { LEDGER_DONE = 0, LEDGER_STOPPED = 2 };                                /* Stopped is 2 everywhere: the meter was at its limit */
@@ -139,15 +146,17 @@ uint64_t ledger_decide(uint64_t answer[LEDGER_ANSWER_WORDS], uint64_t atoms, uin
                        uint64_t atom, uint64_t value);
 
 /*
- * Offer. Lent: a ledger, a meter, a row as its conditions and its outputs, ascending codes.
- * Back: `answer` is 1 Shut, the ledger takes no offers; 2 Stopped; 3 Declined, the reads left do not pay for it; 4 Subsumed, with the
- * position of the row that says as much as its value; 5 Added, with the row's own position as its value. `head`, `slots` and `postings` are
- * the ledger after it, `meter` has the ticks charged.
- * Refused: 1, 2, 3, 4.
+ * Offer. Lent: a ledger, a meter, a row as its conditions and its outputs, ascending codes, and its source.
+ * Back: `answer` is 1 Shut, the ledger takes no offers: its attempts or reads are used up, or it is full, holds no Tip and has no more
+ * Founded rows than founded_floor; 2 Stopped; 3 Declined, the reads left do not pay for it; 4 Subsumed, with the position of the row that
+ * says as much as its value, which keeps its own source; 5 Added, with the row's own position as its value. A row that is added has the source
+ * offered, also if it was joined with one of the other source. `head`, `slots` and `postings` are the ledger after it, `meter` has the ticks
+ * charged.
+ * Refused: 1, 2, 3, 4, 11.
  */
 uint64_t ledger_offer(uint64_t head[LEDGER_HEAD_WORDS], uint64_t answer[LEDGER_ANSWER_WORDS], uint64_t meter[LEDGER_METER_WORDS],
                       uint64_t *slots, size_t slots_len, uint64_t *postings, size_t postings_len,
-                      const uint64_t *conditions, size_t conditions_len, const uint64_t *outputs, size_t outputs_len);
+                      const uint64_t *conditions, size_t conditions_len, const uint64_t *outputs, size_t outputs_len, uint64_t source);
 
 /*
  * Candidates. Lent: a ledger, a meter, the atoms that were decided, and `found`, tier_rows words.
@@ -178,11 +187,11 @@ uint64_t ledger_close(uint64_t head[LEDGER_HEAD_WORDS], uint64_t answer[LEDGER_A
 
 /*
  * Seed. Lent: two ledgers that share no word, a tier and a store, and a meter. Any ledger may stand as the store.
- * Back: the tier has taken the store's rows in turn, each with its hits; those born up to its seed mark are passed over, if the mark has
- * the store's number. The reads are paid from the tier's sharing account. `answer` is 0 Done, also where it ended at a row that the account
- * did not pay for or that found no place; or 2 Stopped. What was taken stays. `tier`, `tier_slots` and `tier_postings` are the tier after
- * it, marked with the store's number and born if it came to the end. `store` has the rows added counted under seeded. `meter` has the ticks
- * charged.
+ * Back: the tier has taken the store's rows in turn, each with its hits and its source; those born up to its seed mark are passed over, if
+ * the mark has the store's number. The reads are paid from the tier's sharing account. `answer` is 0 Done, also where it ended at a row that
+ * the account did not pay for or that found no place; or 2 Stopped. What was taken stays. `tier`, `tier_slots` and `tier_postings` are the
+ * tier after it, marked with the store's number and born if it came to the end. `store` has the rows added counted under seeded. `meter` has
+ * the ticks charged.
  * Refused: the tier's 1, 2, 3; the store's 1, 2, 3; 7.
  */
 uint64_t ledger_seed(uint64_t tier[LEDGER_HEAD_WORDS], uint64_t store[LEDGER_HEAD_WORDS],
@@ -192,9 +201,9 @@ uint64_t ledger_seed(uint64_t tier[LEDGER_HEAD_WORDS], uint64_t store[LEDGER_HEA
 
 /*
  * Deliver. Lent: as Seed.
- * Back: the store has taken the tier's rows in turn, each with its unshared hits. Passed over are those delivered with none unshared, and
- * those with more conditions than the tier's share_conditions and fewer hits than its share_hits. The reads are paid from the tier's
- * sharing account. `answer` is as Seed's. What was taken stays. `tier` has what is left of the account; in `tier_slots` a row taken is
+ * Back: the store has taken the tier's rows in turn, each with its unshared hits and its source. Passed over are those delivered with none
+ * unshared, and those with more conditions than the tier's share_conditions and fewer hits than its share_hits. The reads are paid from the
+ * tier's sharing account. `answer` is as Seed's. What was taken stays. `tier` has what is left of the account; in `tier_slots` a row taken is
  * delivered, with none unshared. `store`, `store_slots` and `store_postings` are the store after it, with the rows added counted under
  * deliveries. `meter` has the ticks charged.
  * Refused: as Seed.

@@ -15,7 +15,7 @@ pub struct Book {
     pub postings: Vec<u64>,
 }
 
-/// A region lent to be read, held and cut.
+/// Two slices lent to be read: a region, held and cut, or a row, conditions and outputs.
 type Read<'a> = (&'a [u64], &'a [u64]);
 /// Two slices lent to be written: a region, or scratch for rows and for atoms.
 type Written<'a> = (&'a mut [u64], &'a mut [u64]);
@@ -44,8 +44,13 @@ impl Book {
         call!(ledger_next_output(&self.head, answer, meter, cursor, [self.slots], [self.postings], position, [held], [cut]))
     }
 
-    pub fn offer(&mut self, conditions: &[u64], outputs: &[u64], answer: &mut Answer, meter: &mut MeterWords) -> u64 {
-        call!(ledger_offer(&mut self.head, answer, meter, [mut self.slots], [mut self.postings], [conditions], [outputs]))
+    /// Offers a row; the source is 0 for Founded, 1 for a Tip.
+    pub fn offer(
+        &mut self, (conditions, outputs): Read, source: u64, answer: &mut Answer, meter: &mut MeterWords,
+    ) -> u64 {
+        call!(ledger_offer(
+            &mut self.head, answer, meter, [mut self.slots], [mut self.postings], [conditions], [outputs], source
+        ))
     }
 
     pub fn candidates(&mut self, atoms: &[u64], found: &mut [u64], answer: &mut Answer, meter: &mut MeterWords) -> u64 {

@@ -1,14 +1,18 @@
-//! The words of a ledger, written from document 01's records and include/ledger.h: the one encoder of the tests in Rust.
+//! The words of a ledger, written from document 01's records, 02's Eight and include/ledger.h: the one encoder of the tests in Rust.
 //! tests/damaged has another, in Python, on purpose: what it expects is a reading of document 01 apart from this one.
 
 use oracle::{Header, Ledger, Limits, Row};
 
 /// The words of a header.
-pub const HEAD: usize = 25;
+pub const HEAD: usize = 26;
 /// The words of an answer: case, value, ticks, contradicted.
 pub const ANSWER: usize = 4;
 /// The words of a slot.
-pub const SLOT: usize = 168;
+pub const SLOT: usize = 169;
+/// A slot's word of the source, its last.
+pub const SOURCE: usize = 168;
+/// A header's word of the founded count, its last.
+pub const FOUNDED: usize = 25;
 /// The words of the postings for each row of the tier.
 pub const POSTINGS: usize = 80;
 
@@ -55,6 +59,7 @@ pub fn head_words(limits: &Limits, header: &Header) -> [u64; HEAD] {
         marked,
         number,
         born,
+        header.founded,
     ];
     let mut words = [0; HEAD];
     let limits = limit_words(limits);
@@ -88,6 +93,7 @@ pub fn slot(row: &Row) -> [u64; SLOT] {
     words[0] = row.conditions.len() as u64;
     words[1] = row.outputs.len() as u64;
     words[4..8].copy_from_slice(&[row.hits, row.unshared, row.born, u64::from(row.delivered)]);
+    words[SOURCE] = row.source;
     if packed {
         words[2] = body.len() as u64;
         words[3] = condition_groups as u64;

@@ -37,9 +37,11 @@ int main(void)
     /* While point 3 is held, point 70 is cut (7 -> 140); then also point 71 (7 -> 142). The two are joined in one row. */
     const uint64_t conditions[] = {7}, first[] = {140}, second[] = {142};
     uint64_t meter[LEDGER_METER_WORDS] = {0, 1000};
-    refused = ledger_offer(head, answer, meter, slots, ROWS * LEDGER_SLOT_WORDS, postings, ROWS * LEDGER_POSTING_WORDS, conditions, 1, first, 1);
+    refused = ledger_offer(head, answer, meter, slots, ROWS * LEDGER_SLOT_WORDS, postings, ROWS * LEDGER_POSTING_WORDS, conditions, 1, first, 1,
+                           LEDGER_SOURCE_FOUNDED);
     printf("offer 7 -> 140: refused by %" PRIu64 ", %" PRIu64 " at %" PRIu64 ", %" PRIu64 " rows\n", refused, answer[LEDGER_CASE], answer[LEDGER_VALUE], head[LEDGER_ROWS]);
-    refused = ledger_offer(head, answer, meter, slots, ROWS * LEDGER_SLOT_WORDS, postings, ROWS * LEDGER_POSTING_WORDS, conditions, 1, second, 1);
+    refused = ledger_offer(head, answer, meter, slots, ROWS * LEDGER_SLOT_WORDS, postings, ROWS * LEDGER_POSTING_WORDS, conditions, 1, second, 1,
+                           LEDGER_SOURCE_FOUNDED);
     printf("offer 7 -> 142: refused by %" PRIu64 ", %" PRIu64 " at %" PRIu64 ", %" PRIu64 " rows\n", refused, answer[LEDGER_CASE], answer[LEDGER_VALUE], head[LEDGER_ROWS]);
 
     /* The plan with point 3 held, closed under the row. */

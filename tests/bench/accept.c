@@ -111,7 +111,7 @@ static void build(const struct kind *k, int seed)
     memset(slots, 0, sizeof *slots * slots_length());
     memset(postings, 0, sizeof *postings * postings_length());
     memcpy(head, limits, sizeof limits);
-    head[LEDGER_ROWS] = head[LEDGER_BORN] = rows;
+    head[LEDGER_ROWS] = head[LEDGER_BORN] = head[LEDGER_FOUNDED] = rows;
     state = 88172645463325252u + 1000003u * (uint64_t)seed;
     packed_rows = 0;
     int at = 0;

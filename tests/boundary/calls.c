@@ -62,10 +62,11 @@ static uint64_t decide(struct lent *l, uint64_t atom, uint64_t value)
     return ledger_decide(l->answer, 128, l->held, 2, l->cut, 2, atom, value);
 }
 
-static uint64_t offer(struct lent *l, uint64_t condition, uint64_t output)
+static uint64_t offer_as(struct lent *l, uint64_t condition, uint64_t output, uint64_t source)
 {
-    return ledger_offer(l->head, l->answer, l->meter, l->slots, SLOTS, l->postings, POSTINGS, &condition, 1, &output, 1);
+    return ledger_offer(l->head, l->answer, l->meter, l->slots, SLOTS, l->postings, POSTINGS, &condition, 1, &output, 1, source);
 }
+static uint64_t offer(struct lent *l, uint64_t condition, uint64_t output) { return offer_as(l, condition, output, LEDGER_SOURCE_FOUNDED); }
 static uint64_t candidates(struct lent *l, size_t found)
 {
     return ledger_candidates(l->head, l->answer, l->meter, l->slots, SLOTS, l->postings, POSTINGS, l->atoms, 1, l->found, found);
@@ -111,8 +112,7 @@ static struct lent two_rows(void)
     const uint64_t packed[] = {2, 2, 2, 1, 0, 0, 2, 0, 0, 3, 0, 1, 0, 0xc0};
     memcpy(l.limits, limits, sizeof limits);
     make(&l, SLOTS, POSTINGS);
-    l.head[LEDGER_ROWS] = 2;
-    l.head[LEDGER_BORN] = 2;
+    l.head[LEDGER_ROWS] = l.head[LEDGER_BORN] = l.head[LEDGER_FOUNDED] = 2;
     memcpy(l.slots, scalar, sizeof scalar);
     memcpy(l.slots + LEDGER_SLOT_WORDS, packed, sizeof packed);
     memset(l.held, 0, sizeof l.held);
@@ -277,7 +277,7 @@ static void offers(void)
     k = l;
     const uint64_t one[] = {1, 1, 0, 0, 0, 0, 1, 0, 7, 140}, joined[] = {1, 2, 0, 0, 0, 0, 2, 0, 7, 140, 142};
     offered(&k, LEDGER_ADDED, 2);
-    k.head[LEDGER_ROWS] = k.head[LEDGER_BORN] = k.head[LEDGER_EPOCH] = 1;
+    k.head[LEDGER_ROWS] = k.head[LEDGER_BORN] = k.head[LEDGER_EPOCH] = k.head[LEDGER_FOUNDED] = 1;
     memcpy(k.slots, one, sizeof one);
     same("offer", 0, offer(&l, 7, 140), &l, &k);
     offered(&k, LEDGER_SUBSUMED, 3);
@@ -294,6 +294,63 @@ static void offers(void)
     same("offer, shut", 0, offer(&l, 9, 140), &l, &k);
     l.head[LEDGER_ATTEMPTS] = k.head[LEDGER_ATTEMPTS] = 257;
     same("offer, attempts", 3, offer(&l, 9, 140), &l, &k);
+}
+
+/* A Tip, joined with a Founded row; another Tip beside it, which gives way to a Founded row; the sources and counts that are refused. */
+static void tips(void)
+{
+    struct lent l = two_rows(), k;
+    make(&l, SLOTS, POSTINGS);
+    k = l;
+    const uint64_t one[] = {1, 1, 0, 0, 0, 0, 1, 0, 7, 140}, joined[] = {1, 2, 0, 0, 0, 0, 2, 0, 7, 140, 142};
+    const uint64_t second[] = {1, 1, 0, 0, 0, 0, 3, 0, 9, 140}, third[] = {1, 1, 0, 0, 0, 0, 4, 0, 11, 144};
+    uint64_t *source = k.slots + LEDGER_SLOT_SOURCE, *next_slot = k.slots + LEDGER_SLOT_WORDS;
+    offered(&k, LEDGER_ADDED, 2);
+    k.head[LEDGER_ROWS] = k.head[LEDGER_BORN] = k.head[LEDGER_EPOCH] = 1;
+    memcpy(k.slots, one, sizeof one);
+    *source = LEDGER_SOURCE_TIP;
+    same("offer, a Tip", 0, offer_as(&l, 7, 140, LEDGER_SOURCE_TIP), &l, &k);
+    offered(&k, LEDGER_SUBSUMED, 3);
+    same("offer, what a Tip says", 0, offer(&l, 7, 140), &l, &k);
+    offered(&k, LEDGER_ADDED, 14);
+    k.head[LEDGER_BORN] = 2;
+    k.head[LEDGER_EPOCH] = 0;
+    k.head[LEDGER_FOUNDED] = 1;
+    memcpy(k.slots, joined, sizeof joined);
+    *source = LEDGER_SOURCE_FOUNDED;
+    same("offer, joined with a Tip", 0, offer(&l, 7, 142), &l, &k);
+    offered(&k, LEDGER_ADDED, 6); /* 4 to compare it with the row, 2 to write it */
+    k.answer[LEDGER_VALUE] = 1;
+    k.head[LEDGER_ROWS] = 2;
+    k.head[LEDGER_BORN] = 3;
+    k.head[LEDGER_EPOCH] = 1;
+    memcpy(next_slot, second, sizeof second);
+    next_slot[LEDGER_SLOT_SOURCE] = LEDGER_SOURCE_TIP;
+    same("offer, a Tip beside a Founded row", 0, offer_as(&l, 9, 140, LEDGER_SOURCE_TIP), &l, &k);
+    offered(&k, LEDGER_ADDED, 14); /* 4 and 6 to compare it with the rows, 2 to write it, 1 a row for the eviction */
+    k.answer[LEDGER_VALUE] = 1;
+    k.head[LEDGER_BORN] = 4;
+    k.head[LEDGER_EPOCH] = 0;
+    k.head[LEDGER_EVICTED] = 1;
+    k.head[LEDGER_FOUNDED] = 2;
+    memcpy(next_slot, third, sizeof third);
+    next_slot[LEDGER_SLOT_SOURCE] = LEDGER_SOURCE_FOUNDED;
+    same("offer, in the place of a Tip", 0, offer(&l, 11, 144), &l, &k);
+    l.head[LEDGER_FOUNDED_FLOOR] = k.head[LEDGER_FOUNDED_FLOOR] = 2;
+    answer(&k, LEDGER_SHUT, 0, 0);
+    same("offer, full up to the floor", 0, offer_as(&l, 7, 140, LEDGER_SOURCE_TIP), &l, &k);
+    const uint64_t sources[] = {2, UINT64_C(1) << 32, UINT64_MAX};
+    for (size_t n = 0; n < 3; n++) {
+        same("offer, a third source", 11, offer_as(&l, 7, 140, sources[n]), &l, &k);
+        same("offer, a third source, no row", 4, offer_as(&l, 256, 140, sources[n]), &l, &k);
+        l.head[LEDGER_FOUNDED] = k.head[LEDGER_FOUNDED] = 1 + 2 * (n % 2);
+        same("offer, a third source, another count", 3, offer_as(&l, 7, 140, sources[n]), &l, &k);
+        same("begin, another count", 3, begin(&l), &l, &k);
+        l.head[LEDGER_FOUNDED] = k.head[LEDGER_FOUNDED] = 2;
+        l.slots[LEDGER_SLOT_SOURCE] = *source = sources[n];
+        same("begin, a third source", 3, begin(&l), &l, &k);
+        l.slots[LEDGER_SLOT_SOURCE] = *source = LEDGER_SOURCE_FOUNDED;
+    }
 }
 
 /* A region over the most atoms, and scratch for it. */
@@ -313,7 +370,7 @@ static void most_atoms(void)
     make(&l, SLOTS, POSTINGS);
     k = l;
     offered(&k, LEDGER_ADDED, 2);
-    k.head[LEDGER_ROWS] = k.head[LEDGER_BORN] = k.head[LEDGER_EPOCH] = 1;
+    k.head[LEDGER_ROWS] = k.head[LEDGER_BORN] = k.head[LEDGER_EPOCH] = k.head[LEDGER_FOUNDED] = 1;
     memcpy(k.slots, row, sizeof row);
     same("offer, the last atom", 0, offer(&l, 7, last), &l, &k);
     same("offer, no atom any more", 4, offer(&l, 9, last + 1), &l, &k);
@@ -418,24 +475,28 @@ static void requires(void)
     same("close, against the region after a Require", 0, close(&l, 128), &l, &k);
 }
 
-/* A store, number 4, and a tier, number 9, one with the two rows, the first hit five times, and one with none. */
+/* A store, number 4, and a tier, number 9, one with the two rows, the first hit five times, the second a Tip, and one with none. */
 static struct two giver_and_receiver(int seeding)
 {
     struct lent giver = two_rows(), receiver = two_rows();
     giver.slots[4] = giver.slots[5] = 5;
+    giver.slots[LEDGER_SLOT_WORDS + LEDGER_SLOT_SOURCE] = LEDGER_SOURCE_TIP;
+    giver.head[LEDGER_FOUNDED] = 1;
     make(&receiver, SLOTS, POSTINGS);
     struct two l = seeding ? (struct two){receiver, giver} : (struct two){giver, receiver};
     l.store.head[LEDGER_NUMBER] = 4;
     return l;
 }
 
-/* Both rows taken: born anew, and the hits that came with them halved, for the tier has two rows. */
+/* Both rows taken: born anew, each with its source, and the hits that came with them halved, for the tier has two rows. */
 static void took_both(struct lent *l)
 {
     const uint64_t scalar[] = {1, 1, 0, 0, 2, 0, 1, 0, 7, 140}, packed[] = {2, 2, 2, 1, 0, 0, 2, 0, 0, 3, 0, 1, 0, 0xc0};
     memcpy(l->slots, scalar, sizeof scalar);
     memcpy(l->slots + LEDGER_SLOT_WORDS, packed, sizeof packed);
+    l->slots[LEDGER_SLOT_WORDS + LEDGER_SLOT_SOURCE] = LEDGER_SOURCE_TIP;
     l->head[LEDGER_ROWS] = l->head[LEDGER_BORN] = 2;
+    l->head[LEDGER_FOUNDED] = 1;
 }
 
 /* Each ledger's refusals, the tier's first; the tier and the store are each made unfit and then fit again. */
@@ -512,6 +573,7 @@ int main(void)
     outputs();
     decisions();
     offers();
+    tips();
     most_atoms();
     searches();
     closings();

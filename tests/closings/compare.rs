@@ -2,7 +2,7 @@
 
 use crate::boundary::SLOT_WORDS;
 use crate::generate::AMPLE;
-use crate::ledger::{Case, Closing, FULL, HITS, Ledger, STALE, UNSHARED};
+use crate::ledger::{Case, Closing, FOUNDED, FULL, HITS, Ledger, STALE, UNSHARED};
 use crate::random::Random;
 use crate::rounds::{self, SCAN_ROWS, Told};
 use crate::rows::{Closures, Ending, Literals, Row, covers, force_alike, regions};
@@ -40,7 +40,7 @@ pub struct Subject {
 }
 
 /// What must occur for a run to count.
-const MUST_OCCUR: [&str; 21] = [
+const MUST_OCCUR: [&str; 22] = [
     "Closed with nothing decided",
     "Closed with something decided",
     "Closed with a round by postings",
@@ -54,6 +54,7 @@ const MUST_OCCUR: [&str; 21] = [
     "an output named that is not the least at the end",
     "a ledger that evicted",
     "a ledger with a packed row",
+    "a ledger with rows of both sources",
     "a ledger of more than 64 rows",
     "a ledger that took rows in a transfer",
     "two that force alike, none evicted",
@@ -107,6 +108,8 @@ impl Run {
             .any(|slot| slot[2] != 0);
         self.occurs("a ledger that evicted", evicted);
         self.occurs("a ledger with a packed row", packed);
+        let both = (1..rows.len() as u64).contains(&ledger.book.head[FOUNDED]);
+        self.occurs("a ledger with rows of both sources", both);
         self.occurs("a ledger of more than 64 rows", rows.len() > SCAN_ROWS);
         let alike = evicted || force_alike(&rows, &ledger.taken, &regions);
         let fault = first_fault(&[

@@ -87,7 +87,7 @@ fn disturb(random: &mut Random, ledger: &mut Ledger, rows: &[Row]) {
         }
         1 if ledger.book.head[ROWS] > 0 => ledger.hit(random.below(ledger.book.head[ROWS])),
         _ => {
-            ledger.offer(random.pick(rows), random.below(4));
+            ledger.offer(random.pick(rows), random.below(2), random.below(4));
         }
     }
 }
@@ -96,7 +96,7 @@ fn disturb(random: &mut Random, ledger: &mut Ledger, rows: &[Row]) {
 pub fn learn(random: &mut Random, limits: Limits, rows: &[Row], disturbed: bool) -> Ledger {
     let mut ledger = Ledger::make(limits);
     for row in rows {
-        ledger.offer(*row, AMPLE);
+        ledger.offer(*row, random.below(2), AMPLE);
         if disturbed && random.chance(1, 3) {
             disturb(random, &mut ledger, rows);
         }

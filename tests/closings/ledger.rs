@@ -8,6 +8,7 @@ pub const ROWS: usize = 11;
 pub const EVICTED: usize = 17;
 pub const STALE: usize = 20;
 pub const FULL: usize = 21;
+pub const FOUNDED: usize = 25;
 pub const HITS: usize = 4;
 pub const UNSHARED: usize = 5;
 /// The answers of an offer from this one on, Subsumed and Added, are those of a row taken.
@@ -107,12 +108,13 @@ impl Ledger {
         assert_eq!(refusal, 0, "hit is refused");
     }
 
-    /// Offers a row, with a meter that allows so many ticks.
-    pub fn offer(&mut self, row: Row, limit: u64) {
+    /// Offers a row of a source, with a meter that allows so many ticks. Rows of either source are taken alike.
+    pub fn offer(&mut self, row: Row, source: u64, limit: u64) {
         let (conditions, outputs) = (row.conditions.codes(), row.outputs.codes());
         let mut answer = [0; ANSWER_WORDS];
         let meter = &mut [0, limit];
-        let refusal = self.book.offer(&conditions, &outputs, &mut answer, meter);
+        let row_words = (&conditions[..], &outputs[..]);
+        let refusal = self.book.offer(row_words, source, &mut answer, meter);
         assert_eq!(refusal, 0, "an offer is refused");
         if answer[0] >= SUBSUMED {
             self.taken.push(row);

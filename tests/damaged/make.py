@@ -1,32 +1,34 @@
 #!/usr/bin/env python3
-"""Writes crates/damaged/stdin and crates/damaged/stdout: good ledgers, damaged copies of them, and the refusal that document 01 asks for.
+"""Writes crates/damaged/stdin and crates/damaged/stdout: good ledgers, damaged copies of them, and the refusal that document 01 asks for, with
+what document 02 changes in it: atoms up to 1,048,576, and the source of a row.
 
-The expected numbers come from the reading of document 01 in this file alone; no code of the crates and none of the Rust is called.
+The expected numbers come from the reading of the documents in this file alone; no code of the crates and none of the Rust is called.
 
     tests/damaged/make.py          writes both files
     tests/damaged/make.py --check  exits with 1 if they are not what would be written
 
 A ledger with all that a call is lent is one list of 1,700 words, laid out as below. The input has such a list, then its damaged copies,
 each as the number of changed words, then index and value of each; 999 ends the copies of a ledger. The output has a line a copy, twelve
-digits: what each function of include/ledger.h, in its order, refuses the copy by, 0 for none, and then 1 if a refused call changed a lent
-word: 0.
+numbers with nothing between them: what each function of include/ledger.h, in its order, refuses the copy by, 0 for none, and then 1 if a
+refused call changed a lent word: 0. Of them only an offer's can have two digits, 11.
 """
 import os
 import sys
 
 WORD = 2**64 - 1
-SLOT, POST = 168, 80
+SLOT, POST = 169, 80
+SOURCE = SLOT - 1
 MOST_ATOMS = 1048576
 
 # the header of the ledger, which is the tier in seed and deliver; behind it that of the store
 (ATOMS, TIER, CONDITIONS_MOST, OUTPUTS_MOST, FLOOR, ATTEMPTS_MOST, WORK, SHARE_WORK, SHARE_CONDITIONS, SHARE_HITS, NUMBER, ROWS, BORN,
- EPOCH, ATTEMPTS, REMAINING, SHARING, EVICTED, DELIVERIES, SEEDED, STALE, FULL, MARK, MARK_NUMBER, MARK_BORN, HEAD) = range(26)
+ EPOCH, ATTEMPTS, REMAINING, SHARING, EVICTED, DELIVERIES, SEEDED, STALE, FULL, MARK, MARK_NUMBER, MARK_BORN, FOUNDED, HEAD) = range(27)
 STORE = HEAD
-# the answer (4 words), the meter (2), the cursor (4), make's number or a position, the atom and the value of decide
-ANSWER, METER, CURSOR, POSITION, ATOM, VALUE = 50, 54, 56, 60, 61, 62
+# the answer (4 words), the meter (2), the cursor (4), make's number, a position or the source of an offer, the atom and the value of decide
+ANSWER, METER, CURSOR, POSITION, ATOM, VALUE = 52, 56, 58, 62, 63, 64
 # the lengths of the lent slices; scratch has no words here: as many words as its length says are lent, none of them 0
 (SLOTS_LEN, POSTINGS_LEN, HELD_LEN, CUT_LEN, CONDITIONS_LEN, OUTPUTS_LEN, GIVEN_LEN, FOUND_LEN, STORE_SLOTS_LEN, STORE_POSTINGS_LEN,
- ROW_SCRATCH_LEN, ATOM_SCRATCH_LEN, LENGTHS_END) = range(63, 76)
+ ROW_SCRATCH_LEN, ATOM_SCRATCH_LEN, LENGTHS_END) = range(65, 78)
 # the slices: GIVEN are the atoms that candidates is given, FOUND its answer buffer
 GIVEN, FOUND, CONDITIONS, OUTPUTS, HELD, CUT, SLOTS, POSTINGS, STORE_SLOTS, STORE_POSTINGS, SIZE = (
     80, 90, 100, 120, 190, 240, 290, 830, 1140, 1500, 1700)
@@ -59,7 +61,7 @@ def group_words(group):
     return [group[0] // 128, present, absent]
 
 
-def slot_of(conditions, outputs, hits, unshared, born, delivered):
+def slot_of(conditions, outputs, hits, unshared, born, delivered, source):
     if packed(conditions, outputs):
         first, second = groups(conditions), groups(outputs)
         body = [w for g in first + second for w in group_words(g)]
@@ -68,7 +70,7 @@ def slot_of(conditions, outputs, hits, unshared, born, delivered):
         body = conditions + outputs
         counts = [0, 0]
     words = [len(conditions), len(outputs)] + counts + [hits, unshared, born, delivered] + body
-    return words + [0] * (SLOT - len(words))
+    return words + [0] * (SOURCE - len(words)) + [source]
 
 
 def postings_of(rows):
@@ -105,7 +107,7 @@ def codes_of(words):
 
 
 def row_in(words):
-    """The row whose slot these 168 words are, or none."""
+    """The row whose slot these words are, or none."""
     conditions, outputs, total, first, hits, unshared, born, delivered = words[:8]
     if conditions > 16 or outputs > 64 or total * 3 > 160 or first > total:
         return None
@@ -115,7 +117,7 @@ def row_in(words):
         row = (codes_of(words[8:8 + 3 * first]), codes_of(words[8 + 3 * first:8 + 3 * total]))
         if row[0] is None or row[1] is None:
             return None
-    if delivered > 1 or slot_of(row[0], row[1], hits, unshared, born, delivered) != words:
+    if delivered > 1 or words[SOURCE] > 1 or slot_of(*row, hits, unshared, born, delivered, words[SOURCE]) != words:
         return None
     return row
 
@@ -154,6 +156,8 @@ def contents_ok(head, slots, postings):
         return False
     rows = rows_in(head, slots)
     if rows is None or any(slots[SLOT * head[ROWS]:]):
+        return False
+    if head[FOUNDED] != sum(slots[SLOT * position + SOURCE] == 0 for position in range(head[ROWS])):
         return False
     filed = [] if head[STALE] else postings_of(rows)
     return postings == filed + [0] * (len(postings) - len(filed))
@@ -217,7 +221,7 @@ def expected(w):
     step = deduce
     if step == 0:
         step = 0 if cursor_ok(rows_in(w, part(w, SLOTS))[w[POSITION]], w[CURSOR:CURSOR + 4]) else 8
-    offer = begin or (0 if offer_ok(w) else 4)
+    offer = begin or (4 if not offer_ok(w) else 11 if w[POSITION] > 1 else 0)
     candidates = accept(tier_of(w), w[FOUND_LEN] == w[TIER])
     close = accept(tier_of(w), w[ROW_SCRATCH_LEN] == w[TIER] and w[ATOM_SCRATCH_LEN] == w[ATOMS]) or decide
     transfer = begin or accept(store_of(w)) or (7 if w[ATOMS] != w[STORE + ATOMS] else 0)
@@ -226,10 +230,11 @@ def expected(w):
 
 # ---- good ledgers
 def put_ledger(w, places, atoms, tier, number, rows, stale):
-    """rows: (conditions, outputs, hits, unshared, born, delivered)."""
+    """rows: (conditions, outputs, hits, unshared, born, delivered, source)."""
     head, slots, postings = places
     w[head:head + HEAD] = [
-        atoms, tier, 16, 64, 1, 9, 100, 100, 8, 2, number, len(rows), 5, tier - 1, 9, 50, 60, 0, 1, 2, int(stale), 1, 1, 3, 4
+        atoms, tier, 16, 64, 1, 9, 100, 100, 8, 2, number, len(rows), 5, tier - 1, 9, 50, 60, 0, 1, 2, int(stale), 1, 1, 3, 4,
+        [row[6] for row in rows].count(0)
     ]
     w[ROOM[slots][0]], w[ROOM[postings][0]] = SLOT * tier, POST * tier
     for p, row in enumerate(rows):
@@ -268,20 +273,20 @@ def ledger(atoms, tier, rows, stale, position, held, cut, cursor, atom, given, o
     return w
 
 
-SCALAR = ([7, 200], [6, 7, 140], 3, 1, 2, 0)
-PACKED = ([1, 3, 8], [2, 3, 140, 142, 250], 0, 0, 5, 1)
+SCALAR = ([7, 200], [6, 7, 140], 3, 1, 2, 0, 0)
+PACKED = ([1, 3, 8], [2, 3, 140, 142, 250], 0, 0, 5, 1, 1)
 # 80 literals with 80 postings: in 66 groups, and in the most groups that a slot can have, 53
 LONG_SCALAR = ([128 * i + 1 for i in range(16)],
-               [128 * i + 2 for i in range(36)] + [128 * i + 2 * j for i in range(36, 50) for j in range(2)], 0, 9, 1, 0)
+               [128 * i + 2 for i in range(36)] + [128 * i + 2 * j for i in range(36, 50) for j in range(2)], 0, 9, 1, 0, 1)
 LONG_PACKED = ([128 * i + 4 for i in range(16)],
-               [128 * i + 2 * j for i in range(27) for j in range(2)] + [128 * i + 7 for i in range(27, 37)], WORD, WORD, 5, 1)
+               [128 * i + 2 * j for i in range(27) for j in range(2)] + [128 * i + 7 for i in range(27, 37)], WORD, WORD, 5, 1, 0)
 assert packed(*PACKED[:2]) and not packed(*SCALAR[:2]) and not packed(*LONG_SCALAR[:2]) and packed(*LONG_PACKED[:2])
 # rows of many atoms: a code and the one 65,536 above it, and the last atom; groups on both sides of 32,768 atoms, and the last
-FAR_SCALAR = ([7, 65543], [140, 65676, 2 * MOST_ATOMS - 1], 3, 1, 2, 0)
-FAR_PACKED = ([65531, 65535, 65537], [2 * MOST_ATOMS - 128 + i for i in (0, 1, 5, 126, 127)], 0, 0, 5, 1)
+FAR_SCALAR = ([7, 65543], [140, 65676, 2 * MOST_ATOMS - 1], 3, 1, 2, 0, 1)
+FAR_PACKED = ([65531, 65535, 65537], [2 * MOST_ATOMS - 128 + i for i in (0, 1, 5, 126, 127)], 0, 0, 5, 1, 0)
 # the same around 32,768 alone, of which the last atom is 32,768 itself
-HALF_SCALAR = ([7, 65535], [65534, 65537], 3, 1, 2, 0)
-HALF_PACKED = ([65531, 65533, 65537], [65529, 65535, 65536, 65537], 0, 0, 5, 1)
+HALF_SCALAR = ([7, 65535], [65534, 65537], 3, 1, 2, 0, 0)
+HALF_PACKED = ([65531, 65533, 65537], [65529, 65535, 65536, 65537], 0, 0, 5, 1, 1)
 assert not packed(*FAR_SCALAR[:2]) and packed(*FAR_PACKED[:2]) and not packed(*HALF_SCALAR[:2]) and packed(*HALF_PACKED[:2])
 NONE = [0, 0, 0, 0]
 FAR_LEDGERS = [
@@ -293,8 +298,8 @@ LEDGERS = [
     ledger(130, 2, [SCALAR, PACKED], False, 1, [0, 129], [70], [2, 1, 0, 1 << 6], 5, [3, 70, 3, 500], ([3, 258], [4, 5, 140]),
            (2, [PACKED, SCALAR], False)),
     ledger(130, 3, [PACKED, SCALAR], True, 1, [0, 64], [], [3, 0, 0, 0], 129, [], ([], []), (1, [SCALAR], True)),
-    ledger(64, 1, [([], [], 1, 0, 1, 0)], False, 0, [], [63], NONE, 0, [0], ([127], list(range(64))), (2, [], True)),
-    ledger(1, 1, [], True, 0, [0], [], NONE, 0, [0, 0], ([1], [0, 1]), (1, [([0], [1], 0, 0, 5, 1)], False)),
+    ledger(64, 1, [([], [], 1, 0, 1, 0, 0)], False, 0, [], [63], NONE, 0, [0], ([127], list(range(64))), (2, [], True)),
+    ledger(1, 1, [], True, 0, [0], [], NONE, 0, [0, 0], ([1], [0, 1]), (1, [([0], [1], 0, 0, 5, 1, 1)], False)),
     ledger(3200, 2, [LONG_SCALAR, LONG_PACKED], False, 0, [3199], [0, 64], [64, 0, 0, 0], 3199, [], LONG_SCALAR[:2],
            (2, [LONG_PACKED], False)),
 ]
@@ -394,7 +399,17 @@ def several(w):
     # a longer row, with the postings of the old one and with its own
     for postings in (filed, postings_of([(SCALAR[0], SCALAR[1] + [258]), PACKED[:2]])):
         yield [(SLOTS + 1, 4), (SLOTS + 13, 258)] + posted(postings)
-    # one row less, with and without its words and postings
+    # the sources: one that is none, the count that is of others, both at once and neither; one row of each source stands there
+    for founded in (0, 1, 2, 3, WORD):
+        for one in (0, 1, 2, WORD):
+            for other in (0, 1, 2):
+                yield [(FOUNDED, founded), (SLOTS + SOURCE, one), (second + SOURCE, other)]
+                yield [(STORE + FOUNDED, founded), (STORE_SLOTS + SOURCE, one), (STORE_SLOTS + SLOT + SOURCE, other)]
+    # slots of as many words as they had without a source, of either ledger
+    yield [(SLOTS_LEN, 168 * w[TIER])]
+    yield [(STORE_SLOTS_LEN, 168 * w[STORE + TIER])]
+    # one row less, with and without its words and postings, or with its source alone
+    yield [(ROWS, 1)] + written(second, [0] * SOURCE)
     yield [(ROWS, 1)]
     yield [(ROWS, 1)] + written(second, [0] * SLOT)
     first = [(ROWS, 1), (POSITION, 0), (CURSOR, 0), (CURSOR + 1, 0), (CURSOR + 3, 0)]
@@ -425,6 +440,8 @@ def offered(w):
         lists = [(CONDITIONS_LEN, len(conditions)), (OUTPUTS_LEN, len(outputs))]
         lists += written(CONDITIONS, conditions) + written(OUTPUTS, outputs)
         yield lists
+        for source in (0, 2, WORD):
+            yield [(POSITION, source)] + lists
         for most in (0, 1, 2):
             yield [(CONDITIONS_MOST, most)] + lists
             yield [(OUTPUTS_MOST, most)] + lists
@@ -433,11 +450,11 @@ def offered(w):
 def faults(w):
     """On the first ledger: one fault for every refusal, and for every lent thing that it is about."""
     return [
-        [(ATOMS, 0)], [(ATOMS, MOST_ATOMS + 1)], [(TIER, 0)], [(OUTPUTS_MOST, 65)], [(SLOTS_LEN, 335)], [(SLOTS_LEN, 0)], [(POSTINGS_LEN, 161)],
+        [(ATOMS, 0)], [(ATOMS, MOST_ATOMS + 1)], [(TIER, 0)], [(OUTPUTS_MOST, 65)], [(SLOTS_LEN, 336)], [(SLOTS_LEN, 0)], [(POSTINGS_LEN, 161)],
         [(FOUND_LEN, 1)], [(FOUND_LEN, 3)], [(ROW_SCRATCH_LEN, 1)], [(ROW_SCRATCH_LEN, 3)], [(ATOM_SCRATCH_LEN, 129)],
-        [(ATOM_SCRATCH_LEN, 131)], [(SLOTS + 7, 2)], [(POSTINGS, 0)], [(EPOCH, 2)], [(ROWS, 3)], [(CONDITIONS, 259)], [(OUTPUTS_LEN, 70)],
+        [(ATOM_SCRATCH_LEN, 131)], [(SLOTS + 7, 2)], [(SLOTS + SOURCE, 2)], [(FOUNDED, 2)], [(POSTINGS, 0)], [(EPOCH, 2)], [(ROWS, 3)], [(CONDITIONS, 259)], [(OUTPUTS_LEN, 70)],
         [(POSITION, 2)], [(POSITION, WORD)], [(HELD_LEN, 2)], [(CUT + 2, 2)], [(CURSOR, 3)], [(CURSOR + 2, 1)], [(STORE + ATOMS, 0)],
-        [(STORE + TIER, 4097)], [(STORE_SLOTS_LEN, 337)], [(STORE_POSTINGS_LEN, 0)], [(STORE + BORN, 4)], [(STORE_SLOTS + SLOT + 1, 0)],
+        [(STORE + TIER, 4097)], [(STORE_SLOTS_LEN, 339)], [(STORE_POSTINGS_LEN, 0)], [(STORE + BORN, 4)], [(STORE_SLOTS + SLOT + 1, 0)], [(STORE + FOUNDED, 0)],
         [(STORE + ATOMS, 131)], [(ATOMS, 131), (ATOM_SCRATCH_LEN, 131)]
     ]
 
@@ -469,6 +486,9 @@ def far(w):
     for code in (7, 65534, 65535, 65536, 65537, 65538, 65543, 2 * MOST_ATOMS - 1, 2 * MOST_ATOMS, 2**32 + 7, 2**32 + 65537, WORD):
         yield [(CONDITIONS, code)]
         yield [(OUTPUTS + 1, code)]
+    # sources that are 0 or 1 in their low 16 or 32 bits
+    for source in (0, 1, 65536, 65537, 2**32, 2**32 + 1):
+        yield [(POSITION, source)]
     for at in (CONDITIONS, OUTPUTS, SLOTS, POSTINGS, STORE_SLOTS, STORE_POSTINGS):
         yield from moved(w, at)
 

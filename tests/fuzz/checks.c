@@ -3,7 +3,7 @@
 #include "fuzz.h"
 #include <string.h>
 
-enum { HITS = 4, UNSHARED = 5 };
+enum { HITS = 4, UNSHARED = 5, BORN = 6, DELIVERED = 7 };
 
 static bool same(const uint64_t *a, const uint64_t *b, size_t length) { return length == 0 || memcmp(a, b, length * sizeof(uint64_t)) == 0; }
 static bool kept(const struct call *c, int b) { return same(c->lent[b], c->given[b].at, c->given[b].length); }
@@ -52,7 +52,7 @@ static unsigned changed(const struct call *c, int b)
 }
 
 #define RECEIVED                                                                                                                                  \
-    (BIT(LEDGER_ROWS) | BIT(LEDGER_BORN) | BIT(LEDGER_EPOCH) | BIT(LEDGER_EVICTED) | BIT(LEDGER_STALE) | BIT(LEDGER_FULL))
+    (BIT(LEDGER_ROWS) | BIT(LEDGER_BORN) | BIT(LEDGER_EPOCH) | BIT(LEDGER_EVICTED) | BIT(LEDGER_STALE) | BIT(LEDGER_FULL) | BIT(LEDGER_FOUNDED))
 
 static unsigned may_change(enum operation_number operation)
 {
@@ -139,7 +139,14 @@ static const char *after_offer(const struct call *c)
         return "the reads left do not fall by the ticks";
     if (!added && (!kept(c, SLOTS) || !kept(c, POSTINGS) || (changed(c, HEAD) & RECEIVED)))
         return "no row added, and the ledger changed";
-    return answer[LEDGER_CASE] >= LEDGER_SUBSUMED && answer[LEDGER_VALUE] >= head[LEDGER_ROWS] ? "a position beyond the rows" : NULL;
+    if (shut != shuts(given))
+        return "Shut where it is open, or not where it is shut";
+    if (answer[LEDGER_CASE] >= LEDGER_SUBSUMED && answer[LEDGER_VALUE] >= head[LEDGER_ROWS])
+        return "a position beyond the rows";
+    if (added && c->lent[SLOTS][answer[LEDGER_VALUE] * LEDGER_SLOT_WORDS + LEDGER_SLOT_SOURCE] != c->source)
+        return "a row added with another source than it was offered with";
+    bool evicted = head[LEDGER_EVICTED] != given[LEDGER_EVICTED];
+    return evicted && answer[LEDGER_VALUE] != victim_of(given, c->given[SLOTS].at) ? "another row evicted" : NULL;
 }
 
 static const char *after_candidates(const struct call *c)
@@ -232,10 +239,57 @@ static const char *after_next_output(const struct call *c)
     return read && cursor_fits(&row, c->lent[CURSOR]) ? NULL : "a cursor that is not of the row";
 }
 
+/* ---- Transfers */
+
+/* The outputs of one row are among those of another with the same conditions. */
+static bool joined_in(const uint64_t *slot, const struct row *row)
+{
+    struct row other;
+    size_t n = 0;
+    if (!row_read(slot, &other) || other.conditions != row->conditions || !same(other.condition, row->condition, row->conditions))
+        return false;
+    for (size_t i = 0; i < row->outputs; i++)
+        n += n < other.outputs && other.output[n] == row->output[i];
+    return n == other.outputs;
+}
+
+/* Some row of the giver has this one's source and conditions, and outputs among its own. */
+static bool given_by(const uint64_t *head, const uint64_t *slots, const uint64_t *slot)
+{
+    struct row row;
+    bool found = !row_read(slot, &row);
+    for (uint64_t p = 0; p < head[LEDGER_ROWS] && !found; p++, slots += LEDGER_SLOT_WORDS)
+        found = slots[LEDGER_SLOT_SOURCE] == slot[LEDGER_SLOT_SOURCE] && joined_in(slots, &row);
+    return found;
+}
+
+/* Each row that is new in the receiver comes from a row of the giver, with its source. */
+static bool handed_on(const struct call *c, int head, int slots, int from_head, int from_slots)
+{
+    const uint64_t *slot = c->lent[slots];
+    for (uint64_t p = 0; p < c->lent[head][LEDGER_ROWS]; p++, slot += LEDGER_SLOT_WORDS)
+        if (slot[BORN] > c->given[head].at[LEDGER_BORN] && !given_by(c->given[from_head].at, c->given[from_slots].at, slot))
+            return false;
+    return true;
+}
+
+/* Of the tier's rows nothing but what is not shared, and whether it is delivered, may be other words. */
+static bool only_delivered(const struct call *c)
+{
+    const uint64_t *now = c->lent[SLOTS], *before = c->given[SLOTS].at;
+    for (uint64_t p = 0; p < c->given[HEAD].at[LEDGER_TIER_ROWS]; p++, now += LEDGER_SLOT_WORDS, before += LEDGER_SLOT_WORDS)
+        if (!same(now, before, UNSHARED) || now[BORN] != before[BORN] ||
+            !same(now + DELIVERED + 1, before + DELIVERED + 1, LEDGER_SLOT_WORDS - DELIVERED - 1))
+            return false;
+    return true;
+}
+
 static const char *after_seed(const struct call *c)
 {
     if (changed(c, STORE_HEAD) & ~BIT(LEDGER_SEEDED))
         return "the store's header";
+    if (!handed_on(c, HEAD, SLOTS, STORE_HEAD, STORE_SLOTS))
+        return "a row seeded from none, or with another source";
     return c->given[HEAD].at[LEDGER_SHARING] - c->lent[HEAD][LEDGER_SHARING] > c->lent[ANSWER][LEDGER_TICKS] ? "more paid than ticked" : NULL;
 }
 
@@ -243,6 +297,10 @@ static const char *after_deliver(const struct call *c)
 {
     if (changed(c, STORE_HEAD) & ~(RECEIVED | BIT(LEDGER_DELIVERIES)))
         return "the store's header";
+    if (!only_delivered(c))
+        return "more of the tier's rows changed than what is shared";
+    if (!handed_on(c, STORE_HEAD, STORE_SLOTS, HEAD, SLOTS))
+        return "a row delivered from none, or with another source";
     if (c->given[HEAD].at[LEDGER_SHARING] - c->lent[HEAD][LEDGER_SHARING] > c->lent[ANSWER][LEDGER_TICKS])
         return "more paid than ticked";
     return comes_back(c, STORE_HEAD, STORE_SLOTS, STORE_POSTINGS) ? NULL : "the store is not accepted again";
@@ -309,12 +367,12 @@ const char *fault_of(const struct call *c, uint64_t result)
 {
     if (!margins_kept(c))
         return "a word beside a lent buffer is changed";
-    if (result > 8 || (result != 0 && !(operations[c->operation].refusals & BIT(result))))
+    if (result > 11 || (result != 0 && !(operations[c->operation].refusals & BIT(result))))
         return "a result that the operation does not have";
     if (result != 0 && !all_kept(c, ~0u))
         return "refused, and a word changed";
     if (result != refusal_of(c))
-        return "another refusal than document 01 asks for";
+        return "another refusal than the documents ask for";
     if (result != 0)
         return NULL;
     if (!all_kept(c, ~operations[c->operation].writes))

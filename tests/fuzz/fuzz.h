@@ -40,7 +40,7 @@ struct call {
     enum operation_number operation;
     struct words given[BUFFERS];
     uint64_t *lent[BUFFERS];
-    uint64_t number, position, region_atoms, atom, value;
+    uint64_t number, position, region_atoms, atom, value, source;
 };
 
 struct operation {
@@ -59,7 +59,7 @@ void lend(struct call *c);
 bool margins_kept(const struct call *c);
 void take_back(struct call *c);
 
-/* ---- The test's own reading of document 01. */
+/* ---- The test's own reading of document 01, and of 02 on sources. */
 enum { MOST_CONDITIONS = 16, MOST_OUTPUTS = 64, MOST_ROWS = 4096, MOST_ATOMS = 1048576, MOST_GROUPS = 53 };
 enum { HALF = 32768, SPAN = 65536 }; /* the first atom, and the first code, beyond 16 bits: there numbers cut to their low bits would be others */
 struct row {
@@ -71,7 +71,7 @@ struct group {
 };
 
 bool row_read(const uint64_t *slot, struct row *row);
-void row_write(const struct row *row, uint64_t *slot); /* the words of the row; hits, unshared, born and delivered are left */
+void row_write(const struct row *row, uint64_t *slot); /* the words of the row; hits, unshared, born, delivered and source are left */
 bool row_packed(const struct row *row);
 size_t groups_of(const uint64_t *codes, size_t length, struct group *groups);
 void postings_write(const uint64_t *head, const uint64_t *slots, struct words *postings);
@@ -79,7 +79,9 @@ bool region_fits(uint64_t atoms, const struct words *held, const struct words *c
 bool marked(const struct words *held, const struct words *cut, uint64_t code); /* a code of the region's atoms */
 bool cursor_fits(const struct row *row, const uint64_t *cursor);
 bool contents_fit(const uint64_t *head, const uint64_t *slots, const uint64_t *postings);
-uint64_t refusal_of(const struct call *c); /* what document 01 says: 0, or the number */
+bool shuts(const uint64_t *head); /* an accepted ledger takes no offers */
+uint64_t victim_of(const uint64_t *head, const uint64_t *slots); /* the row to be evicted; as many as there are rows for none */
+uint64_t refusal_of(const struct call *c); /* what the documents say: 0, or the number */
 
 /* ---- What calls are given: good ledgers, kept from call to call, and damage. */
 void given_start(void);

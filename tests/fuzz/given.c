@@ -1,4 +1,4 @@
-/* What calls are given: ledgers that document 01 accepts, kept from call to call or written outright; rows, regions, cursors and meters
+/* What calls are given: ledgers that the documents accept, kept from call to call or written outright; rows, regions, cursors and meters
  * near them; and most of the time some damage. */
 #include "fuzz.h"
 #include <stdlib.h>
@@ -148,8 +148,14 @@ static void write_ledger(struct ledger *l, uint64_t tier_rows)
     random_head(l->head.at, tier_rows);
     all_zero(&l->slots, LEDGER_SLOT_WORDS * tier_rows);
     size_t literals = tier_rows > LARGEST_KEPT ? 2 : MOST_OUTPUTS;
-    for (uint64_t p = 0; p < l->head.at[LEDGER_ROWS]; p++)
-        random_slot(l->slots.at + p * LEDGER_SLOT_WORDS, l->head.at, literals);
+    uint64_t tips = PICK(0, 1, 2, 2, 3, 4); /* of so many rows in four */
+    l->head.at[LEDGER_FOUNDED] = 0;
+    for (uint64_t p = 0; p < l->head.at[LEDGER_ROWS]; p++) {
+        uint64_t *slot = l->slots.at + p * LEDGER_SLOT_WORDS;
+        random_slot(slot, l->head.at, literals);
+        slot[LEDGER_SLOT_SOURCE] = chance(tips, 4) ? LEDGER_SOURCE_TIP : LEDGER_SOURCE_FOUNDED;
+        l->head.at[LEDGER_FOUNDED] += slot[LEDGER_SLOT_SOURCE] == LEDGER_SOURCE_FOUNDED;
+    }
     postings_write(l->head.at, l->slots.at, &l->postings);
 }
 
@@ -277,6 +283,7 @@ static void give_others(struct call *c, const struct ledger *l)
     c->atom = below(head[LEDGER_ATOMS]);
     c->value = PICK(0, 1, edge());
     c->number = PICK(below(4), edge());
+    c->source = chance(7, 8) ? below(2) : PICK(2, UINT64_MAX, random_word(), SPAN + below(2), (UINT64_C(1) << 32) + below(2), edge());
     near_row(&offered, l, head[LEDGER_FOUNDED_CONDITIONS], head[LEDGER_FOUNDED_OUTPUTS]);
     if (chance(1, 2))
         random_row(&offered, head[LEDGER_ATOMS], head[LEDGER_FOUNDED_CONDITIONS], head[LEDGER_FOUNDED_OUTPUTS]);
@@ -317,14 +324,16 @@ static size_t somewhere(const struct call *c, int b)
     size_t place = below(w->length);
     if ((b == SLOTS || b == STORE_SLOTS) && chance(1, 2)) {
         uint64_t rows = c->given[b == SLOTS ? HEAD : STORE_HEAD].at[LEDGER_ROWS];
-        place = below(fewer(rows, 80) + 1) * LEDGER_SLOT_WORDS + below(16);
+        place = below(fewer(rows, 80) + 1) * LEDGER_SLOT_WORDS + (chance(1, 8) ? LEDGER_SLOT_SOURCE : below(16));
     }
     return (b == POSTINGS || b == STORE_POSTINGS) && chance(1, 2) ? below(fewer(w->length, 40)) : place < w->length ? place : below(w->length);
 }
 
+/* Among others, of slots the length without their sources. */
 static size_t other_length(size_t length)
 {
-    uint64_t other = PICK(0, 1, length - 1, length + 1, length + 1, 2 * length, length / 2, length + LEDGER_SLOT_WORDS, below(3000));
+    uint64_t other = PICK(0, 1, length - 1, length + 1, length + 1, 2 * length, length / 2, length + LEDGER_SLOT_WORDS,
+                          length / LEDGER_SLOT_WORDS * (LEDGER_SLOT_WORDS - 1), below(3000));
     return other > MOST_ATOMS + 1 ? 0 : other;
 }
 
@@ -356,8 +365,21 @@ static void damage_word(struct call *c, int b)
 
 static void damage_number(struct call *c)
 {
-    uint64_t *number = (uint64_t *[]){&c->position, &c->atom, &c->region_atoms, &c->value, &c->number}[below(5)];
+    uint64_t *number = (uint64_t *[]){&c->position, &c->atom, &c->region_atoms, &c->value, &c->number, &c->source}[below(6)];
     *number = PICK(edge(), *number + 1, *number - 1, c->given[HEAD].length > LEDGER_ROWS ? c->given[HEAD].at[LEDGER_ROWS] : 0);
+}
+
+/* Another source of some row, or another count of them, or both, of the ledger or of the store. */
+static void damage_sources(struct call *c)
+{
+    bool of_store = operations[c->operation].lends & BIT(STORE_HEAD) && chance(1, 2);
+    uint64_t *head = c->given[of_store ? STORE_HEAD : HEAD].at;
+    struct words *slots = &c->given[of_store ? STORE_SLOTS : SLOTS];
+    uint64_t place = below(fewer(head[LEDGER_ROWS], MOST_ROWS) + 1) * LEDGER_SLOT_WORDS + LEDGER_SLOT_SOURCE;
+    if (chance(2, 3) && place < slots->length)
+        slots->at[place] = PICK(0, 1, 1, 2, UINT64_MAX, SPAN, UINT64_C(1) << 32, edge());
+    if (chance(1, 2))
+        head[LEDGER_FOUNDED] = PICK(head[LEDGER_FOUNDED] + 1, head[LEDGER_FOUNDED] - 1, head[LEDGER_ROWS], 0, edge());
 }
 
 /* One damage to one of the buffers, or to a number. */
@@ -376,6 +398,8 @@ static void damage(struct call *c)
         any_words(w, w->length);
     else if (kind == 4)
         overlay(w);
+    else if (kind == 6 && operations[c->operation].lends & BIT(HEAD))
+        damage_sources(c);
     else if (kind == 5 && (b == HEAD || b == STORE_HEAD))
         words_copy(w, &kept[below(KEPT)].head);
     else if (w->length > 0)
@@ -392,6 +416,7 @@ static void give_noise(struct call *c)
     c->region_atoms = edge();
     c->atom = edge();
     c->value = edge();
+    c->source = edge();
 }
 
 /* ---- A whole call */

@@ -9,7 +9,8 @@
  * A KIND shows that the checks can fail: of one call in eight something is spoiled after it, as a faulty library would have left it, and the exit
  * code is 0 only if each of these was found and no other. `refused` changes a word after a refusal, `kept` one that the call may not write,
  * `ticks` the ticks, `result` the result, `ledger` an unused word of the slots, `named` the contradicted output, of a closing to one that no
- * row has; `outside` reads the word after a buffer's last, which must end the program. */
+ * row has, `source` the source of a row that was added, with the count of Founded rows to fit; `outside` reads the word after a buffer's last, which
+ * must end the program. */
 #include "fuzz.h"
 #include <inttypes.h>
 #include <signal.h>
@@ -18,8 +19,8 @@
 #include <string.h>
 #include <unistd.h>
 
-enum spoil { NOTHING, REFUSED, KEPT, TICKS, RESULT, LEDGER, NAMED, OUTSIDE, SPOILS };
-static const char *const spoil_names[SPOILS] = {"", "refused", "kept", "ticks", "result", "ledger", "named", "outside"};
+enum spoil { NOTHING, REFUSED, KEPT, TICKS, RESULT, LEDGER, NAMED, SOURCE, OUTSIDE, SPOILS };
+static const char *const spoil_names[SPOILS] = {"", "refused", "kept", "ticks", "result", "ledger", "named", "source", "outside"};
 
 static uint64_t calls, wrong, spoiled, found;
 static struct call call;
@@ -36,6 +37,34 @@ static bool spoil_word(unsigned buffers)
     return true;
 }
 
+/* Whether a transfer added the receiver's last row, of a giver whose rows have all one source; where born is at its end that cannot be told. */
+static bool last_is_new(int head, const uint64_t *giver)
+{
+    const uint64_t *before = call.given[head].at;
+    bool alike = giver[LEDGER_FOUNDED] == 0 || giver[LEDGER_FOUNDED] == giver[LEDGER_ROWS];
+    return call.lent[head][LEDGER_ROWS] > before[LEDGER_ROWS] && before[LEDGER_BORN] < UINT64_MAX - MOST_ROWS && alike;
+}
+
+static void turn_source(int head, int slots, uint64_t position)
+{
+    uint64_t *source = call.lent[slots] + position * LEDGER_SLOT_WORDS + LEDGER_SLOT_SOURCE;
+    *source ^= 1;
+    call.lent[head][LEDGER_FOUNDED] += *source == LEDGER_SOURCE_FOUNDED ? 1 : UINT64_MAX;
+}
+
+static bool spoil_source(void)
+{
+    if (call.operation == OFFER && call.lent[ANSWER][LEDGER_CASE] == LEDGER_ADDED)
+        turn_source(HEAD, SLOTS, call.lent[ANSWER][LEDGER_VALUE]);
+    else if (call.operation == SEED && last_is_new(HEAD, call.given[STORE_HEAD].at))
+        turn_source(HEAD, SLOTS, call.lent[HEAD][LEDGER_ROWS] - 1);
+    else if (call.operation == DELIVER && last_is_new(STORE_HEAD, call.given[HEAD].at))
+        turn_source(STORE_HEAD, STORE_SLOTS, call.lent[STORE_HEAD][LEDGER_ROWS] - 1);
+    else
+        return false;
+    return true;
+}
+
 static bool spoil(enum spoil kind, uint64_t *result)
 {
     const struct operation *o = &operations[call.operation];
@@ -43,9 +72,10 @@ static bool spoil(enum spoil kind, uint64_t *result)
     case REFUSED: return *result != 0 && spoil_word(o->lends);
     case KEPT: return *result == 0 && spoil_word(o->lends & ~o->writes);
     case TICKS: return *result == 0 && ++call.lent[ANSWER][LEDGER_TICKS];
-    case RESULT: *result = (*result + 1 + below(8)) % 9; return true;
-    case LEDGER: return *result == 0 && o->lends & BIT(SLOTS) && call.lent[SLOTS][call.given[SLOTS].length - 1]++ == 0;
+    case RESULT: *result = (*result + 1 + below(11)) % 12; return true;
+    case LEDGER: return *result == 0 && o->lends & BIT(SLOTS) && call.lent[SLOTS][call.given[SLOTS].length - 2]++ == 0;
     case NAMED: return *result == 0 && (call.lent[ANSWER][LEDGER_CONTRADICTED] += call.operation == CLOSE ? 2 * MOST_ATOMS : 1 + below(3));
+    case SOURCE: return *result == 0 && spoil_source();
     case OUTSIDE: return *(volatile uint64_t *)(call.lent[ANSWER] + LEDGER_ANSWER_WORDS) != 0;
     default: return false;
     }

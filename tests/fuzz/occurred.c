@@ -6,6 +6,8 @@
 enum shape {
     BY_POSTINGS, REBUILT, HALF_REBUILT, EVICTED, REPLACED, SATURATED, LARGE, LOADED, PAST_LIMIT, ALL_SEEDED, MARK_MET, DELIVERED_NEW,
     REQUIRED_SCALAR, REQUIRED_PACKED, NAMED_CLOSED, NAMED_CONFLICT, NAMED_STOPPED,
+    TIP_ADDED, TIP_TAKEN_IN, FOUNDED_TAKEN_IN, TIP_KEPT, TIP_EVICTED, FOUNDED_EVICTED, SHUT_FULL, OPEN_FULL, TIP_SEEDED, TIP_DELIVERED, NO_PLACE,
+    THIRD_SOURCE, UNUSED_SOURCE, OTHER_COUNT, LOW_SOURCE,
     HALF_ACCEPTED, OVER_HALF, MOST_ACCEPTED, READ_SCALAR, READ_PACKED, CLOSED_FAR, SEARCHED_FAR, BEYOND, REGION_BEYOND, LOW_16, LOW_32,
     SHAPES
 };
@@ -27,6 +29,21 @@ static const char *const shape_names[SHAPES] = {
     [NAMED_CLOSED] = "a whole closing that names an output",
     [NAMED_CONFLICT] = "a Conflict after a Require",
     [NAMED_STOPPED] = "a closing stopped after a Require",
+    [TIP_ADDED] = "a Tip added",
+    [TIP_TAKEN_IN] = "a Founded row that takes in Tips",
+    [FOUNDED_TAKEN_IN] = "a Tip that takes in Founded rows",
+    [TIP_KEPT] = "a Founded row that a Tip subsumes",
+    [TIP_EVICTED] = "a Tip evicted beside Founded rows that the floor protects",
+    [FOUNDED_EVICTED] = "a Founded row evicted beside a Tip",
+    [SHUT_FULL] = "Shut for want of a Tip alone",
+    [OPEN_FULL] = "a row added to a full ledger of Tips, with a floor as high",
+    [TIP_SEEDED] = "a seeding that adds a Tip",
+    [TIP_DELIVERED] = "a delivery that adds a Tip",
+    [NO_PLACE] = "a seeding that ends for want of a Tip",
+    [THIRD_SOURCE] = "refused by 3 for a source alone",
+    [UNUSED_SOURCE] = "refused by 3 for a source in an unused slot alone",
+    [OTHER_COUNT] = "refused by 3 for the count of Founded rows alone",
+    [LOW_SOURCE] = "refused by 11 for a source that is one in its low 32 bits",
     [HALF_ACCEPTED] = "32,768 atoms, accepted",
     [OVER_HALF] = "32,769 atoms, accepted",
     [MOST_ACCEPTED] = "1,048,576 atoms, accepted",
@@ -39,7 +56,8 @@ static const char *const shape_names[SHAPES] = {
     [LOW_16] = "an offer refused by 4 that is a row in the low 16 bits",
     [LOW_32] = "an offer refused by 4 that is a row in the low 32 bits",
 };
-static uint64_t results[OPERATIONS][9], cases[OPERATIONS][6], shapes[SHAPES];
+enum { RESULTS = 12 };
+static uint64_t results[OPERATIONS][RESULTS], cases[OPERATIONS][6], shapes[SHAPES];
 
 static bool grew(const struct call *c, int head, int word) { return c->lent[head][word] > c->given[head].at[word]; }
 
@@ -85,6 +103,76 @@ static void closed(const struct call *c)
     const enum shape named[] = {[LEDGER_CLOSED] = NAMED_CLOSED, [LEDGER_CONFLICT] = NAMED_CONFLICT, [LEDGER_STOPPED] = NAMED_STOPPED};
     if (c->lent[ANSWER][LEDGER_VALUE] == LEDGER_NAMED)
         shapes[named[c->lent[ANSWER][LEDGER_CASE]]]++;
+}
+
+/* ---- Shapes of sources */
+static uint64_t tips(const uint64_t *head) { return head[LEDGER_ROWS] - head[LEDGER_FOUNDED]; }
+static bool at_floor(const uint64_t *head) { return head[LEDGER_FOUNDED] <= head[LEDGER_FOUNDED_FLOOR]; }
+static const uint64_t *slot_at(const uint64_t *slots, uint64_t position) { return slots + position * LEDGER_SLOT_WORDS; }
+
+static void added(const struct call *c)
+{
+    const uint64_t *before = c->given[HEAD].at, *now = c->lent[HEAD];
+    uint64_t position = c->lent[ANSWER][LEDGER_VALUE];
+    bool tip = c->source == LEDGER_SOURCE_TIP, evicts = grew(c, HEAD, LEDGER_EVICTED);
+    bool was_tip = position < before[LEDGER_ROWS] && slot_at(c->given[SLOTS].at, position)[LEDGER_SLOT_SOURCE] == LEDGER_SOURCE_TIP;
+    shapes[TIP_ADDED] += tip;
+    shapes[TIP_TAKEN_IN] += !tip && !evicts && tips(now) < tips(before);
+    shapes[FOUNDED_TAKEN_IN] += tip && !evicts && now[LEDGER_FOUNDED] < before[LEDGER_FOUNDED];
+    shapes[TIP_EVICTED] += evicts && was_tip && at_floor(before) && before[LEDGER_FOUNDED] > 0;
+    shapes[FOUNDED_EVICTED] += evicts && !was_tip && tips(before) > 0;
+    shapes[OPEN_FULL] += evicts && before[LEDGER_FOUNDED] == 0 && before[LEDGER_FOUNDED_FLOOR] >= before[LEDGER_ROWS];
+}
+
+static void offered(const struct call *c)
+{
+    const uint64_t *before = c->given[HEAD].at, *answer = c->lent[ANSWER];
+    received(c, HEAD);
+    if (answer[LEDGER_CASE] == LEDGER_ADDED)
+        added(c);
+    shapes[SHUT_FULL] += answer[LEDGER_CASE] == LEDGER_SHUT && before[LEDGER_ATTEMPTS] < before[LEDGER_FOUNDED_ATTEMPTS] && before[LEDGER_REMAINING] > 0;
+    shapes[TIP_KEPT] += answer[LEDGER_CASE] == LEDGER_SUBSUMED && c->source == LEDGER_SOURCE_FOUNDED &&
+                        slot_at(c->lent[SLOTS], answer[LEDGER_VALUE])[LEDGER_SLOT_SOURCE] == LEDGER_SOURCE_TIP;
+}
+
+/* A full tier with no Tip that takes nothing, though neither its account nor the meter is used up. */
+static bool without_place(const struct call *c)
+{
+    const uint64_t *before = c->given[HEAD].at, *now = c->lent[HEAD], *store = c->given[STORE_HEAD].at;
+    bool whole = now[LEDGER_MARKED] != 0 && now[LEDGER_MARK_NUMBER] == store[LEDGER_NUMBER] && now[LEDGER_MARK_BORN] == store[LEDGER_BORN];
+    return before[LEDGER_ROWS] == before[LEDGER_TIER_ROWS] && tips(before) == 0 && at_floor(before) && !whole &&
+           now[LEDGER_BORN] == before[LEDGER_BORN] && now[LEDGER_SHARING] > 0 && c->lent[ANSWER][LEDGER_CASE] == LEDGER_DONE;
+}
+
+static void transferred_tips(const struct call *c)
+{
+    int head = c->operation == SEED ? HEAD : STORE_HEAD;
+    bool more = tips(c->lent[head]) > tips(c->given[head].at);
+    shapes[TIP_SEEDED] += c->operation == SEED && more;
+    shapes[TIP_DELIVERED] += c->operation == DELIVER && more;
+    shapes[NO_PLACE] += c->operation == SEED && without_place(c);
+}
+
+/* By 3: sources, or the count of them, may be all that is wrong with the ledger; then it is a ledger with others. */
+static void refused_sources(const struct call *c)
+{
+    static struct words head, slots;
+    bool third = false, unused = false;
+    words_copy(&head, &c->given[HEAD]);
+    words_copy(&slots, &c->given[SLOTS]);
+    if (head.at[LEDGER_ROWS] > head.at[LEDGER_TIER_ROWS] || contents_fit(head.at, slots.at, c->given[POSTINGS].at))
+        return;
+    head.at[LEDGER_FOUNDED] = 0;
+    for (uint64_t p = 0; p < head.at[LEDGER_TIER_ROWS]; p++) {
+        uint64_t *source = slots.at + p * LEDGER_SLOT_WORDS + LEDGER_SLOT_SOURCE;
+        bool used = p < head.at[LEDGER_ROWS];
+        third = third || (used && *source > LEDGER_SOURCE_TIP);
+        unused = unused || (!used && *source != 0);
+        *source = used && *source == LEDGER_SOURCE_TIP ? LEDGER_SOURCE_TIP : LEDGER_SOURCE_FOUNDED;
+        head.at[LEDGER_FOUNDED] += used && *source == LEDGER_SOURCE_FOUNDED;
+    }
+    if (contents_fit(head.at, slots.at, c->given[POSTINGS].at))
+        shapes[third ? THIRD_SOURCE : unused ? UNUSED_SOURCE : OTHER_COUNT]++;
 }
 
 /* ---- Shapes of many atoms */
@@ -162,6 +250,9 @@ void occurred(const struct call *c, uint64_t result)
     results[c->operation][result]++;
     if (result != 0) {
         refused_far(c, result);
+        if (result == 3)
+            refused_sources(c);
+        shapes[LOW_SOURCE] += result == 11 && c->source % (UINT64_C(1) << 32) <= LEDGER_SOURCE_TIP;
         return;
     }
     accepted_far(c);
@@ -170,15 +261,17 @@ void occurred(const struct call *c, uint64_t result)
     shapes[LOADED] += c->operation == NEXT_OUTPUT && (c->lent[CURSOR][LEDGER_PRESENT] | c->lent[CURSOR][LEDGER_ABSENT]) != 0;
     shapes[PAST_LIMIT] += operations[c->operation].lends & BIT(METER) && c->given[METER].at[LEDGER_CHARGED] > c->given[METER].at[LEDGER_LIMIT];
     if (c->operation == OFFER)
-        received(c, HEAD);
+        offered(c);
     if (c->operation == CANDIDATES)
         searched(c);
     if (c->operation == DEDUCE)
         required(c);
     if (c->operation == CLOSE)
         closed(c);
-    if (c->operation == SEED || c->operation == DELIVER)
+    if (c->operation == SEED || c->operation == DELIVER) {
         transferred(c);
+        transferred_tips(c);
+    }
 }
 
 static uint64_t show(const char *name, const char *what, const uint64_t *counts, int length, unsigned must)
@@ -209,9 +302,12 @@ static uint64_t show_shapes(void)
 uint64_t show_occurred(void)
 {
     uint64_t missing = 0;
-    printf("%-21s %8d %8d %8d %8d %8d %8d %8d %8d %8d\n", "", 0, 1, 2, 3, 4, 5, 6, 7, 8);
+    printf("%-21s", "");
+    for (int i = 0; i < RESULTS; i++)
+        printf(" %8d", i);
+    puts("");
     for (int o = 0; o < OPERATIONS; o++) {
-        missing += show(operations[o].name, "results", results[o], 9, operations[o].refusals | BIT(0));
+        missing += show(operations[o].name, "results", results[o], RESULTS, operations[o].refusals | BIT(0));
         missing += show("", "cases", cases[o], 6, operations[o].cases);
     }
     missing += show_shapes();

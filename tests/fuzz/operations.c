@@ -33,7 +33,8 @@ static uint64_t decide(const struct call *c)
 
 static uint64_t offer(const struct call *c)
 {
-    return ledger_offer(c->lent[HEAD], c->lent[ANSWER], c->lent[METER], SLICE(SLOTS), SLICE(POSTINGS), SLICE(CONDITIONS), SLICE(OUTPUTS));
+    return ledger_offer(c->lent[HEAD], c->lent[ANSWER], c->lent[METER], SLICE(SLOTS), SLICE(POSTINGS), SLICE(CONDITIONS), SLICE(OUTPUTS),
+                        c->source);
 }
 
 static uint64_t candidates(const struct call *c)
@@ -74,7 +75,7 @@ const struct operation operations[OPERATIONS] = {
     [NEXT_OUTPUT] = {"next_output", LEDGER | REGION | WORK | BIT(CURSOR), WORK | BIT(CURSOR), ACCEPTED | BIT(5) | BIT(6) | BIT(8),
                      BIT(0) | BIT(1) | BIT(2), BIT(1), 0, next_output},
     [DECIDE] = {"decide", REGION | BIT(ANSWER), REGION | BIT(ANSWER), BIT(6), BIT(0) | BIT(1), 0, 0, decide},
-    [OFFER] = {"offer", LEDGER | WORK | BIT(CONDITIONS) | BIT(OUTPUTS), LEDGER | WORK, ACCEPTED | BIT(4),
+    [OFFER] = {"offer", LEDGER | WORK | BIT(CONDITIONS) | BIT(OUTPUTS), LEDGER | WORK, ACCEPTED | BIT(4) | BIT(11),
                BIT(1) | BIT(2) | BIT(3) | BIT(4) | BIT(5), BIT(4) | BIT(5), 0, offer},
     [CANDIDATES] = {"candidates", LEDGER | WORK | BIT(ATOMS) | BIT(FOUND), BIT(HEAD) | BIT(POSTINGS) | WORK | BIT(FOUND), ACCEPTED,
                     BIT(0) | BIT(2), BIT(0), 0, candidates},

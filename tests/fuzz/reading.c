@@ -1,9 +1,10 @@
-/* Document 01 as this test reads it: the records, and which refusal a call is owed. No code of the library is called here. */
+/* The documents as this test reads them: the records of 01 with 02's sources, which refusal a call is owed, when a ledger is shut, and which
+ * row it gives up. No code of the library is called here. */
 #include "fuzz.h"
 #include <stdlib.h>
 #include <string.h>
 
-enum { CONDITION_COUNT, OUTPUT_COUNT, TOTAL_GROUPS, CONDITION_GROUPS, HITS, UNSHARED, BORN, DELIVERED, BODY };
+enum { CONDITION_COUNT, OUTPUT_COUNT, TOTAL_GROUPS, CONDITION_GROUPS, HITS, UNSHARED, BORN, DELIVERED, BODY, SOURCE = 168 };
 
 /* ---- Rows and slots */
 
@@ -37,7 +38,7 @@ void row_write(const struct row *row, uint64_t *slot)
 {
     struct group groups[MOST_CONDITIONS + MOST_OUTPUTS];
     size_t first, total = all_groups(row, groups, &first);
-    memset(slot + BODY, 0, (LEDGER_SLOT_WORDS - BODY) * sizeof(uint64_t));
+    memset(slot + BODY, 0, (SOURCE - BODY) * sizeof(uint64_t));
     slot[CONDITION_COUNT] = row->conditions;
     slot[OUTPUT_COUNT] = row->outputs;
     if (row_packed(row)) {
@@ -69,7 +70,7 @@ static bool ungroup(const uint64_t *words, size_t count, uint64_t *codes, size_t
     return true;
 }
 
-/* The row whose 168 words these are; false if they are no row's. Its atoms are not tested here, nor the order of its literals. */
+/* The row whose slot these words are; false if they are no row's. Its atoms are not tested here, nor the order of its literals. */
 bool row_read(const uint64_t *slot, struct row *row)
 {
     uint64_t again[LEDGER_SLOT_WORDS], total = slot[TOTAL_GROUPS], first = slot[CONDITION_GROUPS];
@@ -86,7 +87,7 @@ bool row_read(const uint64_t *slot, struct row *row)
     }
     memcpy(again, slot, sizeof again);
     row_write(row, again);
-    return slot[DELIVERED] <= 1 && memcmp(again, slot, sizeof again) == 0;
+    return slot[DELIVERED] <= 1 && slot[SOURCE] <= 1 && memcmp(again, slot, sizeof again) == 0;
 }
 
 /* Codes below 2 * atoms, strictly ascending after division by `unit`: 2 for conditions (atoms ascend), 1 for outputs. */
@@ -155,14 +156,17 @@ static bool slot_fits(const uint64_t *head, const uint64_t *slot)
     return row_read(slot, &row) && row_over(&row, head[LEDGER_ATOMS]) && slot[BORN] >= 1 && slot[BORN] <= head[LEDGER_BORN];
 }
 
-/* The slots up to `rows` are rows, the others zero. */
+/* The slots up to `rows` are rows, as many of them Founded as the header counts; the others are zero. */
 static bool slots_fit(const uint64_t *head, const uint64_t *slots)
 {
     static const uint64_t none[LEDGER_SLOT_WORDS];
-    for (uint64_t p = 0; p < head[LEDGER_TIER_ROWS]; p++, slots += LEDGER_SLOT_WORDS)
+    uint64_t founded = 0;
+    for (uint64_t p = 0; p < head[LEDGER_TIER_ROWS]; p++, slots += LEDGER_SLOT_WORDS) {
         if (p < head[LEDGER_ROWS] ? !slot_fits(head, slots) : memcmp(slots, none, sizeof none) != 0)
             return false;
-    return true;
+        founded += p < head[LEDGER_ROWS] && slots[SOURCE] == LEDGER_SOURCE_FOUNDED;
+    }
+    return founded == head[LEDGER_FOUNDED];
 }
 
 /* Limits and lengths are fit. */
@@ -234,7 +238,7 @@ static bool others_fit(const struct call *c)
     return true;
 }
 
-/* 4 to 8, of a call whose ledger is accepted. */
+/* 4 to 11, of a call whose ledger is accepted. */
 static uint64_t later_refusal(const struct call *c)
 {
     const uint64_t *head = c->given[HEAD].at;
@@ -242,6 +246,8 @@ static uint64_t later_refusal(const struct call *c)
     struct row row;
     if (can & BIT(4) && !offer_fits(c))
         return 4;
+    if (can & BIT(11) && c->source != LEDGER_SOURCE_FOUNDED && c->source != LEDGER_SOURCE_TIP)
+        return 11;
     if (can & BIT(5) && c->position >= head[LEDGER_ROWS])
         return 5;
     if (can & BIT(6) && !region_fits(head[LEDGER_ATOMS], &c->given[HELD], &c->given[CUT]))
@@ -268,4 +274,30 @@ uint64_t refusal_of(const struct call *c)
     if (refusal == 0 && operations[c->operation].refusals & BIT(7))
         refusal = store_refusal(c);
     return refusal ? refusal : later_refusal(c);
+}
+
+/* ---- Retention: document 02, Eight */
+
+/* The floor protects the Founded rows: only a Tip may be evicted. */
+static bool protects(const uint64_t *head) { return head[LEDGER_FOUNDED] <= head[LEDGER_FOUNDED_FLOOR]; }
+
+/* Attempts or reads are used up, or it is full, with no Tip and no Founded row that may go. */
+bool shuts(const uint64_t *head)
+{
+    bool full = head[LEDGER_ROWS] >= head[LEDGER_TIER_ROWS], tips = head[LEDGER_FOUNDED] < head[LEDGER_ROWS];
+    return head[LEDGER_ATTEMPTS] >= head[LEDGER_FOUNDED_ATTEMPTS] || head[LEDGER_REMAINING] == 0 || (full && !tips && protects(head));
+}
+
+/* The fewest hits, then the oldest, then the first; among the Tips where the floor protects the others. */
+uint64_t victim_of(const uint64_t *head, const uint64_t *slots)
+{
+    const uint64_t *least = NULL;
+    for (uint64_t p = 0; p < head[LEDGER_ROWS]; p++) {
+        const uint64_t *slot = slots + p * LEDGER_SLOT_WORDS;
+        if (protects(head) && slot[SOURCE] == LEDGER_SOURCE_FOUNDED)
+            continue;
+        if (least == NULL || slot[HITS] < least[HITS] || (slot[HITS] == least[HITS] && slot[BORN] < least[BORN]))
+            least = slot;
+    }
+    return least == NULL ? head[LEDGER_ROWS] : (uint64_t)(least - slots) / LEDGER_SLOT_WORDS;
 }

@@ -44,7 +44,7 @@ uint64_t pick(const uint64_t *list, size_t length) { return list[below(length)];
 
 uint64_t edge(void)
 {
-    uint64_t end = PICK(0, 1, 2, 3, 16, 53, 64, 80, 168, 512, MOST_ROWS, HALF, SPAN, MOST_ATOMS / 64, MOST_ATOMS, 2 * MOST_ATOMS,
+    uint64_t end = PICK(0, 1, 2, 3, 16, 53, 64, 80, 169, 512, MOST_ROWS, HALF, SPAN, MOST_ATOMS / 64, MOST_ATOMS, 2 * MOST_ATOMS,
                         UINT64_C(4096) * MOST_ATOMS, UINT64_C(1) << 52, UINT64_C(1) << 61, UINT64_C(1) << 63, UINT64_MAX);
     switch (below(5)) {
     case 0: return end - 1;

@@ -4,7 +4,7 @@ use oracle::ledger::make;
 use oracle::{Answer, Header, Ledger, Limits, Record, Row};
 
 use crate::call::Meter;
-use crate::layout::{POSTINGS, SLOT, head_words, postings, slot};
+use crate::layout::{HEAD, POSTINGS, SLOT, head_words, postings, slot};
 
 /// The greatest word.
 pub const MOST: u64 = u64::MAX;
@@ -63,6 +63,8 @@ pub fn header(number: u64, born: u64) -> Header {
         stale: false,
         full: false,
         mark: None,
+        // Counted from the rows.
+        founded: 0,
     }
 }
 
@@ -72,9 +74,10 @@ pub struct Entry {
     pub conditions: Vec<u64>,
     pub outputs: Vec<u64>,
     pub record: Record,
+    pub source: u64,
 }
 
-/// A row by its codes, and its hits, unshared, born and delivered.
+/// A Founded row by its codes, and its hits, unshared, born and delivered.
 pub fn entry(conditions: &[u64], outputs: &[u64], counts: (u64, u64, u64, bool)) -> Entry {
     let (hits, unshared, born, delivered) = counts;
     Entry {
@@ -86,6 +89,15 @@ pub fn entry(conditions: &[u64], outputs: &[u64], counts: (u64, u64, u64, bool))
             born,
             delivered,
         },
+        source: 0,
+    }
+}
+
+/// The same as a Tip.
+pub fn tip(conditions: &[u64], outputs: &[u64], counts: (u64, u64, u64, bool)) -> Entry {
+    Entry {
+        source: 1,
+        ..entry(conditions, outputs, counts)
     }
 }
 
@@ -109,7 +121,7 @@ impl Given {
     pub fn book(&self) -> Book {
         let mut ledger = make(self.limits, self.header.number).expect("limits in their ranges");
         for (position, row) in self.rows.iter().enumerate() {
-            let end = ledger.offer(&row.conditions, &row.outputs, MOST);
+            let end = ledger.offer(&row.conditions, &row.outputs, row.source, MOST);
             assert_eq!(end.answer, Answer::Added(position as u64));
         }
         for (position, row) in self.rows.iter().enumerate() {
@@ -165,7 +177,7 @@ impl Book {
     }
 
     /// The words of the header.
-    pub fn head(&self) -> [u64; 25] {
+    pub fn head(&self) -> [u64; HEAD] {
         head_words(&self.ledger.limits(), &self.header())
     }
 

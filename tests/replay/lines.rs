@@ -8,11 +8,18 @@ use crate::call::Call;
 use crate::end::{End, Scratch, USED, lengths};
 use crate::generate::Ledgers;
 use crate::given::Book;
-use crate::layout::limit_words;
+use crate::layout::{HEAD, POSTINGS, SLOT, limit_words};
 use crate::rust;
 
 /// The room that the program has for slots, for postings, and for each of the four other slices.
-const ROOM: [usize; 6] = [67 * 168, 67 * 80, 1_008, 1_008, 1_008, 1_008];
+const ROOM: [usize; 6] = [
+    67 * SLOT,
+    67 * POSTINGS,
+    6 * SLOT,
+    6 * SLOT,
+    6 * SLOT,
+    6 * SLOT,
+];
 /// What stands for a word that was used before: it is short.
 const FILL: u64 = 4;
 
@@ -56,20 +63,20 @@ pub struct Books {
 }
 
 /// The words of a ledger: header, slots, postings.
-type Words = ([u64; 25], Vec<u64>, Vec<u64>);
+type Words = ([u64; HEAD], Vec<u64>, Vec<u64>);
 
 impl Books {
     /// The ledger itself. A Make has a used one, in which the limits stand; a Decide the number of atoms alone.
     fn first(&self, call: &Call, made: bool) -> Words {
         match call {
             Call::Make { limits, .. } if !made => {
-                let mut head = [USED; 25];
+                let mut head = [USED; HEAD];
                 head[..10].copy_from_slice(&limit_words(limits));
                 let (slots, postings) = lengths(limits.tier_rows);
                 (head, vec![USED; slots], vec![USED; postings])
             }
             Call::Decide { atoms, .. } => {
-                let mut head = [0; 25];
+                let mut head = [0; HEAD];
                 head[0] = *atoms;
                 (head, Vec::new(), Vec::new())
             }
@@ -83,6 +90,7 @@ impl Books {
         let (store, store_slots, store_postings) = words(self.store.as_ref());
         let given = match call {
             Call::Make { number, .. } => [*number, 0, 0],
+            Call::Offer { source, .. } => [*source, 0, 0],
             Call::Hit { position, .. }
             | Call::Deduce { position, .. }
             | Call::Next { position, .. } => [*position, 0, 0],
@@ -125,7 +133,7 @@ impl Books {
 
 fn words(book: Option<&Book>) -> Words {
     match book {
-        None => ([0; 25], Vec::new(), Vec::new()),
+        None => ([0; HEAD], Vec::new(), Vec::new()),
         Some(book) => (book.head(), book.slots(), book.postings()),
     }
 }

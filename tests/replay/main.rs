@@ -15,6 +15,7 @@ mod saturation;
 mod scripts;
 mod searches;
 mod sweeps;
+mod tips;
 
 use lines::Lines;
 use recorded::{call, end, far, generate, layout, parts, random, rust};
@@ -26,6 +27,8 @@ fn main() {
     saturation::write(&mut lines);
     distant::write(&mut lines);
     scripts::write(&mut lines);
+    tips::write(&mut lines);
+    scripts::write_tips(&mut lines);
     match std::env::args().nth(1).as_deref() {
         Some("stdin") => print!("{}", lines.calls),
         Some("stdout") => print!("{}", lines.ends),

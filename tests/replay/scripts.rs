@@ -7,8 +7,9 @@ use crate::lines::{Books, Lines, kind};
 use crate::random::Random;
 use crate::rust;
 
-/// Of each answer of each operation so many calls are kept.
+/// Of each answer of each operation so many calls are kept, and of those in scripts with Tips.
 const EACH: u64 = 5;
+const EACH_WITH_TIPS: u64 = 2;
 /// The scripts that are looked at for them.
 const SCRIPTS: u64 = 400;
 
@@ -48,24 +49,29 @@ fn books(call: &Call, ledgers: &Ledgers) -> Books {
     }
 }
 
-pub fn write(lines: &mut Lines) {
+/// Scripts by these authors, of which the calls are kept that `wanted` says.
+fn write_by(
+    lines: &mut Lines,
+    name: &str,
+    mut author: impl FnMut() -> Author,
+    (each, wanted): (u64, fn(&Call) -> bool),
+) {
     let mut kept = Lines::default();
-    let mut random = Random(1);
     for script in 0..SCRIPTS {
-        let mut author = Author::new(Random(random.word()), Kind::Tiny, false);
+        let mut author = author();
         let mut ledgers = Ledgers::default();
         for number in 0..author.length() {
             let call = author.call(&ledgers);
-            if call.operation().is_some() {
+            if call.operation().is_some() && wanted(&call) {
                 let mut books = books(&call, &ledgers);
                 let answer = Lines::dry(&placed(&call), &mut books.clone()).answer;
                 if kept
                     .counts
                     .get(&kind(&call, answer))
-                    .is_none_or(|&count| count < EACH)
+                    .is_none_or(|&count| count < each)
                 {
                     kept.call(
-                        &format!("script={script}:{number}"),
+                        &format!("{name}={script}:{number}"),
                         &placed(&call),
                         &mut books,
                     );
@@ -75,4 +81,21 @@ pub fn write(lines: &mut Lines) {
         }
     }
     lines.join(kept);
+}
+
+pub fn write(lines: &mut Lines) {
+    let mut random = Random(1);
+    let author = || Author::new(Random(random.word()), Kind::Tiny, false);
+    write_by(lines, "script", author, (EACH, |_| true));
+}
+
+/// The calls that bring rows, in scripts with Tips.
+pub fn write_tips(lines: &mut Lines) {
+    let mut random = Random(2);
+    let author = || {
+        let author = Author::new(Random(random.word()), Kind::Tiny, false);
+        author.with_tips(Random(random.word()))
+    };
+    let wanted: fn(&Call) -> bool = |call| call.receiver().is_some();
+    write_by(lines, "tips", author, (EACH_WITH_TIPS, wanted));
 }

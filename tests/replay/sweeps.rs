@@ -26,11 +26,17 @@ pub fn pair(tier: &Given, store: &Given) -> Books {
 }
 
 pub fn offer(row: Codes<'_>, meter: Meter) -> Call {
+    offer_from(row, 0, meter)
+}
+
+/// An offer of a source: 0 for Founded, 1 for a Tip.
+pub fn offer_from(row: Codes<'_>, source: u64, meter: Meter) -> Call {
     Call::Offer {
         place: 0,
         meter,
         conditions: row.0.to_vec(),
         outputs: row.1.to_vec(),
+        source,
     }
 }
 

@@ -207,13 +207,19 @@ impl Writer {
         });
     }
 
-    /// An offer to ledger 0.
+    /// An offer of a Founded row to ledger 0.
     pub fn offer(&mut self, conditions: &[u64], outputs: &[u64], limit: u64) {
+        self.offer_from(conditions, outputs, 0, limit);
+    }
+
+    /// An offer to ledger 0 of a source.
+    pub fn offer_from(&mut self, conditions: &[u64], outputs: &[u64], source: u64, limit: u64) {
         self.call(&Call::Offer {
             place: 0,
             meter: Meter::fresh(limit),
             conditions: conditions.to_vec(),
             outputs: outputs.to_vec(),
+            source,
         });
     }
 

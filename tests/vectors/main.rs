@@ -1,5 +1,5 @@
-//! Writes the script of recorded vectors: document 01's bench cards, lines that are no calls, closings stopped at every limit, and
-//! random calls. What is written goes by the oracle's ledgers, so that every answer comes up.
+//! Writes the script of recorded vectors: document 01's bench cards and those of 02's Eight, lines that are no calls, closings stopped at
+//! every limit, and random calls. What is written goes by the oracle's ledgers, so that every answer comes up.
 //!
 //!     vectors [PARTS [SEED]]
 
@@ -8,6 +8,7 @@ mod closings;
 #[allow(dead_code)]
 mod recorded;
 mod stops;
+mod tips;
 mod tunnel;
 
 use std::fmt::Display;
@@ -19,6 +20,8 @@ use recorded::{call, end, far, generate, layout, parts, random, rust};
 
 /// The bench cards, as tests/oracle/check runs them.
 const CARDS: &str = include_str!("../oracle/cards.script");
+/// The cards of rows of both sources, as tests/oracle/check runs them.
+const TIPS: &str = include_str!("../oracle/tips.script");
 /// Lines that are no calls, with a few that are.
 const LINES: &str = include_str!("lines.script");
 
@@ -71,8 +74,7 @@ fn sweep(writer: &mut Writer, call: &Call) {
 }
 
 /// A random part.
-fn part(writer: &mut Writer, random: Random, kind: Kind) {
-    let mut author = Author::new(random, kind, true);
+fn part(writer: &mut Writer, mut author: Author) {
     let mut left = author.length();
     while left > 0 {
         let opens = author.opens(&writer.ledgers);
@@ -102,6 +104,8 @@ fn main() {
     stops::write(&mut writer);
     closings::write(&mut writer);
     tunnel::write(&mut writer);
+    writer.line(format_args!("\n{}", TIPS.trim_end()));
+    tips::write(&mut writer);
     for number in 1..=parts {
         // Two parts have rows enough for postings.
         let kind = if number % (parts / 2).max(1) == 0 {
@@ -110,6 +114,11 @@ fn main() {
             Kind::Tiny
         };
         writer.line(format_args!("\n# Random part {number}."));
-        part(&mut writer, Random(random.word()), kind);
+        part(&mut writer, Author::new(Random(random.word()), kind, true));
+    }
+    for number in 1..=parts / 3 {
+        writer.line(format_args!("\n# Random part {number} with Tips."));
+        let author = Author::new(Random(random.word()), Kind::Tiny, true);
+        part(&mut writer, author.with_tips(Random(random.word())));
     }
 }

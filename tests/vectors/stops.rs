@@ -26,7 +26,7 @@ const OFFERS: [(u64, Rows<'_>); 5] = [
 /// What the last of the offers ticks, if nothing stops it and no account ends.
 fn charge(limits: Limits, rows: Rows<'_>) -> u64 {
     let mut ledger = oracle::ledger::make(limits, 1).expect("limits in their ranges");
-    let ends = rows.iter().map(|row| ledger.offer(row.0, row.1, AMPLE));
+    let ends = rows.iter().map(|row| ledger.offer(row.0, row.1, 0, AMPLE));
     ends.last().map_or(0, |done| done.charge)
 }
 

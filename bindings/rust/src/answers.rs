@@ -29,6 +29,7 @@ impl fmt::Display for Refusal {
             6 => "no region over the atoms",
             7 => "tier and store over different numbers of atoms",
             8 => "a cursor that is not of this row",
+            11 => "a source that is neither Founded nor Tip",
             _ => "no refusal",
         };
         write!(f, "refused by {}: {reason}", self.0)
@@ -58,7 +59,8 @@ impl<T> Charged<T> {
 /// The answer to an offered row.
 #[derive(Clone, Copy, Debug, PartialEq, Eq)]
 pub enum Offer {
-    /// The ledger takes no offers: its attempts or reads are used up, or it is full of rows under protection.
+    /// The ledger takes no offers: its attempts or reads are used up, or it is full, has no Tip, and no more Founded rows than
+    /// the floor protects.
     Shut,
     /// The meter is at its limit.
     Stopped,

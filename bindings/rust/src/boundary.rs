@@ -6,15 +6,15 @@
 compile_error!("the static library of the ledger is made for x86-64");
 
 pub const LIMITS_WORDS: usize = 10;
-pub const HEADER_WORDS: usize = 25;
+pub const HEADER_WORDS: usize = 26;
 pub const ANSWER_WORDS: usize = 4;
 pub const METER_WORDS: usize = 2;
 pub const CURSOR_WORDS: usize = 4;
-pub const SLOT_WORDS: usize = 168;
+pub const SLOT_WORDS: usize = 169;
 pub const POSTING_WORDS: usize = 80;
 
 /// The words of a header: the limits, number, rows, born, epoch, attempts, remaining, sharing, evicted, deliveries, seeded,
-/// stale, full, and the three of the mark.
+/// stale, full, the three of the mark, and founded.
 pub type Header = [u64; HEADER_WORDS];
 /// The limits in the header's order.
 pub type Limits = [u64; LIMITS_WORDS];
@@ -137,6 +137,7 @@ unsafe extern "C" {
         conditions_len: usize,
         outputs: *const u64,
         outputs_len: usize,
+        source: u64,
     ) -> u64;
 
     pub fn ledger_candidates(

@@ -49,6 +49,32 @@ pub struct Mark {
     pub born: u64,
 }
 
+/// Who a row is from. The floor protects Founded rows, and no Tips.
+#[derive(Clone, Copy, Debug, PartialEq, Eq, Hash)]
+pub enum Source {
+    /// A house rule.
+    Founded,
+    /// A chef's tip.
+    Tip,
+}
+
+impl Source {
+    const fn word(self) -> u64 {
+        match self {
+            Source::Founded => 0,
+            Source::Tip => 1,
+        }
+    }
+
+    /// Of a word in an accepted slot: there is no third.
+    const fn of(word: u64) -> Source {
+        match word {
+            0 => Source::Founded,
+            _ => Source::Tip,
+        }
+    }
+}
+
 /// A ledger with its words: the header, the slots and the postings, and two buffers that a closing works in.
 ///
 /// The words are always a ledger's: they come from [`Ledger::make`] or were tested by [`Ledger::from_words`], and nothing but
@@ -105,7 +131,7 @@ impl Ledger {
         }
     }
 
-    /// Offers a row: conditions and outputs by ascending codes. Refused by 4 if they are no row, or larger than
+    /// Offers a Founded row: conditions and outputs by ascending codes. Refused by 4 if they are no row, or larger than
     /// founded_conditions and founded_outputs.
     pub fn offer(
         &mut self,
@@ -113,11 +139,23 @@ impl Ledger {
         conditions: &[Literal],
         outputs: &[Literal],
     ) -> Result<Charged<Offer>, Refusal> {
+        self.offer_as(meter, conditions, outputs, Source::Founded)
+    }
+
+    /// As [`Ledger::offer`], of a row from either source. What is added has this source, also if it was joined with a row of the
+    /// other, or took its place; a row that says as much already keeps its own.
+    pub fn offer_as(
+        &mut self,
+        meter: &mut Meter,
+        conditions: &[Literal],
+        outputs: &[Literal],
+        source: Source,
+    ) -> Result<Charged<Offer>, Refusal> {
         let (conditions, outputs) = (codes(conditions), codes(outputs));
         let answer = answered(|answer| {
             call!(ledger_offer(
                 &mut self.header, answer, &mut meter.words, [mut self.slots], [mut self.postings],
-                [conditions], [outputs]
+                [conditions], [outputs], source.word()
             ))
         })?;
         Ok(Charged::new(Offer::of(answer), answer))
@@ -228,8 +266,8 @@ impl Ledger {
         Ok(Charged::new(Closed::of(answer), answer))
     }
 
-    /// This ledger, the tier, takes the rows of a store, paid from its own sharing account. Rows up to its seed mark are passed
-    /// over. Refused by 7 for ledgers over different numbers of atoms.
+    /// This ledger, the tier, takes the rows of a store, each with its source, paid from its own sharing account. Rows up to its
+    /// seed mark are passed over. Refused by 7 for ledgers over different numbers of atoms.
     pub fn seed(
         &mut self,
         store: &mut Ledger,
@@ -244,8 +282,8 @@ impl Ledger {
         Ok(Charged::new(Transfer::of(answer), answer))
     }
 
-    /// A store takes the rows of this ledger, the tier, paid from the tier's sharing account. Rows without news, and wide ones
-    /// with few hits, are passed over. Refused by 7 for ledgers over different numbers of atoms.
+    /// A store takes the rows of this ledger, the tier, each with its source, paid from the tier's sharing account. Rows without
+    /// news, and wide ones with few hits, are passed over. Refused by 7 for ledgers over different numbers of atoms.
     pub fn deliver(
         &mut self,
         store: &mut Ledger,
@@ -277,6 +315,17 @@ impl Ledger {
     /// How many rows there are.
     pub fn rows(&self) -> usize {
         self.header[11] as usize
+    }
+
+    /// How many of them are Founded; the others are Tips.
+    pub fn founded(&self) -> usize {
+        self.header[25] as usize
+    }
+
+    /// The source of the row at a position; none if there is no row.
+    pub fn source(&self, position: usize) -> Option<Source> {
+        let mut rows = self.slots.chunks_exact(SLOT_WORDS).take(self.rows());
+        rows.nth(position).map(|slot| Source::of(slot[168]))
     }
 
     /// How many rows were ever added.
@@ -325,7 +374,7 @@ impl Ledger {
         &self.header
     }
 
-    /// The words of the slots, 168 a row.
+    /// The words of the slots, 169 a row.
     pub fn slots(&self) -> &[u64] {
         &self.slots
     }

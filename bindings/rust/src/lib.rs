@@ -22,6 +22,6 @@ mod region;
 pub use answers::{
     Candidates, Charged, Closed, Closing, Deduction, NextOutput, Offer, Refusal, Transfer,
 };
-pub use ledger::{Cursor, Ledger, Mark, Meter};
+pub use ledger::{Cursor, Ledger, Mark, Meter, Source};
 pub use limits::LearningLimits;
 pub use region::{Literal, Region};

@@ -16,7 +16,7 @@ pub struct LearningLimits {
     pub founded_conditions: u64,
     /// The most outputs of an offered row, and of rows that are joined: 0 to 64.
     pub founded_outputs: u64,
-    /// With no more rows than these none is evicted.
+    /// With no more Founded rows than these only Tips are evicted.
     pub founded_floor: u64,
     /// How many rows may be offered.
     pub founded_attempts: u64,

@@ -1,9 +1,11 @@
-//! Every method through the linked library. The figures are document 01's bench cards, or counted by hand from its modules.
+//! Every method through the linked library. The figures are document 01's bench cards, or counted by hand from its modules and from
+//! document 02.
 //! That the functions meet their definitions is proved; what is tried here is that the wrapper lends the right words.
 
+use Source::{Founded, Tip};
 use ledger::{
     Candidates, Charged, Closed, Closing, Cursor, Deduction, LearningLimits, Ledger, Literal, Mark,
-    Meter, NextOutput, Offer, Refusal, Region, Transfer,
+    Meter, NextOutput, Offer, Refusal, Region, Source, Transfer,
 };
 
 fn codes<const N: usize>(codes: [u32; N]) -> [Literal; N] {
@@ -111,6 +113,7 @@ fn a_ledger_is_made_empty_or_refused() {
         ),
         (9, 0, 0, 0, 0)
     );
+    assert_eq!((ledger.founded(), ledger.source(0)), (0, None));
     assert_eq!(
         (
             ledger.remaining(),
@@ -128,7 +131,7 @@ fn a_ledger_is_made_empty_or_refused() {
             .chain(ledger.postings())
             .all(|&word| word == 0)
     );
-    assert_eq!((ledger.slots().len(), ledger.postings().len()), (336, 160));
+    assert_eq!((ledger.slots().len(), ledger.postings().len()), (338, 160));
     for rows in [0, 4097, u64::MAX] {
         assert_eq!(Ledger::make(&limits(rows), 9).err(), Some(Refusal(1)));
     }
@@ -253,8 +256,8 @@ fn hits_are_counted_in_the_row_named() {
     assert_eq!(
         (
             ledger.slots()[4],
-            ledger.slots()[168 + 4],
-            ledger.slots()[168 + 5]
+            ledger.slots()[169 + 4],
+            ledger.slots()[169 + 5]
         ),
         (0, 1, 1)
     );
@@ -651,4 +654,349 @@ fn literals_and_refusals_say_what_they_are() {
         Refusal(7).to_string(),
         "refused by 7: tier and store over different numbers of atoms"
     );
+    assert_eq!(
+        Refusal(11).to_string(),
+        "refused by 11: a source that is neither Founded nor Tip"
+    );
+}
+
+// ---- Sources: document 02, Eight
+
+/// A row by its source: conditions → outputs.
+type Rule<'a> = (Source, &'a [u32], &'a [u32]);
+
+/// Offers a row to a ledger that has reads enough.
+fn offer(ledger: &mut Ledger, (source, conditions, outputs): Rule) -> Offer {
+    let literals = |codes: &[u32]| codes.iter().copied().map(Literal::from_code).collect();
+    let (conditions, outputs): (Vec<_>, Vec<_>) = (literals(conditions), literals(outputs));
+    let offered = ledger.offer_as(&mut Meter::new(1000), &conditions, &outputs, source);
+    offered.unwrap().answer
+}
+
+/// A ledger over 128 atoms with room for so many rows and so many protected, to which these were offered and added.
+fn added(tier_rows: u64, founded_floor: u64, rules: &[Rule]) -> Ledger {
+    let limits = LearningLimits {
+        founded_floor,
+        ..limits(tier_rows)
+    };
+    let mut ledger = Ledger::make(&limits, 9).unwrap();
+    for &rule in rules {
+        assert!(matches!(offer(&mut ledger, rule), Offer::Added(_)));
+    }
+    ledger
+}
+
+/// The sources in their order, with as many Founded ones as the header counts.
+fn sources(ledger: &Ledger) -> Vec<Source> {
+    let sources: Vec<Source> = (0..).map_while(|row| ledger.source(row)).collect();
+    let founded = sources.iter().filter(|&&source| source == Founded).count();
+    assert_eq!(
+        (sources.len(), founded),
+        (ledger.rows(), ledger.founded()),
+        "{sources:?}"
+    );
+    sources
+}
+
+#[test]
+fn a_row_has_the_source_that_it_was_offered_with() {
+    let rows: [Rule; 3] = [
+        (Tip, &[7], &[140]),
+        (Founded, &[9], &[142]),
+        (Tip, &[11], &[144]),
+    ];
+    let ledger = added(4, 0, &rows);
+    assert_eq!(sources(&ledger), [Tip, Founded, Tip]);
+    assert_eq!([3, 4, usize::MAX].map(|row| ledger.source(row)), [None; 3]);
+    // The last word of each slot, and of the header.
+    let last: Vec<u64> = ledger.slots().chunks(169).map(|slot| slot[168]).collect();
+    assert_eq!((last, ledger.header()[25]), (vec![1, 0, 1, 0], 1));
+    // `offer` is of house rules.
+    let mut house = added(4, 0, &[]);
+    let offered = house.offer(&mut Meter::new(1000), &codes([7]), &codes([140]));
+    assert_eq!(offered, charged(Offer::Added(0), 2));
+    assert_eq!(sources(&house), [Founded]);
+}
+
+/// No read is paid for a source, and a Tip is an attempt as any row.
+#[test]
+fn a_tip_costs_what_a_founded_row_costs() {
+    let mut ledgers = [Founded, Tip].map(|source| (source, added(2, 0, &[])));
+    for (conditions, outputs, ticks, answer) in [
+        (7, 140, 2, Offer::Added(0)),
+        (7, 140, 3, Offer::Subsumed(0)),
+        (7, 142, 14, Offer::Added(0)),
+    ] {
+        for (source, ledger) in &mut ledgers {
+            let (conditions, outputs) = (codes([conditions]), codes([outputs]));
+            let offered = ledger.offer_as(&mut Meter::new(1000), &conditions, &outputs, *source);
+            assert_eq!(offered, charged(answer, ticks));
+        }
+    }
+    for (_, ledger) in &ledgers {
+        assert_eq!((ledger.attempts(), ledger.remaining()), (3, 131_072 - 19));
+    }
+    let limit = LearningLimits {
+        founded_conditions: 0,
+        ..limits(2)
+    };
+    let mut narrow = Ledger::make(&limit, 9).unwrap();
+    let offered = narrow.offer_as(&mut Meter::new(1000), &codes([7]), &[], Tip);
+    assert_eq!(offered, Err(Refusal(4)));
+}
+
+#[test]
+fn up_to_the_floor_a_tip_is_evicted_and_founded_rows_stay() {
+    let mut ledger = added(2, 1, &[(Founded, &[7], &[140]), (Tip, &[9], &[142])]);
+    // The Founded row has fewer hits and was born first, and stays.
+    ledger.hit(1).unwrap();
+    assert_eq!(offer(&mut ledger, (Tip, &[11], &[144])), Offer::Added(1));
+    assert_eq!(
+        offer(&mut ledger, (Founded, &[13], &[146])),
+        Offer::Added(1)
+    );
+    assert_eq!((sources(&ledger), ledger.evicted()), (vec![Founded; 2], 2));
+    // Two Founded rows are above the floor: now the older one goes, for a Tip too.
+    assert_eq!(offer(&mut ledger, (Tip, &[15], &[148])), Offer::Added(0));
+    assert_eq!(
+        (sources(&ledger), ledger.evicted()),
+        (vec![Tip, Founded], 3)
+    );
+    assert_eq!(offer(&mut ledger, (Tip, &[17], &[150])), Offer::Added(0));
+    assert_eq!(
+        (sources(&ledger), ledger.evicted()),
+        (vec![Tip, Founded], 4)
+    );
+}
+
+#[test]
+fn above_the_floor_hits_alone_choose() {
+    let rows: [Rule; 3] = [
+        (Tip, &[7], &[140]),
+        (Founded, &[9], &[142]),
+        (Founded, &[11], &[144]),
+    ];
+    // Three additions in a tier of three rows have halved the hits already: these stay as they are.
+    for (floor, position) in [(1, 1), (2, 0)] {
+        let mut ledger = added(3, floor, &rows);
+        ledger.hit(0).unwrap();
+        ledger.hit(2).unwrap();
+        assert_eq!(
+            offer(&mut ledger, (Founded, &[13], &[146])),
+            Offer::Added(position)
+        );
+    }
+    // Of Tips the one with the fewest hits, of as many the oldest.
+    let rows: [Rule; 3] = [
+        (Tip, &[7], &[140]),
+        (Tip, &[9], &[142]),
+        (Founded, &[11], &[144]),
+    ];
+    for (hit, position) in [(0, 1), (1, 0), (2, 0)] {
+        let mut ledger = added(3, 1, &rows);
+        ledger.hit(hit).unwrap();
+        assert_eq!(
+            offer(&mut ledger, (Tip, &[13], &[146])),
+            Offer::Added(position)
+        );
+    }
+}
+
+/// For one and two rows in a tier of two, each from either source, and every floor up to one above it.
+#[test]
+fn being_full_shuts_exactly_without_a_tip_and_up_to_the_floor() {
+    let first: Rule = (Founded, &[7], &[140]);
+    for of_first in [Founded, Tip] {
+        for of_second in [None, Some(Founded), Some(Tip)] {
+            for floor in 0..=3 {
+                let mut rows = vec![(of_first, first.1, first.2)];
+                rows.extend(of_second.map(|source| (source, &[9][..], &[142][..])));
+                let founded = rows.iter().filter(|row| row.0 == Founded).count();
+                let shut = rows.len() == 2 && founded == rows.len() && founded as u64 <= floor;
+                // New, to be joined, and one that says nothing new: Shut comes before all of them.
+                for (output, source) in [(144, Founded), (144, Tip), (140, Founded), (140, Tip)] {
+                    for condition in [7, 11] {
+                        let mut ledger = added(2, floor, &rows);
+                        let before = ledger.clone();
+                        let answer = offer(&mut ledger, (source, &[condition], &[output]));
+                        assert_eq!(answer == Offer::Shut, shut, "{rows:?}, floor {floor}");
+                        assert!(!shut || same_words(&ledger, &before));
+                    }
+                }
+            }
+        }
+    }
+}
+
+#[test]
+fn a_joined_row_has_the_source_of_the_row_offered() {
+    for (old, new) in [
+        (Founded, Tip),
+        (Tip, Founded),
+        (Tip, Tip),
+        (Founded, Founded),
+    ] {
+        // 7 → 140 and 7 → 142 are joined; 7 → 140 takes the place of 3, 7 → 140, for it asks for less.
+        for (before, after) in [
+            ((&[7][..], 140), (&[7][..], 142)),
+            ((&[3, 7][..], 140), (&[7][..], 140)),
+        ] {
+            let mut ledger = added(2, 1, &[(old, before.0, &[before.1])]);
+            assert_eq!(ledger.founded(), usize::from(old == Founded));
+            assert_eq!(
+                offer(&mut ledger, (new, after.0, &[after.1])),
+                Offer::Added(0)
+            );
+            assert_eq!(sources(&ledger), [new]);
+        }
+    }
+    // Two rows of either source, and one that takes the place of both.
+    let rows: [Rule; 2] = [(Founded, &[7, 9], &[140]), (Tip, &[7, 11], &[140])];
+    for source in [Founded, Tip] {
+        let mut ledger = added(4, 0, &rows);
+        assert_eq!(offer(&mut ledger, (source, &[7], &[140])), Offer::Added(0));
+        assert_eq!(sources(&ledger), [source]);
+    }
+}
+
+#[test]
+fn a_row_that_says_as_much_keeps_its_source() {
+    for (old, new) in [(Founded, Tip), (Tip, Founded)] {
+        let mut ledger = added(2, 0, &[(old, &[7], &[140, 142])]);
+        assert_eq!(offer(&mut ledger, (new, &[7], &[142])), Offer::Subsumed(0));
+        assert_eq!(sources(&ledger), [old]);
+    }
+}
+
+#[test]
+fn transfers_hand_the_source_on() {
+    let rows: [Rule; 3] = [
+        (Tip, &[7], &[140]),
+        (Founded, &[9], &[142]),
+        (Tip, &[11], &[144]),
+    ];
+    let mut tier = added(3, 0, &rows);
+    let (mut store, mut second) = (added(4, 0, &[]), added(4, 0, &[]));
+    let mut meter = Meter::new(1000);
+    tier.deliver(&mut store, &mut meter).unwrap();
+    second.seed(&mut store, &mut meter).unwrap();
+    assert_eq!((store.deliveries(), store.seeded()), (3, 3));
+    for ledger in [&tier, &store, &second] {
+        assert_eq!(sources(ledger), [Tip, Founded, Tip]);
+    }
+    // What the store knows already brings hits, and no source.
+    let mut other = added(2, 0, &[(Founded, &[7], &[140]), (Tip, &[9], &[142])]);
+    other.hit(0).unwrap();
+    other.deliver(&mut store, &mut meter).unwrap();
+    assert_eq!(sources(&store), [Tip, Founded, Tip]);
+    assert_eq!((store.deliveries(), store.slots()[4]), (3, 1));
+    // The receiver's floor and Founded rows decide: with a Tip there is a place, else the transfer ends at the first row.
+    for (held, taken) in [(Tip, 1), (Founded, 0)] {
+        for source in [Founded, Tip] {
+            let mut giver = added(1, 0, &[(source, &[9], &[142])]);
+            let mut full = added(1, 1, &[(held, &[7], &[140])]);
+            assert_eq!(
+                full.seed(&mut giver, &mut meter).unwrap().answer,
+                Transfer::Done
+            );
+            let now = if taken == 1 { source } else { held };
+            assert_eq!(
+                (
+                    sources(&full),
+                    full.evicted(),
+                    giver.seeded(),
+                    full.mark().is_some()
+                ),
+                (vec![now], taken, taken, taken == 1)
+            );
+        }
+    }
+}
+
+#[test]
+fn words_with_other_sources_are_taken_or_refused() {
+    let ledger = added(3, 0, &[(Tip, &[7], &[140]), (Founded, &[9], &[142])]);
+    let taken = |source: usize, word: u64, founded: u64| {
+        let (mut header, mut slots) = (*ledger.header(), ledger.slots().to_vec());
+        slots[source] = word;
+        header[25] = founded;
+        Ledger::from_words(header, slots, ledger.postings().to_vec()).map(|ledger| sources(&ledger))
+    };
+    assert_eq!(taken(168, 1, 1), Ok(vec![Tip, Founded]));
+    assert_eq!(taken(168, 0, 2), Ok(vec![Founded, Founded]));
+    assert_eq!(taken(169 + 168, 1, 0), Ok(vec![Tip, Tip]));
+    for (place, word, founded) in [
+        (168, 0, 1),
+        (168, 1, 0),
+        (168, 1, 2),
+        (168, 1, u64::MAX),
+        (168, 2, 0),
+        (168, 2, 1),
+        (168, u64::MAX, 1),
+        (168, u64::MAX, 3),
+        (169 + 168, 2, 1),
+        (2 * 169 + 168, 1, 1),
+    ] {
+        assert_eq!(
+            taken(place, word, founded),
+            Err(Refusal(3)),
+            "{place}: {word}"
+        );
+    }
+}
+
+/// No `Source` has another word: what 11 refuses is offered to the function itself.
+#[test]
+fn a_third_source_is_refused_by_the_function() {
+    let ledger = added(2, 0, &[(Tip, &[7], &[140])]);
+    let offered = |source: u64, output: u64, broken: bool| {
+        let (mut header, mut slots) = (*ledger.header(), ledger.slots().to_vec());
+        let (mut postings, mut answer, mut meter) = (ledger.postings().to_vec(), [5; 4], [0, 1000]);
+        header[25] += u64::from(broken);
+        let (given, given_slots) = (header, slots.clone());
+        // SAFETY: each pointer is of as many words as are said, and what is written is borrowed for it alone.
+        let refused = unsafe {
+            ledger_offer(
+                header.as_mut_ptr(),
+                answer.as_mut_ptr(),
+                meter.as_mut_ptr(),
+                slots.as_mut_ptr(),
+                slots.len(),
+                postings.as_mut_ptr(),
+                postings.len(),
+                [9].as_ptr(),
+                1,
+                [output].as_ptr(),
+                1,
+                source,
+            )
+        };
+        let kept = (header, &slots, answer, meter) == (given, &given_slots, [5; 4], [0, 1000]);
+        assert_eq!(kept && postings == ledger.postings(), refused != 0);
+        refused
+    };
+    assert_eq!([0, 1].map(|source| offered(source, 142, false)), [0, 0]);
+    for source in [2, 256, 1 << 32, u64::MAX - 1, u64::MAX] {
+        assert_eq!(offered(source, 142, false), 11);
+        assert_eq!(offered(source, 256, false), 4);
+        assert_eq!(offered(source, 142, true), 3);
+    }
+}
+
+// In the library that the package is linked with; include/ledger.h has it in full.
+unsafe extern "C" {
+    fn ledger_offer(
+        head: *mut u64,
+        answer: *mut u64,
+        meter: *mut u64,
+        slots: *mut u64,
+        slots_len: usize,
+        postings: *mut u64,
+        postings_len: usize,
+        conditions: *const u64,
+        conditions_len: usize,
+        outputs: *const u64,
+        outputs_len: usize,
+        source: u64,
+    ) -> u64;
 }

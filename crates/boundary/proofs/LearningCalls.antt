@@ -51,22 +51,23 @@ module _ (head answer meter slots postings : List ℕ) (h : Header) (read : h �
         done-way candidatesLeft _ _ _ candidates-end _ (number w _ told) _ z
         (three x y v (p ∷ f ∷ []) ex (answer-told w _ told y (r .ticks) ey) ev)
 
-  module _ (conditions outputs : List ℕ) (r : OfferResult) (s p : List ℕ)
-      (ends : offerEnd r s p ≡ offer (lent h slots postings) conditions outputs m .seen)
+  module _ (conditions outputs : List ℕ) (source : ℕ) (r : OfferResult) (s p : List ℕ)
+      (ends : offerEnd r s p ≡ offer (lent h slots postings) conditions outputs source m .seen)
       (told : w ≡ replyWords (offerReply (r .answer))) where
-    offer-end : offerEnd r s p ≡ offer (lent (headerIn head) slots postings) conditions outputs (meterIn meter) .seen
-    offer-end = ends ∙ ap₂ (λ (x : Header) (y : Meter). offer (lent x slots postings) conditions outputs y .seen) read metered
+    offer-end : offerEnd r s p ≡ offer (lent (headerIn head) slots postings) conditions outputs source (meterIn meter) .seen
+    offer-end = ends ∙ ap₂ (λ (x : Header) (y : Meter). offer (lent x slots postings) conditions outputs source y .seen) read metered
 
     pub offer-refused : (w .refusal ≡ 0 → ⊥) →
-        left (w .refusal) (head ∷ answer ∷ meter ∷ s ∷ p ∷ []) ≡ offerCall head answer meter slots postings conditions outputs
+        left (w .refusal) (head ∷ answer ∷ meter ∷ s ∷ p ∷ []) ≡ offerCall head answer meter slots postings conditions outputs source
     unfolding offerCall
     offer-refused nz =
         refused-way offerLeft _ _ _ offer-end _ (number w _ told) _ nz
-        (λ g. ap (λ (ws : List (List ℕ)). head ∷ answer ∷ meter ∷ ws) (ap offerLends offer-end ∙ offer-keeps _ conditions outputs _ g))
+        (λ g. ap (λ (ws : List (List ℕ)). head ∷ answer ∷ meter ∷ ws)
+        (ap offerLends offer-end ∙ offer-keeps _ conditions outputs source _ g))
 
     pub offer-done : (x y v : List ℕ) → w .refusal ≡ 0 → x ≡ headerWords (r .header) → y ≡ answerWords w (r .ticks)
         → v ≡ meterWords (r .meter) →
-        left 0 (x ∷ y ∷ v ∷ s ∷ p ∷ []) ≡ offerCall head answer meter slots postings conditions outputs
+        left 0 (x ∷ y ∷ v ∷ s ∷ p ∷ []) ≡ offerCall head answer meter slots postings conditions outputs source
     unfolding offerCall
     offer-done x y v z ex ey ev =
         done-way offerLeft _ _ _ offer-end _ (number w _ told) _ z

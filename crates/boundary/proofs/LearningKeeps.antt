@@ -12,7 +12,7 @@ use Rattle.model.specs.Retention.{Outcome, Stops, Declines, Subsumes, Adds, can
 use Rattle.model.specs.Closing.{Turn, going, conflict, halted, closing}
 use Rattle.model.specs.Refusals.{Lent, refusal, accepts, ledgerIn}
 use Rattle.model.specs.Operations.{OfferEnd, Offered, CandidatesEnd, CloseEnd}
-use Rattle.model.specs.Operations.{offer, capture, unoffered, offerAnswer, fitsOffer, candidates}
+use Rattle.model.specs.Operations.{offer, capture, unoffered, offerAnswer, offerTests, candidates}
 use Rattle.model.specs.Operations.{candidatesAnswer, close, closeEnd, closedBy, regionOk}
 use Rattle.model.specs.Answers.{offerReply, candidatesReply}
 use Rattle.wire.specs.Replies.{replyWords, closeWords}
@@ -55,12 +55,13 @@ closed (conflict t) x y m = refl
 closed (halted t) x y m = refl
 
 -- ---- what is refused keeps what was lent
-pub offer-keeps : (s : Lent) (c o : List ℕ) (m : Meter) → (replyWords (offer s c o m .seen .answer) .refusal ≡ 0 → ⊥)
-    → offerLends (offer s c o m .seen) ≡ s .slots ∷ s .postings ∷ []
+pub offer-keeps : (s : Lent) (c o : List ℕ) (source : ℕ) (m : Meter)
+    → (replyWords (offer s c o source m .seen .answer) .refusal ≡ 0 → ⊥) → offerLends (offer s c o source m .seen)
+    ≡ s .slots ∷ s .postings ∷ []
 unfolding offer capture unoffered
-offer-keeps s c o m =
+offer-keeps s c o source m =
     keeps (λ (e : Offered). replyWords (e .seen .answer) .refusal) (λ (e : Offered). offerLends (e .seen)) (s .slots ∷ s .postings ∷ [])
-    (refusal (accepts s true ((fitsOffer (s .header .limits) (record { conditions = c; outputs = o }), 4) ∷ []))) _ _ (λ n. refl)
+    (refusal (accepts s true (offerTests (s .header .limits) (record { conditions = c; outputs = o }) source))) _ _ (λ n. refl)
     (taken (λ (e : Offered). replyWords (e .seen .answer) .refusal) (canCapture (ledgerIn s)) _ _ (offered _) refl)
 
 pub candidates-keeps : (s : Lent) (atoms buffer : List ℕ) (m : Meter)

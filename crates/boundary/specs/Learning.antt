@@ -19,10 +19,10 @@ offerLeft e =
     ∷ e .ledger .postings
     ∷ [])
 
-unfoldable pub offerCall : List ℕ → List ℕ → List ℕ → List ℕ → List ℕ → List ℕ → List ℕ → Left
-offerCall head answer meter slots postings conditions outputs =
+unfoldable pub offerCall : List ℕ → List ℕ → List ℕ → List ℕ → List ℕ → List ℕ → List ℕ → ℕ → Left
+offerCall head answer meter slots postings conditions outputs source =
     leaves (head ∷ answer ∷ meter ∷ slots ∷ postings ∷ [])
-    (offerLeft (offer (lent (headerIn head) slots postings) conditions outputs (meterIn meter) .seen))
+    (offerLeft (offer (lent (headerIn head) slots postings) conditions outputs source (meterIn meter) .seen))
 
 -- ---- Candidates
 abbrev pub candidatesLeft : CandidatesEnd → Left

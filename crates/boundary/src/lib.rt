@@ -223,10 +223,11 @@ pub extern "C" fn ledger_offer(
     postings: &mut [u64],
     conditions: &[u64],
     outputs: &[u64],
+    source: u64,
 ) -> u64
     ensures { λ r. ⌜ left r (now (head .exit) ∷ now (answer .exit) ∷ now (meter .exit) ∷ now (slots .exit) ∷ now (postings .exit) ∷ [])
         ≡ offerCall (now (head .entry)) (now (answer .entry)) (now (meter .entry)) (now (slots .entry)) (now (postings .entry))
-        (now (conditions .entry)) (now (outputs .entry)) ⌝ }
+        (now (conditions .entry)) (now (outputs .entry)) source ⌝ }
 {
     let offered = offer(
         header_of(head),
@@ -234,6 +235,7 @@ pub extern "C" fn ledger_offer(
         postings,
         conditions,
         outputs,
+        source,
         meter_of(meter),
     );
     let a = offered.answer;

@@ -2,8 +2,8 @@
 // numbered from 0 on in the order of include/ledger.h. Nothing is tested here: whatever the words are, they are lent as they are.
 //
 // `words` are the arrays and numbers of a call, one behind the other: the header (the tier's in `seed` and `deliver`; its first ten are the
-// limits of `make`, its first the atoms of `decide`), the store's header, the answer, the meter, the cursor, the number of `make` or a
-// position, the atom and the value of `decide`.
+// limits of `make`, its first the atoms of `decide`), the store's header, the answer, the meter, the cursor, the number of `make`, the
+// source of `offer` or a position, the atom and the value of `decide`.
 //
 // Beside slots and postings are lent, as `first` and `second`: conditions and outputs (`offer`), atoms and rows found (`candidates`), the
 // store's slots and postings (`seed`, `deliver`), held and cut (the others); as `third` and `fourth` the scratch of `close`, for rows and
@@ -56,7 +56,7 @@ fn change(
         }
         1 => ledger_begin(head, answer, slots, postings),
         2 => ledger_hit(head, answer, slots, postings, number),
-        _ => ledger_offer(head, answer, meter, slots, postings, first, second),
+        _ => ledger_offer(head, answer, meter, slots, postings, first, second, number),
     }
 }
 

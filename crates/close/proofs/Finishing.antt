@@ -1,5 +1,5 @@
 -- Close, by the ways that it ends. Assumes nothing.
-use mathlib.Core.Path.{_≡_, refl, sym, ap, ap₂, _∙_}
+use mathlib.Core.Path.{_≡_, refl, sym, ap, ap₂, _∙_, subst}
 use mathlib.Core.Bool.{Bool, true, false, _&&_}
 use mathlib.Core.List.{List, [], _∷_}
 use mathlib.Core.Option.{none, some}
@@ -20,13 +20,15 @@ use Rattle.model.specs.declared.Contradicted.the-variants.{None}
 use Rattle.model.specs.declared.CloseResult.{CloseResult}
 use Rattle.model.specs.declared.CloseAnswer.{CloseAnswer}
 use Rattle.model.specs.declared.CloseAnswer.the-variants as answer
-use Rattle.model.specs.Records.{withFull}
+use Rattle.model.specs.Records.{withFull, foundedRows}
+use Rattle.model.specs.Slots.{entriesIn}
 use Rattle.model.specs.Postings.{filed}
 use Rattle.model.specs.Refusals.{Lent, refusal, accepts, lengthsOk, ledgerIn}
 use Rattle.model.specs.Answers.{closeReply, contradictedReply}
 use Rattle.model.specs.Operations.{CloseEnd, closeEnd, closedBy, close, regionOk}
 use Rattle.model.specs.Closing.{State, Turn, rounds, closing}
 use Rattle.model.proofs.Priority.Steps.{refusal-cons}
+use Rattle.model.proofs.Priority.Quiet.{Same, TurnSame, closing-same}
 use Rattle.slots.proofs.Holding.{stands-few}
 use Rattle.contents.specs.Lent.{lent, refusedBy}
 use Rattle.contents.proofs.Accepting.{accepted, accept-refused, accept-passed}
@@ -148,11 +150,25 @@ module _ (h : Header) (slots postings held₀ cut x y : List ℕ) (m : Meter) wh
     close-done r slots′ postings′ held′ cut′ x₁ y₁ x′ y′ t w a b c d z k f g =
         ap₂ (λ (z : CloseAnswer) (k : ℕ). closedEnd (ending r z k) slots′
         postings′ held′ cut′ x′ y′) f g
-        ∙ ap₂ (λ (l : Lent) (z : List ℕ × List ℕ). ended l (z .0) (z .1)) (stands-lent (r .header) slots′ postings′ (w .stands))
+        ∙ ap₂ (λ (l : Lent) (z : List ℕ × List ℕ). ended l (z .0) (z .1)) (stands-lent (r .header) slots′ postings′ (w .stands) still)
         (ap₂ (λ (u v : List ℕ). (u, v)) (c ∙ zeroed-cong x₁ x a) (d ∙ zeroed-cong y₁ y b))
         ∙ sym (ended-is (r .flow) (stateIn (r .header) slots′ held′ cut′ (r .meter) (r .contradicted)))
         ∙ ap (λ (u : Turn). closedBy u x y m) (t ∙ sym closing-is) ∙ sym close-is
       where
+        -- a closing leaves the sources, and the header's count of them
+        same : TurnSame (ledgerIn s) (roundTurn r slots′ held′ cut′)
+        same = subst (TurnSame (ledgerIn s)) (closing-is ∙ sym t) (closing-same (ledgerIn s) (region held₀ cut) m)
+
+        by-flow : (b : Flow) (u : State) → TurnSame (ledgerIn s) (endedAs b u) → Same (ledgerIn s) (u .ledger)
+        by-flow Continues u q = q
+        by-flow Conflict u q = q
+        by-flow Stopped u q = q
+
+        still : r .header .founded ≡ foundedRows (entriesIn (r .header .rows) slots′)
+        still =
+            let k = by-flow (r .flow) (stateIn (r .header) slots′ held′ cut′ (r .meter) (r .contradicted)) same in
+            k .counted ∙ accepted h slots postings others ((regionOk s held₀ cut, 6) ∷ []) e .founded ∙ sym (k .founded)
+
         ended : Lent → List ℕ → List ℕ → CloseEnd
         ended l u v =
             record {

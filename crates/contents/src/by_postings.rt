@@ -202,7 +202,8 @@ fn literal_count(slot: &[u64]) -> usize
 }
 
 // The place of the row in a slot before any posting is met: the first condition's and the first output's. Of many rows two words behind the
-// header are read here too, where row follows row, so that they are near when the walk asks for them in any order; no row has all their bits.
+// header are read here too, where row follows row, so that they are near when the walk asks for them in any order; no row has all their
+// bits.
 fn first_place(slot: &[u64], many: bool) -> u16
     requires { ⌜ LaidOut (now slot) ⌝ }
     ensures { λ r. ⌜ Form r (getD (now (slot .entry)) totalGroupsAt 0) ⌝ }

@@ -27,6 +27,7 @@ use Rattle.row_deduce.proofs.Cursors.{pointed-ok}
 use Rattle.slots.specs.Layout.{rowOf}
 use Rattle.row_propose.specs.Proposed.{Proposed}
 use Rattle.row_propose.proofs.Proposing.{proposed-over}
+use Rattle.model.specs.declared.Source.the-variants.{Founded}
 use Rattle.row_write.specs.Forms.{newEntry}
 use Rattle.leaves.specs.Fit.{LaidAs}
 use Rattle.leaves.specs.Calls.{rowFits}
@@ -85,18 +86,20 @@ module _ (n : ℕ) (r : Row) (f : rowFits n r ≡ true) where
   fits-laid ws e = subst (LaidAs r) (sym e) (record { laid = laid-proposal r valid; row = row-proposal r })
 
   -- its slot
-  pub fits-stored : (ws : List ℕ) → ws ≡ slotOf (newEntry r 0 0) → Stored n ws
-  fits-stored ws e = subst (Stored n) (sym e) (stored-slot codeBits n (newEntry r 0 0) (T-of (both .1)) (le-trans fits-atoms most-coded))
+  pub fits-stored : (ws : List ℕ) → ws ≡ slotOf (newEntry r 0 0 Founded) → Stored n ws
+  fits-stored ws e =
+      subst (Stored n) (sym e) (stored-slot codeBits n (newEntry r 0 0 Founded) (T-of (both .1)) (le-trans fits-atoms most-coded))
 
-  pub fits-row : (ws : List ℕ) → ws ≡ slotOf (newEntry r 0 0) → rowIn ws ≡ r
-  fits-row ws e = ap rowIn e ∙ row-there (newEntry r 0 0) valid
+  pub fits-row : (ws : List ℕ) → ws ≡ slotOf (newEntry r 0 0 Founded) → rowIn ws ≡ r
+  fits-row ws e = ap rowIn e ∙ row-there (newEntry r 0 0 Founded) valid
 
-  pub fits-slot : (ws : List ℕ) → ws ≡ slotOf (newEntry r 0 0) → LaidAs r ws
+  pub fits-slot : (ws : List ℕ) → ws ≡ slotOf (newEntry r 0 0 Founded) → LaidAs r ws
   fits-slot ws e = record { laid = laid-stored n ws (fits-stored ws e); row = fits-row ws e }
 
 -- what was written from a proposal
-pub written : (r : Row) {p slot : List ℕ} → p ≡ proposal r → slot ≡ slotOf (newEntry (rowIn p) 0 0) → slot ≡ slotOf (newEntry r 0 0)
-written r e w = w ∙ ap (λ (x : Row). slotOf (newEntry x 0 0)) (ap rowIn e ∙ row-proposal r)
+pub written : (r : Row) {p slot : List ℕ} → p ≡ proposal r → slot ≡ slotOf (newEntry (rowIn p) 0 0 Founded) → slot
+    ≡ slotOf (newEntry r 0 0 Founded)
+written r e w = w ∙ ap (λ (x : Row). slotOf (newEntry x 0 0 Founded)) (ap rowIn e ∙ row-proposal r)
 
 -- the outputs of words that are laid out
 pub outputs-sound : (ws : List ℕ) {s : Side} → Laid ws → s ≡ outputSide ws → Sound ws s

@@ -30,6 +30,7 @@ use Rattle.slots.specs.Layout.{proposal}
 use Rattle.slots.proofs.Storing.{row-proposal}
 use Rattle.slots.specs.Layout.{rowOf}
 use Rattle.row_merge.specs.Merge.{ifYes}
+use Rattle.model.specs.declared.Source.the-variants.{Founded}
 use Rattle.row_write.specs.Forms.{newEntry}
 use Rattle.row_deduce.specs.declared.Deduced.{Deduced}
 use Rattle.row_deduce.specs.Publication.{nextEnd}
@@ -105,7 +106,7 @@ module _ (atoms : ℕ) (cs os paying : List ℕ) (times : ℕ) (slot answer : Li
 
 -- one call of it
 pub prepared-once : (r : Row) (a : Account) (m : Meter) (slot new : List ℕ) {j : Judged} → j ≡ judged true (pay (prepareReads r) a m)
-    → new ≡ ifYes (j .verdict) (slotOf (newEntry r 0 0)) slot
+    → new ≡ ifYes (j .verdict) (slotOf (newEntry r 0 0 Founded)) slot
     → prepared j new ≡ preparedBy r (judged true (pay (prepareReads r) a m)) slot
 prepared-once r a m slot new {j} e f = ap (prepared j) f ∙ ap (λ (x : Judged). preparedBy r x slot) e
 

@@ -23,6 +23,7 @@ use Rattle.model.specs.declared.NextAnswer.the-variants as next-answer
 use Rattle.model.specs.Records.{Row, isRow, slotWords, maxOutputs}
 use Rattle.model.specs.Rows.{includes, includesReads, subsumes, subsumesReads, prepareReads}
 use Rattle.model.specs.Union.{joins, joinReads, grown}
+use Rattle.model.specs.declared.Source.the-variants.{Founded}
 use Rattle.model.specs.Slots.{slotOf}
 use Rattle.model.specs.Deduction.{Published, nextOutput, deduction, deductionTicks}
 use Rattle.model.specs.Operations.{cursorOk, nextAnswer}
@@ -124,7 +125,7 @@ abbrev pub prepared : Judged → List ℕ → Prepared
 prepared j s = record { judged = j; slot = s }
 
 abbrev pub preparedBy : Row → Judged → List ℕ → Prepared
-preparedBy r j s = prepared j (ifYes (j .verdict) (slotOf (newEntry r 0 0)) s)
+preparedBy r j s = prepared j (ifYes (j .verdict) (slotOf (newEntry r 0 0 Founded)) s)
 
 abbrev pub prepareOnce : Row → Account × Meter × List ℕ → Prepared
 prepareOnce r s = preparedBy r (judged true (pay (prepareReads r) (s .0) (s .1))) (s .2)

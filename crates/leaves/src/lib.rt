@@ -16,6 +16,7 @@ ghost use Rattle.words.specs.Region.{maxAtoms, region, has, mark};
 ghost use Rattle.model.specs.Records.{isRow, slotWords, maxOutputs};
 ghost use Rattle.model.specs.Rows.{includes, includesReads, subsumes, subsumesReads, prepareReads};
 ghost use Rattle.model.specs.Union.{joins, joinReads};
+ghost use Rattle.model.specs.declared.Source.the-variants.{Founded};
 ghost use Rattle.model.specs.Slots.{rowIn, slotOf};
 ghost use Rattle.slots.specs.Layout.{Laid, proposal};
 ghost use Rattle.slots.specs.Layout.{rowOf};
@@ -40,6 +41,7 @@ use model::MAX_CONDITIONS;
 use model::MAX_OUTPUTS;
 use model::NextAnswer;
 use model::SLOT_WORDS;
+use model::Source;
 use row_deduce::Deduced;
 use wire::cursor_of;
 use wire::flag_word;
@@ -201,13 +203,13 @@ fn propose(atoms: u64, conditions: &[u64], outputs: &[u64], p: &mut [u64]) -> bo
 fn store(atoms: u64, conditions: &[u64], outputs: &[u64], slot: &mut [u64]) -> bool
     requires { ⌜ length (now slot) ≡ slotWords ⌝ }
     ensures { λ r. ⌜ (r ≡ rowFits atoms (rowOf (now (conditions .entry)) (now (outputs .entry))))
-        × (r ≡ true → now (slot .exit) ≡ slotOf (newEntry (rowOf (now (conditions .entry)) (now (outputs .entry))) 0 0)) ⌝ }
+        × (r ≡ true → now (slot .exit) ≡ slotOf (newEntry (rowOf (now (conditions .entry)) (now (outputs .entry))) 0 0 Founded)) ⌝ }
 {
     let mut p = [0u64; SLOT_WORDS];
     if !propose(atoms, conditions, outputs, &mut p) {
         return false;
     }
-    row_write::write_row(slot, &p, row_write::form_of(&p), 0, 0);
+    row_write::write_row(slot, &p, row_write::form_of(&p), 0, 0, Source::Founded);
     true
 }
 
@@ -236,7 +238,7 @@ fn prepare(p: &[u64], slot: &mut [u64], account: Account, work: Meter) -> Judged
     let Verdict::Yes = verdict else {
         return judged;
     };
-    row_write::write_row(slot, p, form, 0, 0);
+    row_write::write_row(slot, p, form, 0, 0, Source::Founded);
     judged
 }
 

@@ -1,11 +1,12 @@
 -- The laws of `concat` and `sum`, of lists made of blocks of one length, and of the words from a place on. Assumes nothing.
 use mathlib.Core.List.{List, [], _∷_, _++_, map, append-assoc, append-nil}
 use mathlib.Core.Path.{_≡_, refl, sym, ap, _∙_}
-use Prim.Native.Nat.{ℕ, zero, suc, _+_, _*_, _≤_, _<_}
+use Prim.Native.Nat.{ℕ, zero, suc, _+_, _-_, _*_, _≤_, _<_}
+use native.Mathlib.Nat.{sub-zero}
 use native.Mathlib.Numerals.{add-one}
 use native.Mathlib.Omega.{arith}
 use lib.ListN.{length, getD, set, take, drop, length-append}
-use lib.Seq.{take-at, drop-at, drop-cons, set-split, take-append-add, drop-append-add}
+use lib.Seq.{take-at, take-nil, drop-at, drop-cons, set-split, take-append-add, drop-append-add}
 use borrow.Rule.Slice.PartMut.{putMid}
 use Rattle.lists.specs.Lists.{concat, sum}
 
@@ -120,6 +121,14 @@ module _ {A B : Type 0} (f : A → List B) (w : ℕ) where
       (sym (append-assoc (concat (map f es)) (f e) (drop w zs)))
 
 -- ---- the words from a place on
+-- the end of a beginning is a beginning of the end
+pub drop-take : (m n : ℕ) (ws : List ℕ) → drop m (take n ws) ≡ take (n - m) (drop m ws)
+drop-take zero n ws = ap (λ (k : ℕ). take k ws) (sym (sub-zero n))
+drop-take (suc m) zero ws = ap (λ (k : ℕ). take k (drop (suc m) ws)) (let e : 0 ≡ 0 - suc m = omega arith in e)
+drop-take (suc m) (suc n) [] = sym (take-nil (suc n - suc m))
+drop-take (suc m) (suc n) (w ∷ ws) =
+    drop-take m n ws ∙ ap (λ (k : ℕ). take k (drop m ws)) (let e : n - m ≡ suc n - suc m = omega arith in e)
+
 pub drop-next : (ws : List ℕ) (i : ℕ) → i < length ws → drop i ws ≡ getD ws i 0 ∷ drop (i + 1) ws
 drop-next ws i l = drop-cons ws i 0 l ∙ ap (λ (k : ℕ). getD ws i 0 ∷ drop k ws) (sym (add-one i))
 

@@ -7,7 +7,8 @@ use native.Mathlib.Numerals.{add-one}
 use native.Mathlib.Omega.{arith}
 use lib.ListN.{length, getD, set, take, drop, replicate, length-set, length-append, length-replicate, length-drop, take-append-drop}
 use lib.ListN.{drop-of-length-le, replicate-append-replicate}
-use lib.Seq.{take-at, drop-at, take-all, take-suc, drop-cons, length-take-le, set-at, set-append-left, append-snoc, sets, sets-eq, ext-getD}
+use lib.Seq.{take-append-add, take-at, drop-at, take-all, take-suc, drop-cons, length-take-le, set-at, set-append-left, append-snoc}
+use lib.Seq.{sets, sets-eq, ext-getD}
 use borrow.Rule.Slice.PartMut.{putMid, post-is}
 use Rattle.lists.specs.Lists.{pad, zeroed, same}
 use Rattle.lists.proofs.Tests.{same-append, same-no}
@@ -76,6 +77,14 @@ length-pad n xs l =
 pub take-pad : (n : ℕ) (xs : List ℕ) → take (length xs) (pad n xs) ≡ xs
 unfolding pad
 take-pad n xs = take-at xs (replicate (n - length xs) 0) (length xs) refl
+
+pub shorter-pad : (m n : ℕ) (xs : List ℕ) → length xs ≤ m → m ≤ n → take m (pad n xs) ≡ pad m xs
+unfolding pad
+shorter-pad m n xs l h =
+    let e : length xs + (m - length xs) ≡ m = omega arith in
+    ap (λ (k : ℕ). take k (xs ++ replicate (n - length xs) 0)) (sym e)
+    ∙ take-append-add xs (replicate (n - length xs) 0) (m - length xs)
+    ∙ ap (λ (z : List ℕ). xs ++ z) (take-zeros (n - length xs) (m - length xs) (omega arith))
 
 pub drop-pad : (n : ℕ) (xs : List ℕ) → drop (length xs) (pad n xs) ≡ replicate (n - length xs) 0
 unfolding pad

@@ -15,10 +15,11 @@ use Rattle.lists.proofs.Bools.{T-true, T-of}
 use Rattle.lists.proofs.Pads.{length-pad}
 use Rattle.words.specs.Literal.{atom}
 use Rattle.model.specs.declared.Header.{Header}
-use Rattle.model.specs.Records.{Row, Entry, Ledger, rowsOf, isRow, withRows, slotWords, postingWords}
+use Rattle.model.specs.Records.{Row, Entry, Ledger, rowsOf, isRow, withCounts, foundedRows, slotWords, postingWords}
 use Rattle.model.specs.Slots.{slotOf, slotsOf, entriesIn}
 use Rattle.model.specs.Postings.{posting, rowPostings, postingsFrom, postingsOf, filed}
-use Rattle.model.specs.Refusals.{Lent, refusal, ledgerIn, lentOf, lengthsOk, entryOk, countsOk, wordsOk, contentsOk, accepts}
+use Rattle.model.specs.Refusals.{Lent, refusal, ledgerIn, lentOf, lengthsOk, entryOk, countsOk, foundedOk, wordsOk, contentsOk}
+use Rattle.model.specs.Refusals.{accepts}
 use Rattle.model.specs.Acceptance.{EncodedAccepted, EntriesAreAll}
 use Rattle.model.proofs.Cover.{and-left, and-right}
 use Rattle.model.proofs.Slots.{Valid, valid-of, AllValid, slot-length, decode-encode}
@@ -94,7 +95,7 @@ rows-in h t =
     (ltb (h .epoch) (h .limits .«tier_rows») && leb (h .attempts) (h .limits .«founded_attempts»)) t)
 
 pub encoded-accepted : EncodedAccepted
-unfolding accepts lengthsOk contentsOk wordsOk lentOf ledgerIn withRows rowsOf
+unfolding accepts lengthsOk contentsOk foundedOk wordsOk lentOf ledgerIn withCounts rowsOf
 encoded-accepted l a c e =
     let h : Header = lentOf l .header in
     let es = l .entries in
@@ -115,16 +116,20 @@ encoded-accepted l a c e =
     (T-true (eqb (length ws) (slotWords * tier) && eqb (length ps) (postingWords * tier)) long) refl)
     (subst
     (λ (xs : List Entry). T
-    (countsOk h && (all (entryOk h) xs && (same ws (slotsOf tier xs) && same ps (filed tier (l .header .stale) (map (λ e. e .row) xs))))))
+    (countsOk h && (eqb (foundedRows es) (foundedRows xs)
+    && (all (entryOk h) xs && (same ws (slotsOf tier xs) && same ps (filed tier (l .header .stale) (map (λ e. e .row) xs)))))))
     (sym back)
-    (both (countsOk h) (all (entryOk h) es && (same ws ws && same ps ps)) (T-true (countsOk h) c)
-    (T-true (all (entryOk h) es && (same ws ws && same ps ps)) fit)))
+    (both (countsOk h) (eqb (foundedRows es) (foundedRows es) && (all (entryOk h) es && (same ws ws && same ps ps))) (T-true (countsOk h) c)
+    (T-true _ (both (eqb (foundedRows es) (foundedRows es)) (all (entryOk h) es && (same ws ws && same ps ps))
+    (eq-eqb (foundedRows es) (foundedRows es) refl)
+    (T-true (all (entryOk h) es && (same ws ws && same ps ps)) fit)))))
 
 -- ---- accepted words
 words-are : (s : Lent) → Accepted s → (s .slots ≡ lentOf (ledgerIn s) .slots) × (s .postings ≡ lentOf (ledgerIn s) .postings)
 unfolding contentsOk wordsOk
 words-are s a =
-    let w = and-right (all (entryOk (s .header)) (ledgerIn s .entries)) _ (and-right (countsOk (s .header)) _ (a .contents)) in (
+    let c = and-right (foundedOk (s .header) (ledgerIn s)) _ (and-right (countsOk (s .header)) _ (a .contents)) in
+    let w = and-right (all (entryOk (s .header)) (ledgerIn s .entries)) _ c in (
       same-true _ _ (T-true _ (and-left (same (s .slots) (lentOf (ledgerIn s) .slots)) _ w)),
       same-true _ _ (T-true _ (and-right (same (s .slots) (lentOf (ledgerIn s) .slots)) _ w)),
     )

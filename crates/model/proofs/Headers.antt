@@ -8,30 +8,31 @@ use Rattle.meter.specs.declared.Capture.{Capture}
 use Rattle.meter.specs.declared.Sharing.{Sharing}
 use Rattle.meter.specs.declared.Account.the-variants.{Remaining, Share}
 use Rattle.model.specs.declared.Header.{Header}
-use Rattle.model.specs.Records.{header, saturatingAdd, attempted, withAccount, withSeeded, withDeliveries, withRows, withAdded}
+use Rattle.model.specs.Records.{header, saturatingAdd, attempted, withAccount, withSeeded, withDeliveries, withCounts, withAdded}
 
 module _ (h : Header) where
-  open Header h using (limits, number, rows, born, epoch, attempts, remaining, sharing, evicted, deliveries, seeded, stale, full, mark)
+  open Header h using (limits, number, rows, born, epoch, attempts, remaining, sharing)
+  open Header h using (evicted, deliveries, seeded, founded, stale, full, mark)
 
   -- ---- one field set
   abbrev pub setAttempts : ℕ → Header
-  setAttempts n = header limits number rows born epoch n remaining sharing evicted deliveries seeded stale full mark
+  setAttempts n = header limits number rows born epoch n remaining sharing evicted deliveries seeded founded stale full mark
 
   abbrev pub setRemaining : Capture → Header
-  setRemaining c = header limits number rows born epoch attempts c sharing evicted deliveries seeded stale full mark
+  setRemaining c = header limits number rows born epoch attempts c sharing evicted deliveries seeded founded stale full mark
 
   abbrev pub setSharing : Sharing → Header
-  setSharing c = header limits number rows born epoch attempts remaining c evicted deliveries seeded stale full mark
+  setSharing c = header limits number rows born epoch attempts remaining c evicted deliveries seeded founded stale full mark
 
   abbrev pub setDeliveries : ℕ → Header
-  setDeliveries n = header limits number rows born epoch attempts remaining sharing evicted n seeded stale full mark
+  setDeliveries n = header limits number rows born epoch attempts remaining sharing evicted n seeded founded stale full mark
 
   abbrev pub setSeeded : ℕ → Header
-  setSeeded n = header limits number rows born epoch attempts remaining sharing evicted deliveries n stale full mark
+  setSeeded n = header limits number rows born epoch attempts remaining sharing evicted deliveries n founded stale full mark
 
-  -- a row was added: rows, born, epoch, evicted; stale and full
-  abbrev pub setAdded : ℕ → ℕ → ℕ → ℕ → Header
-  setAdded n b e v = header limits number n b e attempts remaining sharing v deliveries seeded true true mark
+  -- a row was added: rows, born, epoch, evicted, founded; stale and full
+  abbrev pub setAdded : ℕ → ℕ → ℕ → ℕ → ℕ → Header
+  setAdded n b e v k = header limits number n b e attempts remaining sharing v deliveries seeded k true true mark
 
   -- ---- what they are
   pub attempts-in : setAttempts (attempts + 1) ≡ attempted h
@@ -54,6 +55,6 @@ module _ (h : Header) where
   unfolding withSeeded
   seeded-in k e = ap setSeeded e
 
-  pub added-in : {b : ℕ} (n e v : ℕ) → b ≡ saturatingAdd born 1 → setAdded n b e v ≡ withRows (withAdded h e v) n
-  unfolding withRows withAdded
-  added-in n e v b = ap (λ (k : ℕ). setAdded n k e v) b
+  pub added-in : {b : ℕ} (n e v k : ℕ) → b ≡ saturatingAdd born 1 → setAdded n b e v k ≡ withCounts (withAdded h e v) n k
+  unfolding withCounts withAdded
+  added-in n e v k b = ap (λ (x : ℕ). setAdded n x e v k) b

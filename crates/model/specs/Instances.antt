@@ -7,6 +7,7 @@ use mathlib.Core.Option.{some}
 use Prim.Native.Nat.{ℕ, _*_}
 use lib.ListN.{replicate}
 use Rattle.model.specs.declared.LearningLimits.{LearningLimits}
+use Rattle.model.specs.declared.Source.the-variants.{Founded}
 use Rattle.model.specs.declared.CloseAnswer.the-variants.{Closed, Conflict}
 use Rattle.model.specs.Records.{Row, Entry, rowsOf, fresh, limitsOf, tierLimits, slotWords, postingWords, withAdded}
 use Rattle.model.specs.Refusals.{Lent, ledgerIn, lentOf}
@@ -32,7 +33,7 @@ closedAfter l cs held =
     close (afterCalls l cs .ledger) held (0 ∷ 0 ∷ []) (replicate (l .«tier_rows») 7) (replicate (l .atoms) 7) endless
 
 unfoldable pub offersOf : List Row → List Call
-offersOf ts = map (λ t. Offer (t .conditions) (t .outputs) endless) ts
+offersOf ts = map (λ t. Offer (t .conditions) (t .outputs) 0 endless) ts
 
 -- the same of the default limits over 128 atoms, and of offers
 unfoldable pub begun : MakeEnd
@@ -76,7 +77,7 @@ second = 2 ∷ 0 ∷ []
 
 -- ledgers of 65 rows: 140 → 142 before or after a row i → 140 for each of the atoms 0 to 63
 abbrev pub link : Entry
-link = record { row = (140 ∷ []) ⇒ (142 ∷ []); hits = 0; unshared = 0; born = 1; delivered = false }
+link = record { row = (140 ∷ []) ⇒ (142 ∷ []); hits = 0; unshared = 0; born = 1; delivered = false; source = Founded }
 
 unfoldable pub linkFirst : List Entry
 linkFirst = link ∷ entriesFrom 64 0

@@ -82,6 +82,7 @@ tried-accepted h n slots postings a = record {
   atoms = a .atoms;
   some = a .some;
   wide = a .wide;
+  founded = a .founded;
   entries = a .entries;
 }
 

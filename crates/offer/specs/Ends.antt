@@ -1,8 +1,8 @@
 -- 01, Offer: its end, from what the code gives back and leaves in the lent slices. Assumes nothing.
-use mathlib.Core.Bool.{Bool, _&&_, _||_}
+use mathlib.Core.Bool.{Bool, _&&_, not}
 use mathlib.Core.List.{List}
 use Prim.Native.Nat.{ℕ}
-use lib.Dec.{ltb}
+use lib.Dec.{ltb, leb}
 use Rattle.meter.specs.declared.Meter.{Meter}
 use Rattle.meter.specs.Meter.{made}
 use Rattle.model.specs.declared.Header.{Header}
@@ -24,12 +24,13 @@ offerEnd r slots postings = record
 abbrev pub unofferedBy : OfferAnswer → Header → Meter → OfferResult
 unofferedBy a h m = record { answer = a; header = h; meter = m; ticks = 0 }
 
--- `can_capture`, of a header whose count of rows is right
+-- `can_capture`, of a header whose counts are right: full, no Tip, and no more Founded rows than the floor
+unfoldable pub shutBy : Header → Bool
+shutBy h =
+    leb (h .limits .«tier_rows») (h .rows) && (leb (h .rows) (h .founded) && leb (h .founded) (h .limits .«founded_floor»))
+
 unfoldable pub mayCapture : Header → Bool
-mayCapture h =
-    ltb (h .attempts) (h .limits .«founded_attempts»)
-    && (ltb 0 (h .remaining .0)
-    && (ltb (h .rows) (h .limits .«tier_rows») || ltb (h .limits .«founded_floor») (h .rows)))
+mayCapture h = ltb (h .attempts) (h .limits .«founded_attempts») && (ltb 0 (h .remaining .0) && not (shutBy h))
 
 abbrev pub answerOf : Retained → OfferAnswer
 answerOf Stopped = offer-answer.Stopped

@@ -10,7 +10,7 @@ ghost use Rattle.model.specs.Refusals.{ledgerIn};
 ghost use Rattle.slots.specs.Layout.{rowOf};
 ghost use Rattle.contents.specs.Lent.{lent};
 ghost use Rattle.contents.specs.Accepted.{Accepted};
-ghost use Rattle.offer.specs.Ends.{offerEnd, unofferedBy, answerOf, capturedBy, mayCapture};
+ghost use Rattle.offer.specs.Ends.{offerEnd, unofferedBy, answerOf, capturedBy, shutBy, mayCapture};
 use contents::accept;
 use meter::Account;
 use meter::Meter;
@@ -18,6 +18,8 @@ use model::Header;
 use model::OfferAnswer;
 use model::OfferResult;
 use model::SLOT_WORDS;
+use model::Source;
+use model::source_of;
 use retain::Retained;
 use retain::Retention;
 use retain::retain;
@@ -37,7 +39,21 @@ fn unoffered(answer: OfferAnswer, header: Header, work: Meter) -> OfferResult
     }
 }
 
-// Whether a ledger takes offers: it has attempts and reads left, and room or more rows than the floor protects.
+// Whether being full shuts a ledger: it holds no Tip, and no more Founded rows than the floor protects.
+fn full_shuts(header: Header) -> bool
+    ensures { λ r. ⌜ r ≡ shutBy header ⌝ }
+{
+    let limits = header.limits;
+    if header.rows < limits.tier_rows {
+        return false;
+    }
+    if header.founded < header.rows {
+        return false;
+    }
+    header.founded <= limits.founded_floor
+}
+
+// Whether a ledger takes offers: it has attempts and reads left, and being full does not shut it.
 fn can_capture(header: Header) -> bool
     ensures { λ r. ⌜ r ≡ mayCapture header ⌝ }
 {
@@ -48,10 +64,7 @@ fn can_capture(header: Header) -> bool
     if header.remaining.0 == 0 {
         return false;
     }
-    if header.rows < limits.tier_rows {
-        return true;
-    }
-    limits.founded_floor < header.rows
+    !full_shuts(header)
 }
 
 // The answer of an offer whose retention is over.
@@ -92,13 +105,15 @@ fn capture_row(
     slots: &mut [u64],
     postings: &mut [u64],
     p: &mut [u64],
+    source: Source,
     work: Meter,
 ) -> OfferResult
     requires { ⌜ Accepted header (now slots) (now postings) ⌝ ∗ ⌜ Proposed (now p) ⌝
         ∗ ⌜ isRow (header .limits .atoms) (rowIn (now p)) ≡ true ⌝
         ∗ ⌜ header .attempts < header .limits .«founded_attempts» ⌝ ∗ ⌜ header .limits .«founded_outputs» ≤ maxOutputs ⌝ }
     ensures { λ r. ⌜ offerEnd r (now (slots .exit)) (now (postings .exit))
-        ≡ capture (ledgerIn (lent header (now (slots .entry)) (now (postings .entry)))) (rowIn (now (p .entry))) work .seen ⌝ }
+        ≡ capture (ledgerIn (lent header (now (slots .entry)) (now (postings .entry)))) source (rowIn (now (p .entry))) work
+        .seen ⌝ }
 {
     let limits = header.limits;
     let remaining = header.remaining;
@@ -114,6 +129,7 @@ fn capture_row(
         p,
         limits.founded_outputs,
         0,
+        source,
         account,
         work,
     );
@@ -127,31 +143,35 @@ fn capture(
     postings: &mut [u64],
     conditions: &[u64],
     outputs: &[u64],
+    source: Source,
     work: Meter,
 ) -> OfferResult
     requires { ⌜ Accepted header (now slots) (now postings) ⌝ ∗ ⌜ header .attempts < header .limits .«founded_attempts» ⌝
         ∗ ⌜ limitsOk (header .limits) ≡ true ⌝ ∗ ⌜ fitsOffer (header .limits) (rowOf (now conditions) (now outputs)) ≡ true ⌝ }
     ensures { λ r. ⌜ offerEnd r (now (slots .exit)) (now (postings .exit))
         ≡ capture (ledgerIn (lent header (now (slots .entry)) (now (postings .entry))))
-        (rowOf (now (conditions .entry)) (now (outputs .entry))) work .seen ⌝ }
+        source (rowOf (now (conditions .entry)) (now (outputs .entry))) work .seen ⌝ }
 {
     let mut p = [0u64; SLOT_WORDS];
     propose(conditions, outputs, &mut p);
-    capture_row(header, slots, postings, &mut p, work)
+    capture_row(header, slots, postings, &mut p, source, work)
 }
 
-// Offers a row to a ledger: refused by 1, 2, 3, or by 4 if the lists are no row over its atoms within its limits; Shut if it takes no
-// offers; Stopped or Declined where a read is not paid; Subsumed, and the position of the row that says as much; or Added, and its own.
+// Offers a row to a ledger: refused by 1, 2, 3, by 4 if the lists are no row over its atoms within its limits, or by 11 if the source is
+// neither 0, Founded, nor 1, a Tip; Shut if it takes no offers; Stopped or Declined where a read is not paid; Subsumed, and the position
+// of the row that says as much; or Added, and its own.
 pub fn offer(
     header: Header,
     slots: &mut [u64],
     postings: &mut [u64],
     conditions: &[u64],
     outputs: &[u64],
+    source: u64,
     work: Meter,
 ) -> OfferResult
     ensures { λ r. ⌜ offerEnd r (now (slots .exit)) (now (postings .exit))
-        ≡ offer (lent header (now (slots .entry)) (now (postings .entry))) (now (conditions .entry)) (now (outputs .entry)) work .seen ⌝ }
+        ≡ offer (lent header (now (slots .entry)) (now (postings .entry))) (now (conditions .entry)) (now (outputs .entry)) source work
+        .seen ⌝ }
 {
     let n = accept(header, slots, postings, true);
     if n != 0 {
@@ -167,8 +187,19 @@ pub fn offer(
     ) {
         return unoffered(OfferAnswer::Refused(4), header, work);
     }
+    if 1 < source {
+        return unoffered(OfferAnswer::Refused(11), header, work);
+    }
     if !can_capture(header) {
         return unoffered(OfferAnswer::Shut, header, work);
     }
-    capture(header, slots, postings, conditions, outputs, work)
+    capture(
+        header,
+        slots,
+        postings,
+        conditions,
+        outputs,
+        source_of(source),
+        work,
+    )
 }

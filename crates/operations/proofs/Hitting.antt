@@ -20,6 +20,7 @@ use Rattle.slots.proofs.Holding.{stands-tier}
 use Rattle.contents.specs.Lent.{lent}
 use Rattle.contents.specs.Accepted.{Accepted}
 use Rattle.model.proofs.Slots.{entries-length}
+use Rattle.model.proofs.Entries.{founded-hit}
 use Rattle.contents.proofs.Accepting.{accepted}
 use Rattle.tier.specs.Tier.{hitWords}
 use Rattle.tier.proofs.Buffer.{hit-held}
@@ -43,6 +44,7 @@ module _ (h : Header) (slots postings : List ℕ) (p : ℕ) where
       ∙ ap (λ (t : ℕ). slotsOf t (adjust hitEntry p es)) (stands-tier (a .stands)))
       (a .stands .filing ∙ ap (filed (h .limits .«tier_rows») (h .stale)) (sym (map-adjust hitEntry (λ e. e .row) p es (λ e. refl))))
       ∙ lent-entries h (adjust hitEntry p es) (length-adjust hitEntry p es ∙ entries-length (h .rows) slots)
+      (founded-hit p es ∙ sym (a .founded))
 
   pub hit-done : refusal (accepts (lent h slots postings) true ((positionOk (lent h slots postings) p, 5) ∷ [])) ≡ none → p < h .rows →
       hitEnd (record { answer = Done; header = h; ticks = 0 }) (hitWords p slots) postings ≡ hit (lent h slots postings) p

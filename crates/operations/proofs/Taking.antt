@@ -24,7 +24,7 @@ module _ (h : Header) (slots postings : List ℕ) where
   unfolding withFull ledgerIn
   full-lent a =
       stands-lent (withFull h true) slots postings
-      (stands-under h (withFull h true) slots postings postings (a .stands) refl refl (a .stands .filing))
+      (stands-under h (withFull h true) slots postings postings (a .stands) refl refl (a .stands .filing)) (a .founded)
 
   pub begin-refused : (n : ℕ) → refusal (accepts (lent h slots postings) true []) ≡ some n →
       beginEnd (record { answer = Refused n; header = h; ticks = 0 }) slots postings ≡ begin (lent h slots postings)

@@ -51,6 +51,7 @@ fn fresh_header(limits: LearningLimits, number: u64) -> Header
         evicted: 0,
         deliveries: 0,
         seeded: 0,
+        founded: 0,
         stale: true,
         full: true,
         mark: Mark::Unmarked,

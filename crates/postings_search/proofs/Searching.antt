@@ -27,6 +27,7 @@ use Rattle.postings.specs.Searching.{SearchEnd, searchEnd, foundEnd}
 use Rattle.postings.proofs.Keeping.{candidates-keep}
 use Rattle.postings_search.specs.Ends.{candidatesEnd}
 use Rattle.slots.proofs.Holding.{stands-few}
+use Rattle.model.proofs.Priority.Quiet.{search-ok}
 use Rattle.postings_search.proofs.Standing.{lent-under}
 
 some-none : (n : ℕ) → some n ≡ none → ⊥
@@ -82,7 +83,7 @@ module _ (h : Header) (slots words answer : List ℕ) where
         let after : lent (r .header) slots ps ≡ lentOf (record { header = x .header; entries = entriesIn (h .rows) slots }) =
         lent-under h slots words (accepted h slots words (others h answer) [] e) (r .header) ps
         (ap (λ (y : Header). y .limits) same ∙ k .0) (ap (λ (y : Header). y .rows) same ∙ k .1)
-        p
+        (ap (λ (y : Header). y .founded) same ∙ search-ok (ledgerIn s) atoms m .counted) p
         ∙ ap (λ (y : Header). lentOf (record { header = y; entries = entriesIn (h .rows) slots })) same in
         ap (λ (n : ℕ). candidatesEnd (record { answer = r .answer; header = r .header; meter = r .meter; ticks = n }) slots ps found) u
         ∙ ap₂ ended q after ∙ sym (rw (e, candidates))

@@ -322,10 +322,10 @@ fn input_buffer() -> [u8; 524288]
 }
 
 // The slots of 67 rows.
-fn slots_buffer() -> [u64; 11256]
-    ensures { λ r. ⌜ 11256 ≡ length r ⌝ }
+fn slots_buffer() -> [u64; 11323]
+    ensures { λ r. ⌜ 11323 ≡ length r ⌝ }
 {
-    [0; 11256]
+    [0; 11323]
 }
 
 // The postings of 67 rows.
@@ -336,8 +336,8 @@ fn postings_buffer() -> [u64; 5360]
 }
 
 // Any other slice: the slots of six rows at most.
-fn list_buffer() -> [u64; 1008]
-    ensures { λ r. ⌜ 1008 ≡ length r ⌝ }
+fn list_buffer() -> [u64; 1014]
+    ensures { λ r. ⌜ 1014 ≡ length r ⌝ }
 {
-    [0; 1008]
+    [0; 1014]
 }

@@ -7,13 +7,15 @@ use Prim.Native.Nat.{ℕ, suc, _+_, _-_, _≤_, _<_}
 use native.Mathlib.Nat.{add-zero, zero-add, add-suc, suc-add}
 use native.Mathlib.Omega.{arith}
 use lib.Dec.{ltb, leb}
-use borrow.Author.Tests.{lt-ltb, le-ltb, le-leb, lt-leb}
+use borrow.Author.Tests.{lt-ltb, le-ltb}
 use lib.ListN.{length}
 use Rattle.lists.specs.Lists.{select, range, first}
 use Rattle.words.specs.Region.{has, nextFrom}
 use Rattle.model.specs.declared.LearningLimits.{LearningLimits}
-use Rattle.model.specs.Records.{Entry}
-use Rattle.model.specs.Retention.{Examined, anyReplaced, placeOf, victim}
+use Rattle.model.specs.Records.{Entry, foundedRows}
+use Rattle.model.specs.Retention.{Examined, anyReplaced, placeOf, protects, victimAmong, victim}
+use Rattle.model.proofs.Entries.{victim-held}
+use Rattle.tier.specs.Tier.{atOr}
 use Rattle.retain_compare.specs.Passes.{examinedBy}
 use Rattle.retain.specs.declared.Room.{Room}
 use Rattle.retain.specs.declared.Room.the-variants.{After, First, Victim, Protected}
@@ -67,22 +69,21 @@ module _ (ws : List ℕ) (es : List Entry) where
       go false h = refl
 
   -- ---- the room by its tests
-  abbrev tests : Bool → Bool → Bool → Room
-  tests a b c =
+  abbrev tests : Bool → Bool → Option ℕ → Room
+  tests a b x =
       elim a as (λ k. Room) [
         | true ↦ First (placeOf ks)
         | false ↦ elim b as (λ k. Room) [
           | true ↦ After
-          | false ↦ elim c as (λ k. Room) [ true ↦ Protected | false ↦ Victim (victim es) ]
+          | false ↦ elim x as (λ k. Room) [ none ↦ Protected | some v ↦ Victim v ]
         ]
       ]
 
   module _ (l : LearningLimits) (rows : ℕ) (e : length es ≡ rows) where
-    tested : {a b c : Bool} → anyReplaced ks ≡ a → ltb (length es) (l .«tier_rows») ≡ b → leb (length es) (l .«founded_floor») ≡ c
-        → tests a b c ≡ roomOf l es ks
+    tested : {a b : Bool} {x : Option ℕ} → anyReplaced ks ≡ a → ltb (length es) (l .«tier_rows») ≡ b → victim l es ≡ x
+        → tests a b x ≡ roomOf l es ks
     unfolding roomOf
-    tested {a} {b} p q s =
-        ap (tests a b) (sym s) ∙ ap₂ (λ (x y : Bool). tests x y (leb (length es) (l .«founded_floor»))) (sym p) (sym q)
+    tested {a} {b} p q s = ap (tests a b) (sym s) ∙ ap₂ (λ (x y : Bool). tests x y (victim l es)) (sym p) (sym q)
 
     pub room-first : (t : ℕ) → some t ≡ nextFrom rows ws 0 → First t ≡ roomOf l es ks
     room-first t q = let a = next-some rows t e q in ap First (a .1) ∙ tested (a .0) refl refl
@@ -91,14 +92,26 @@ module _ (ws : List ℕ) (es : List Entry) where
       pub room-after : rows < l .«tier_rows» → After ≡ roomOf l es ks
       room-after h = tested (next-none rows e q) (lt-ltb (length es) (l .«tier_rows») (omega arith)) refl
 
-      module _ (h : l .«tier_rows» ≤ rows) where
-        pub room-protected : rows ≤ l .«founded_floor» → Protected ≡ roomOf l es ks
-        room-protected k =
-            tested (next-none rows e q) (le-ltb (length es) (l .«tier_rows») (omega arith))
-            (le-leb (length es) (l .«founded_floor») (omega arith))
+      -- the tier is full, and `at` is what was found
+      module _ (h : l .«tier_rows» ≤ rows) (founded at : ℕ) (c : founded ≡ foundedRows es)
+          (w : at ≡ atOr rows (victimAmong (leb founded (l .«founded_floor»)) es)) where
+        found : at ≡ atOr rows (victim l es)
+        unfolding victim protects
+        found = w ∙ ap (λ (n : ℕ). atOr rows (victimAmong (leb n (l .«founded_floor»)) es)) c
 
-        pub room-victim : l .«founded_floor» < rows → (v : ℕ) → v ≡ victim es → Victim v ≡ roomOf l es ks
-        room-victim k v s =
-            ap Victim s
-            ∙ tested (next-none rows e q) (le-ltb (length es) (l .«tier_rows») (omega arith))
-            (lt-leb (length es) (l .«founded_floor») (omega arith))
+        by-victim : (x : Option ℕ) → victim l es ≡ x → tests false false x ≡ roomOf l es ks
+        by-victim x s = tested (next-none rows e q) (le-ltb (length es) (l .«tier_rows») (omega arith)) s
+
+        pub room-protected : at ≡ rows → Protected ≡ roomOf l es ks
+        room-protected k = go (victim l es) refl
+          where
+            go : (x : Option ℕ) → victim l es ≡ x → Protected ≡ roomOf l es ks
+            go none s = by-victim none s
+            go (some v) s = let m = victim-held l es v s in let n = found ∙ ap (atOr rows) s in absurd (omega arith)
+
+        pub room-victim : (at ≡ rows → ⊥) → Victim at ≡ roomOf l es ks
+        room-victim k = go (victim l es) refl
+          where
+            go : (x : Option ℕ) → victim l es ≡ x → Victim at ≡ roomOf l es ks
+            go none s = absurd (k (found ∙ ap (atOr rows) s))
+            go (some v) s = ap Victim (found ∙ ap (atOr rows) s) ∙ by-victim (some v) s

@@ -11,6 +11,7 @@ use Rattle.words.specs.Literal.{codeBits}
 use Rattle.words.specs.Region.{maxAtoms}
 use Rattle.words.proofs.Widths.{most-coded}
 use Rattle.model.specs.declared.Header.{Header}
+use Rattle.model.specs.declared.Source.{Source}
 use Rattle.model.specs.Records.{Row, Entry, isRow, saturatingAdd}
 use Rattle.model.specs.Slots.{slotsOf, rowIn, entriesIn}
 use Rattle.model.specs.Postings.{filed}
@@ -36,28 +37,29 @@ stale-zero h slots postings a s =
     a .stands .filing ∙ ap (λ (b : Bool). filed (h .limits .«tier_rows») b (rowsIn (h .rows) slots)) s
     ∙ ap (λ (n : ℕ). pad n []) (sym (a .wide)) ∙ pad-zeroed postings
 
-new-row : (h : Header) (p : Row) (hits born : ℕ) → born ≡ saturatingAdd (h .born) 1 → newEntry p hits born ≡ newborn h p hits
+new-row : (h : Header) (p : Row) (hits born : ℕ) (source : Source) → born ≡ saturatingAdd (h .born) 1
+    → newEntry p hits born source ≡ newborn h p hits source
 unfolding newborn
-new-row h p hits born e = ap (newEntry p hits) e
+new-row h p hits born source e = ap (λ (n : ℕ). newEntry p hits n source) e
 
 module _ (h : Header) (slots postings : List ℕ) (a : Accepted h slots postings) (room : Room) (p : List ℕ)
-    (k : Placing room (h .rows) slots p) (f : ℕ → Bool) (hits born : ℕ) where
+    (k : Placing room (h .rows) slots p) (f : ℕ → Bool) (hits born : ℕ) (source : Source) where
   abbrev es : List Entry
   es = entriesIn (h .rows) slots
 
   abbrev new : List Entry
-  new = placedBy room f es (newEntry (rowIn p) hits born)
+  new = placedBy room f es (newEntry (rowIn p) hits born source)
 
   new-rows : AllRows maxAtoms new
   new-rows =
-      all-placed (λ x. isRow maxAtoms (x .row)) room f es (newEntry (rowIn p) hits born)
+      all-placed (λ x. isRow maxAtoms (x .row)) room f es (newEntry (rowIn p) hits born source)
       (held-rows (h .rows) slots (k .held)) (k .row)
 
   new-few : length new ≤ tierOf slots
   new-few =
       let c = entries-length (h .rows) slots in
       let w = held-few (h .rows) slots (k .held) in
-      placed-fit room f es (newEntry (rowIn p) hits born) (tierOf slots) (omega arith)
+      placed-fit room f es (newEntry (rowIn p) hits born source) (tierOf slots) (omega arith)
       (subst (λ (n : ℕ). Fits room n (tierOf slots)) (sym c) (k .fits))
 
   module _ (after : List ℕ) (n : ℕ) (w : after ≡ slotsOf (tierOf slots) new) (c : n ≡ length new) where
@@ -69,10 +71,10 @@ module _ (h : Header) (slots postings : List ℕ) (a : Accepted h slots postings
     pub new-tier : tierOf after ≡ h .limits .«tier_rows»
     new-tier = ap tierOf w ∙ tier-laid maxAtoms (tierOf slots) new new-rows new-few ∙ stands-tier (a .stands)
 
-    pub new-entries : born ≡ saturatingAdd (h .born) 1 → entriesIn n after ≡ placedBy room f es (newborn h (rowIn p) hits)
+    pub new-entries : born ≡ saturatingAdd (h .born) 1 → entriesIn n after ≡ placedBy room f es (newborn h (rowIn p) hits source)
     new-entries b =
         ap (entriesIn n) w ∙ entries-laid maxAtoms (tierOf slots) new new-rows new-few n c
-        ∙ ap (placedBy room f es) (new-row h (rowIn p) hits born b)
+        ∙ ap (placedBy room f es) (new-row h (rowIn p) hits born source b)
 
 -- the place that was found for a proposal over the ledger's atoms
 pub placing-of : (h : Header) (slots postings p : List ℕ) (f : ℕ → Bool) (room : Room) → Accepted h slots postings → Proposed p
@@ -84,7 +86,7 @@ placing-of h slots postings p f room a o r e =
       held = held h slots postings a;
       fits = subst (λ (n : ℕ). Fits room n (tierOf slots)) (entries-length (h .rows) slots)
           (subst (λ (n : ℕ). Fits room (length es) n) (sym (stands-tier (a .stands)))
-          (room-fits (h .limits) f es room (a .some) (room-told (h .limits) es (examinedBy f 0 es) e)));
+          (room-fits (h .limits) f es room (room-told (h .limits) es (examinedBy f 0 es) e)));
       proposed = o;
       row = row-more (h .limits .atoms) maxAtoms (rowIn p) (a .atoms) r;
     }

@@ -3,6 +3,7 @@ use mathlib.Core.Path.{_≡_, sym, ap, ap₂, _∙_, subst}
 use mathlib.Core.Logic.{inl, inr}
 use mathlib.Core.Bool.{Bool, true, false, _&&_, _||_, or-true}
 use mathlib.Core.List.{List, [], _∷_}
+use mathlib.Core.Option.{none, some}
 use Prim.Native.Nat.{ℕ, suc, _≤_}
 use native.Mathlib.Omega.{arith}
 use lib.Dec.{leb}
@@ -41,7 +42,7 @@ unfolding placementBy roomy limitsOf
 roomy-places es ks q =
     ap (λ (b : Bool). elim b as (λ k. Placement) [
       | true ↦ placing ks q
-      | false ↦ elim (leb (length es) 0) as (λ k. Placement) [ true ↦ protected | false ↦ evicting (victim es) q ]
+      | false ↦ elim (victim (roomy es) es) as (λ k. Placement) [ none ↦ protected | some v ↦ evicting v q ]
     ])
     (ap (λ (b : Bool). anyReplaced ks || b) (lt-ltb (length es) (suc (length es)) (omega arith)) ∙ or-true (anyReplaced ks))
 

@@ -2,13 +2,14 @@
 use mathlib.Core.Path.{_≡_, refl, sym, ap, _∙_, subst}
 use mathlib.Core.Bool.{Bool, true, false, _||_, true≢false, false≢true}
 use mathlib.Core.List.{List, [], _∷_, _++_}
-use Prim.Native.Nat.{ℕ, suc, _+_, _≤_, _<_}
+use mathlib.Core.Option.{Option, none, some}
+use Prim.Native.Nat.{ℕ, suc, _+_, _<_}
 use native.Mathlib.Nat.{add-zero, zero-add, add-suc, suc-add}
 use native.Mathlib.Numerals.{add-one}
 use native.Mathlib.Omega.{arith}
-use lib.Dec.{ltb, leb}
+use lib.Dec.{ltb}
 use lib.ListN.{length, set, take, drop}
-use borrow.Author.Tests.{ltb-true, ltb-false}
+use borrow.Author.Tests.{ltb-true}
 use Rattle.model.specs.declared.LearningLimits.{LearningLimits}
 use Rattle.model.specs.Records.{Row, Entry}
 use Rattle.model.specs.Rows.{prepareReads}
@@ -26,52 +27,49 @@ use Rattle.retain.specs.Places.{roomOf, verdictOf, roomReads, placedBy, 
 pub placementBy-room : (l : LearningLimits) (es : List Entry) (ks : List Examined) (p : Row)
     → placementBy l es ks p ≡ verdictOf (roomOf l es ks) ks p
 unfolding placementBy roomOf
-placementBy-room l es ks p = go (anyReplaced ks) (ltb (length es) (l .«tier_rows»)) (leb (length es) (l .«founded_floor»))
+placementBy-room l es ks p = go (anyReplaced ks) (ltb (length es) (l .«tier_rows»)) (victim l es)
   where
-    go : (a b c : Bool)
+    go : (a b : Bool) (x : Option ℕ)
         → (elim (a || b) as (λ k. Placement) [
           | true ↦ placing ks p
-          | false ↦ elim c as (λ k. Placement) [
-            | true ↦ protected
-            | false ↦ evicting (victim es) p
-          ]
+          | false ↦ elim x as (λ k. Placement) [ none ↦ protected | some v ↦ evicting v p ]
         ])
         ≡ verdictOf (elim a as (λ k. Room) [
           | true ↦ First (placeOf ks)
           | false ↦ elim b as (λ k. Room) [
             | true ↦ After
-            | false ↦ elim c as (λ k. Room) [ true ↦ Protected | false ↦ Victim (victim es) ]
+            | false ↦ elim x as (λ k. Room) [ none ↦ Protected | some v ↦ Victim v ]
           ]
         ]) ks p
-    go true b c = refl
-    go false true c = refl
-    go false false true = refl
-    go false false false = refl
+    go true b x = refl
+    go false true x = refl
+    go false false none = refl
+    go false false (some v) = refl
 
 -- ---- what it tells
 abbrev pub Told : LearningLimits → List Entry → List Examined → Room → Type 0
 Told l es ks After = (anyReplaced ks ≡ false) × (length es < l .«tier_rows»)
 Told l es ks (First t) = (anyReplaced ks ≡ true) × (t ≡ placeOf ks)
-Told l es ks (Victim v) = (v ≡ victim es) × (l .«tier_rows» ≤ length es)
+Told l es ks (Victim v) = victim l es ≡ some v
 Told l es ks Protected = Unit {0}
 
 pub room-told : (l : LearningLimits) (es : List Entry) (ks : List Examined) {r : Room} → r ≡ roomOf l es ks → Told l es ks r
 unfolding roomOf
 room-told l es ks {r} e =
-    subst (Told l es ks) (sym e) (go (anyReplaced ks) (ltb (length es) (l .«tier_rows»)) (leb (length es) (l .«founded_floor»)) refl refl)
+    subst (Told l es ks) (sym e) (go (anyReplaced ks) (ltb (length es) (l .«tier_rows»)) (victim l es) refl refl refl)
   where
-    go : (a b c : Bool) → anyReplaced ks ≡ a → ltb (length es) (l .«tier_rows») ≡ b
+    go : (a b : Bool) (x : Option ℕ) → anyReplaced ks ≡ a → ltb (length es) (l .«tier_rows») ≡ b → victim l es ≡ x
         → Told l es ks (elim a as (λ k. Room) [
           | true ↦ First (placeOf ks)
           | false ↦ elim b as (λ k. Room) [
             | true ↦ After
-            | false ↦ elim c as (λ k. Room) [ true ↦ Protected | false ↦ Victim (victim es) ]
+            | false ↦ elim x as (λ k. Room) [ none ↦ Protected | some v ↦ Victim v ]
           ]
         ])
-    go true b c p q = (p, refl)
-    go false true c p q = (p, ltb-true (length es) (l .«tier_rows») q)
-    go false false true p q = tt
-    go false false false p q = (refl, ltb-false (length es) (l .«tier_rows») q)
+    go true b x p q r = (p, refl)
+    go false true x p q r = (p, ltb-true (length es) (l .«tier_rows») q)
+    go false false none p q r = tt
+    go false false (some v) p q r = r
 
 -- ---- the place is there
 first-inside : (f : ℕ → Bool) (i : ℕ) (es : List Entry) → anyReplaced (examinedBy f i es) ≡ true → placeOf (examinedBy f i es) < length es
@@ -85,12 +83,12 @@ first-inside f i (x ∷ es) e = go (f i) e (first-inside f (suc i) es)
     go true e h = omega arith
     go false e h = let k = h e in omega arith
 
-pub room-fits : (l : LearningLimits) (f : ℕ → Bool) (es : List Entry) (r : Room) → 1 ≤ l .«tier_rows» → Told l es (examinedBy f 0 es) r
+pub room-fits : (l : LearningLimits) (f : ℕ → Bool) (es : List Entry) (r : Room) → Told l es (examinedBy f 0 es) r
     → Fits r (length es) (l .«tier_rows»)
-room-fits l f es After s t = t .1
-room-fits l f es (First t) s k = subst (λ (n : ℕ). n < length es) (sym (k .1)) (first-inside f 0 es (k .0))
-room-fits l f es (Victim v) s k = let h = k .1 in subst (λ (n : ℕ). n < length es) (sym (k .0)) (victim-held es (omega arith))
-room-fits l f es Protected s t = tt
+room-fits l f es After t = t .1
+room-fits l f es (First t) k = subst (λ (n : ℕ). n < length es) (sym (k .1)) (first-inside f 0 es (k .0))
+room-fits l f es (Victim v) k = victim-held l es v k
+room-fits l f es Protected t = tt
 
 -- ---- the rows after it
 kept-by : (f : ℕ → Bool) (i : ℕ) (es : List Entry) → kept (examinedBy f i es) ≡ keptBy f i es

@@ -8,6 +8,7 @@ use lib.ListN.{length, set, length-append, length-set}
 use Rattle.words.specs.Literal.{codeBits}
 use Rattle.words.specs.Region.{maxAtoms}
 use Rattle.words.proofs.Widths.{most-coded}
+use Rattle.model.specs.declared.Source.{Source}
 use Rattle.model.specs.Records.{Entry, isRow, slotWords}
 use Rattle.model.specs.Slots.{slotsOf, rowIn, entriesIn}
 use Rattle.slots.specs.Layout.{tierOf, Held}
@@ -36,9 +37,9 @@ module _ (room : Room) (rows : ℕ) (slots p : List ℕ) (k : Placing room rows 
   pub first-before : (t : ℕ) → room ≡ First t → t < rows
   first-before t e = fits-as e
 
-  module _ (f : ℕ → Bool) (hits born : ℕ) where
+  module _ (f : ℕ → Bool) (hits born : ℕ) (source : Source) where
     abbrev e : Entry
-    e = newEntry (rowIn p) hits born
+    e = newEntry (rowIn p) hits born source
 
     abbrev es : List Entry
     es = entriesIn rows slots

@@ -7,6 +7,7 @@ use Rattle.meter.specs.declared.Account.{Account}
 use Rattle.meter.specs.declared.Read.{Read}
 use Rattle.meter.specs.declared.Read.the-variants as read
 use Rattle.meter.specs.Meter.{pay}
+use Rattle.model.specs.declared.Source.{Source}
 use Rattle.model.specs.Records.{Row, Ledger}
 use Rattle.model.specs.Retention.{Placement, Outcome, Stops, Declines, Subsumes, Adds, Retention as Kept, untaken, carryOut, placementBy}
 use Rattle.model.specs.Retention.{placeReads}
@@ -39,15 +40,15 @@ abbrev pub endOf : Kept → End
 endOf d = record { outcome = d .outcome; ledger = lentOf (d .ledger); account = d .account; meter = d .meter }
 
 -- a verdict, once its reads are paid or not
-abbrev pub carried : Ledger → Row → ℕ → Placement → Read → Kept
-carried l t hits v (read.Paid a m) = carryOut l t hits a m v
-carried l t hits v (read.Declined a m) = untaken Declines l a m
-carried l t hits v (read.Stopped a m) = untaken Stops l a m
+abbrev pub carried : Ledger → Row → ℕ → Source → Placement → Read → Kept
+carried l t hits source v (read.Paid a m) = carryOut l t hits source a m v
+carried l t hits source v (read.Declined a m) = untaken Declines l a m
+carried l t hits source v (read.Stopped a m) = untaken Stops l a m
 
 -- the verdict over a lent ledger whose replaced positions are marked, once its reads are paid or not
 abbrev pub judgeOf : Lent → (ℕ → Bool) → Row → Placement
 judgeOf s f p = placementBy (s .header .limits) (ledgerIn s .entries) (examinedBy f 0 (ledgerIn s .entries)) p
 
-abbrev pub admitEnd : Lent → (ℕ → Bool) → Row → ℕ → Account → Meter → End
-admitEnd s f p hits a m =
-    endOf (carried (ledgerIn s) p hits (judgeOf s f p) (pay (placeReads (ledgerIn s .entries) (judgeOf s f p)) a m))
+abbrev pub admitEnd : Lent → (ℕ → Bool) → Row → ℕ → Source → Account → Meter → End
+admitEnd s f p hits source a m =
+    endOf (carried (ledgerIn s) p hits source (judgeOf s f p) (pay (placeReads (ledgerIn s .entries) (judgeOf s f p)) a m))

@@ -1,11 +1,13 @@
 -- 01, module 5, Retention: 'nothing replaced and tier full: the victim has the least (hits, born) ..
--- none if rows <= founded_floor: Declined.
--- A new row is written into its own slot alone; with replaced rows, the first is overwritten and the later ones close up.' Assumes nothing.
+-- none if rows <= founded_floor: Declined'; with 02, Eight, none if the floor protects the Founded rows and there is no Tip.
+-- 'A new row is written into its own slot alone; with replaced rows, the first is overwritten and the later ones close up.' Assumes
+-- nothing.
 use mathlib.Core.Bool.{Bool, true, false}
 use mathlib.Core.List.{List, [], _∷_, _++_}
+use mathlib.Core.Option.{none, some}
 use mathlib.Core.Path.{_≡_}
 use Prim.Native.Nat.{ℕ, _+_, _*_, _<_}
-use lib.Dec.{ltb, leb}
+use lib.Dec.{ltb}
 use lib.ListN.{length, set, take, drop}
 use Rattle.words.specs.Region.{maxAtoms}
 use Rattle.model.specs.declared.LearningLimits.{LearningLimits}
@@ -25,7 +27,7 @@ roomOf l es ks =
       | true ↦ First (placeOf ks)
       | false ↦ elim (ltb (length es) (l .«tier_rows»)) [
         | true ↦ After
-        | false ↦ elim (leb (length es) (l .«founded_floor»)) [ true ↦ Protected | false ↦ Victim (victim es) ]
+        | false ↦ elim (victim l es) [ none ↦ Protected | some v ↦ Victim v ]
       ]
     ]
 

@@ -9,7 +9,7 @@ ghost use Rattle.model.specs.Slots.{slotsOf, rowIn, entriesIn};
 ghost use Rattle.meter.specs.Meter.{pay};
 ghost use Rattle.meter.specs.declared.Read.the-variants.{Paid};
 ghost use Rattle.model.specs.Rows.{prepareReads};
-ghost use Rattle.model.specs.Records.{isRow, maxOutputs, slotWords, postingWords};
+ghost use Rattle.model.specs.Records.{isRow, maxOutputs, slotWords, postingWords, foundedRows};
 ghost use Rattle.model.specs.Retention.{newborn, settle as settleOf, retain as retainOf};
 ghost use Rattle.model.specs.Refusals.{ledgerIn, lentOf};
 ghost use Rattle.contents.specs.Lent.{lent};
@@ -29,6 +29,7 @@ use model::Header;
 use model::LearningLimits;
 use model::MAX_ROWS;
 use model::SLOT_WORDS;
+use model::Source;
 use retain_compare::Compared;
 use retain_compare::compare;
 use row_write::Form;
@@ -46,10 +47,16 @@ pub enum Room {
     Protected,
 }
 
-// The place for a proposal: that of the first row marked; else after all rows while the tier is not full; else the victim's, or none while
-// there are no more rows than the floor.
-fn find_room(limits: LearningLimits, slots: &[u64], rows: usize, replaced: &[u64]) -> Room
-    requires { ⌜ Held maxAtoms rows (now slots) ⌝ ∗ ⌜ 1 ≤ limits .«tier_rows» ⌝ }
+// The place for a proposal: that of the first row marked; else after all rows while the tier is not full; else the victim's, or none where
+// the floor guards the Founded rows and there is no Tip.
+fn find_room(
+    limits: LearningLimits,
+    founded: u64,
+    slots: &[u64],
+    rows: usize,
+    replaced: &[u64],
+) -> Room
+    requires { ⌜ Held maxAtoms rows (now slots) ⌝ ∗ ⌜ founded ≡ foundedRows (entriesIn rows (now slots)) ⌝ }
     ensures { λ r. ⌜ r
         ≡ roomOf limits (entriesIn rows (now (slots .entry)))
         (examinedBy (has (now (replaced .entry))) 0 (entriesIn rows (now (slots .entry)))) ⌝ }
@@ -60,10 +67,11 @@ fn find_room(limits: LearningLimits, slots: &[u64], rows: usize, replaced: &[u64
             if (rows as u64) < limits.tier_rows {
                 return Room::After;
             }
-            if rows as u64 <= limits.founded_floor {
+            let victim = tier::victim(slots, rows, founded <= limits.founded_floor);
+            if victim == rows {
                 return Room::Protected;
             }
-            Room::Victim(tier::victim(slots, rows))
+            Room::Victim(victim)
         }
     }
 }
@@ -80,7 +88,7 @@ fn clear_postings(stale: bool, postings: &mut [u64])
 }
 
 // The ledger after a row was added to the rows in the slots: one more born, the epoch one more or, after as many additions as the tier has
-// places, 0 with all hits halved; the postings zeroed, stale and full true.
+// places, 0 with all hits halved; the Founded rows counted anew; the postings zeroed, stale and full true.
 fn settle(
     header: Header,
     rows: u64,
@@ -96,6 +104,7 @@ fn settle(
 {
     clear_postings(header.stale, postings);
     let born = model::saturating_add(header.born, 1);
+    let founded = tier::count_founded(slots, rows as usize);
     if header.limits.tier_rows - 1 <= header.epoch {
         tier::halve(slots, rows as usize);
         return Header {
@@ -103,6 +112,7 @@ fn settle(
             born,
             epoch: 0,
             evicted,
+            founded,
             stale: true,
             full: true,
             ..header
@@ -113,6 +123,7 @@ fn settle(
         born,
         epoch: header.epoch + 1,
         evicted,
+        founded,
         stale: true,
         full: true,
         ..header
@@ -120,13 +131,21 @@ fn settle(
 }
 
 // The slot at a position becomes that of the proposal's row, and no other word changes.
-fn write_at(slots: &mut [u64], position: usize, p: &[u64], form: Form, hits: u64, born: u64)
+fn write_at(
+    slots: &mut [u64],
+    position: usize,
+    p: &[u64],
+    form: Form,
+    hits: u64,
+    born: u64,
+    source: Source,
+)
     requires { ⌜ slotWords * position + slotWords ≤ length (now slots) ⌝ ∗ ⌜ Proposed (now p) ⌝ ∗ ⌜ form ≡ formOf (rowIn (now p)) ⌝ }
-    ensures { λ _. ⌜ now (slots .exit) ≡ slotPut position (newEntry (rowIn (now (p .entry))) hits born) (now (slots .entry)) ⌝ }
+    ensures { λ _. ⌜ now (slots .exit) ≡ slotPut position (newEntry (rowIn (now (p .entry))) hits born source) (now (slots .entry)) ⌝ }
 {
     let a = SLOT_WORDS * position;
     let e = a + SLOT_WORDS;
-    write_row(&mut slots[a..e], p, form, hits, born);
+    write_row(&mut slots[a..e], p, form, hits, born, source);
 }
 
 // The proposal's row at its place: after all rows; over the first row that it replaces, the later ones that stay closed up;
@@ -141,26 +160,28 @@ fn place(
     form: Form,
     hits: u64,
     born: u64,
+    source: Source,
 ) -> usize
     requires { ⌜ Placing room rows (now slots) (now p) ⌝ ∗ ⌜ form ≡ formOf (rowIn (now p)) ⌝ }
     ensures { λ r. ⌜ (now (slots .exit)
         ≡ slotsOf (tierOf (now (slots .entry)))
-        (placedBy room (has (now (replaced .entry))) (entriesIn rows (now (slots .entry))) (newEntry (rowIn (now (p .entry))) hits born)))
+        (placedBy room (has (now (replaced .entry))) (entriesIn rows (now (slots .entry)))
+        (newEntry (rowIn (now (p .entry))) hits born source)))
         × (r
         ≡ length (placedBy room (has (now (replaced .entry))) (entriesIn rows (now (slots .entry)))
-        (newEntry (rowIn (now (p .entry))) hits born))) ⌝ }
+        (newEntry (rowIn (now (p .entry))) hits born source))) ⌝ }
 {
     match room {
         Room::After => {
-            write_at(slots, rows, p, form, hits, born);
+            write_at(slots, rows, p, form, hits, born, source);
             rows + 1
         }
         Room::First(first) => {
-            write_at(slots, first, p, form, hits, born);
+            write_at(slots, first, p, form, hits, born, source);
             tier::close_up(slots, rows, first, replaced)
         }
         Room::Victim(victim) => {
-            write_at(slots, victim, p, form, hits, born);
+            write_at(slots, victim, p, form, hits, born, source);
             rows
         }
         Room::Protected => rows,
@@ -267,13 +288,14 @@ fn add(
     p: &[u64],
     form: Form,
     hits: u64,
+    source: Source,
 ) -> Header
     requires { ⌜ Accepted header (now slots) (now postings) ⌝ ∗ ⌜ Placing room (header .rows) (now slots) (now p) ⌝
         ∗ ⌜ form ≡ formOf (rowIn (now p)) ⌝ }
     ensures { λ r. ⌜ lent r (now (slots .exit)) (now (postings .exit))
         ≡ lentOf (settleOf header
         (placedBy room (has (now (replaced .entry))) (entriesIn (header .rows) (now (slots .entry)))
-        (newborn header (rowIn (now (p .entry))) hits)) (evictedBy room (header .evicted))) ⌝ }
+        (newborn header (rowIn (now (p .entry))) hits source)) (evictedBy room (header .evicted))) ⌝ }
 {
     let born = model::saturating_add(header.born, 1);
     let rows = place(
@@ -285,6 +307,7 @@ fn add(
         form,
         hits,
         born,
+        source,
     );
     let evicted = evictions(room, header.evicted);
     settle(header, rows as u64, evicted, slots, postings)
@@ -299,6 +322,7 @@ fn admit(
     replaced: &[u64],
     p: &[u64],
     hits: u64,
+    source: Source,
     account: Account,
     work: Meter,
 ) -> Retention
@@ -306,9 +330,15 @@ fn admit(
         ∗ ⌜ isRow (header .limits .atoms) (rowIn (now p)) ≡ true ⌝ }
     ensures { λ r. ⌜ retainEnd r (now (slots .exit)) (now (postings .exit))
         ≡ admitEnd (lent header (now (slots .entry)) (now (postings .entry))) (has (now (replaced .entry))) (rowIn (now (p .entry))) hits
-        account work ⌝ }
+        source account work ⌝ }
 {
-    let room = find_room(header.limits, slots, header.rows as usize, replaced);
+    let room = find_room(
+        header.limits,
+        header.founded,
+        slots,
+        header.rows as usize,
+        replaced,
+    );
     if let Room::Protected = room {
         return Retention {
             answer: Retained::Declined,
@@ -323,7 +353,17 @@ fn admit(
     match read {
         Read::Paid(account, meter) => {
             let at = position(room, header.rows);
-            let after = add(header, slots, postings, room, replaced, p, form, hits);
+            let after = add(
+                header,
+                slots,
+                postings,
+                room,
+                replaced,
+                p,
+                form,
+                hits,
+                source,
+            );
             Retention {
                 answer: Retained::Added(at),
                 header: after,
@@ -356,14 +396,15 @@ pub fn retain(
     p: &mut [u64],
     most: u64,
     hits: u64,
+    source: Source,
     account: Account,
     work: Meter,
 ) -> Retention
     requires { ⌜ Accepted header (now slots) (now postings) ⌝ ∗ ⌜ Proposed (now p) ⌝
         ∗ ⌜ isRow (header .limits .atoms) (rowIn (now p)) ≡ true ⌝ ∗ ⌜ most ≤ maxOutputs ⌝ }
     ensures { λ r. ⌜ retainEnd r (now (slots .exit)) (now (postings .exit))
-        ≡ endOf (retainOf (ledgerIn (lent header (now (slots .entry)) (now (postings .entry)))) most hits (rowIn (now (p .entry)))
-        (Paid account work)) ⌝ }
+        ≡ endOf (retainOf (ledgerIn (lent header (now (slots .entry)) (now (postings .entry)))) most hits source
+        (rowIn (now (p .entry))) (Paid account work)) ⌝ }
 {
     let mut replaced = [0u64; (MAX_ROWS / WORD_BITS) as usize];
     let beside = compare(
@@ -379,7 +420,17 @@ pub fn retain(
     let account = beside.account;
     let meter = beside.meter;
     match compared {
-        Compared::Replaces => admit(header, slots, postings, &replaced, p, hits, account, meter),
+        Compared::Replaces => admit(
+            header,
+            slots,
+            postings,
+            &replaced,
+            p,
+            hits,
+            source,
+            account,
+            meter,
+        ),
         Compared::Subsumed(at) => Retention {
             answer: Retained::Subsumed(at),
             header,

@@ -11,43 +11,46 @@ use Rattle.lists.specs.Lists.{all}
 use Rattle.lists.proofs.Bools.{T-true, T-of, and-both, and-yes}
 use Rattle.words.specs.Bit.{maxWord}
 use Rattle.model.specs.declared.Header.{Header}
-use Rattle.model.specs.Records.{Entry, Ledger, limitsOk, rowsOf, withRows}
+use Rattle.model.specs.Records.{Entry, Ledger, limitsOk, rowsOf, withCounts, foundedRows}
 use Rattle.model.specs.Slots.{entriesIn}
-use Rattle.model.specs.Refusals.{Lent, refusal, accepts, entryOk, countsOk, contentsOk, wordsOk, ledgerIn, lentOf}
+use Rattle.model.specs.Refusals.{Lent, refusal, accepts, entryOk, countsOk, foundedOk, contentsOk, wordsOk, ledgerIn}
+use Rattle.model.specs.Refusals.{lentOf}
 use Rattle.model.proofs.Accepting.{encoded-accepted, entries-valid}
 use Rattle.model.proofs.Slots.{decode-encode, entries-length}
 use Rattle.model.proofs.Priority.Steps.{accepted}
 use Rattle.retain_keep.specs.Good.{Good, recounted}
 
 pub recounted-lent : (l : Ledger) → lentOf (recounted l) ≡ lentOf l
-unfolding lentOf withRows rowsOf
+unfolding lentOf withCounts rowsOf
 recounted-lent l = refl
 
 module _ (l : Ledger) (g : Good l) where
   abbrev h : Header
   h = l .header
 
-  counts : countsOk (withRows h (length (l .entries))) ≡ true
-  unfolding countsOk withRows
+  counts : countsOk (withCounts h (length (l .entries)) (foundedRows (l .entries))) ≡ true
+  unfolding countsOk withCounts
   counts =
       and-yes (leb (length (l .entries)) (h .limits .«tier_rows»)) _ (le-leb (length (l .entries)) (h .limits .«tier_rows») (g .few))
       (and-yes (ltb (h .epoch) (h .limits .«tier_rows»)) _ (lt-ltb (h .epoch) (h .limits .«tier_rows») (g .epoch))
       (le-leb (h .attempts) (h .limits .«founded_attempts») (g .attempts)))
 
-  fit : T (all (entryOk (withRows h (length (l .entries)))) (l .entries))
-  unfolding entryOk withRows
+  fit : T (all (entryOk (withCounts h (length (l .entries)) (foundedRows (l .entries)))) (l .entries))
+  unfolding entryOk withCounts
   fit = T-of {x = all (entryOk h) (l .entries)} (g .entries)
 
   pub good-accepted : refusal (accepts (lentOf l) true []) ≡ none
   unfolding lentOf
   good-accepted =
-      encoded-accepted l (T-of {x = limitsOk (h .limits)} (g .limits)) (T-of {x = countsOk (withRows h (length (l .entries)))} counts) fit
+      encoded-accepted l (T-of {x = limitsOk (h .limits)} (g .limits))
+      (T-of {x = countsOk (withCounts h (length (l .entries)) (foundedRows (l .entries)))} counts) fit
 
   pub good-read : ledgerIn (lentOf l) ≡ recounted l
-  unfolding ledgerIn lentOf withRows
+  unfolding ledgerIn lentOf withCounts
   good-read =
-      ap (λ (es : List Entry). record { header = withRows h (length (l .entries)); entries = es })
-      (decode-encode (h .limits .«tier_rows») (l .entries) (entries-valid (withRows h (length (l .entries))) (l .entries) fit))
+      ap (λ (es : List Entry). record { header = withCounts h (length (l .entries)) (foundedRows (l .entries)); entries = es })
+      (decode-encode (h .limits .«tier_rows») (l .entries) (entries-valid (withCounts h (length (l .entries)) (foundedRows (l .entries)))
+      (l .entries) fit))
 
 -- what is accepted is good
 pub accepted-good : (s : Lent) (o : Bool) (ts : List (Bool × ℕ)) → refusal (accepts s o ts) ≡ none → s .header .born ≤ maxWord
@@ -69,5 +72,5 @@ accepted-good s o ts e b =
       epoch = ltb-true (h .epoch) (h .limits .«tier_rows») (y .0);
       attempts = leb-true (h .attempts) (h .limits .«founded_attempts») (y .1);
       born = b;
-      entries = and-both (all (entryOk h) es) _ (c .1) .0;
+      entries = and-both (all (entryOk h) es) _ (and-both (foundedOk h (ledgerIn s)) _ (c .1) .1) .0;
     }

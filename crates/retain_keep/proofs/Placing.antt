@@ -2,9 +2,10 @@
 use mathlib.Core.Path.{_≡_, refl, sym, ap, _∙_, subst}
 use mathlib.Core.Bool.{Bool, true, false, _||_, false≢true}
 use mathlib.Core.List.{List, [], _∷_, map}
+use mathlib.Core.Option.{Option, none, some}
 use Prim.Native.Nat.{ℕ, zero, suc, _≤_}
 use native.Mathlib.Omega.{arith}
-use lib.Dec.{ltb, leb}
+use lib.Dec.{ltb}
 use lib.ListN.{length, set, length-map}
 use borrow.Author.Tests.{ltb-true}
 use Rattle.lists.specs.Lists.{all}
@@ -58,19 +59,19 @@ PlacementHas l es protected = Unit {0}
 PlacementHas l es (placing ks p) = (entriesOf ks ≡ es) × (anyReplaced ks || ltb (length es) (l .«tier_rows»)) ≡ true
 PlacementHas l es (evicting v p) = Unit {0}
 
-judge-has : (l : LearningLimits) (es : List Entry) (ks : List Examined) (p : Row) (b c : Bool)
+judge-has : (l : LearningLimits) (es : List Entry) (ks : List Examined) (p : Row) (b : Bool) (x : Option ℕ)
     → (anyReplaced ks || ltb (length es) (l .«tier_rows»)) ≡ b → entriesOf ks ≡ es
-    → PlacementHas l es (elim b [ true ↦ placing ks p | false ↦ elim c [ true ↦ protected | false ↦ evicting (victim es) p ] ])
-judge-has l es ks p true c e h = (h, e)
-judge-has l es ks p false true e h = tt
-judge-has l es ks p false false e h = tt
+    → PlacementHas l es (elim b [ true ↦ placing ks p | false ↦ elim x [ none ↦ protected | some v ↦ evicting v p ] ])
+judge-has l es ks p true x e h = (h, e)
+judge-has l es ks p false none e h = tt
+judge-has l es ks p false (some v) e h = tt
 
 placementAfter-has : (l : LearningLimits) (es : List Entry) (x : Pass) → PassHas es x → PlacementHas l es (placementAfter l es x)
 unfolding placementAfter placementBy
 placementAfter-has l es (found n) h = tt
 placementAfter-has l es (passed ks p) h =
     judge-has l es (secondPass p ks) p (anyReplaced (secondPass p ks) || ltb (length es) (l .«tier_rows»))
-    (leb (length es) (l .«founded_floor»)) refl (second-has p ks ∙ h)
+    (victim l es) refl (second-has p ks ∙ h)
 
 pub placement-has : (l : LearningLimits) (m : ℕ) (t : Row) (es : List Entry) → PlacementHas l es (placement l m t es)
 unfolding placement

@@ -17,6 +17,7 @@ use Rattle.meter.specs.declared.Read.{Read}
 use Rattle.meter.specs.declared.Read.the-variants.{Paid, Declined, Stopped}
 use Rattle.meter.specs.Meter.{andThen, pay}
 use Rattle.model.specs.declared.Header.{Header}
+use Rattle.model.specs.declared.Source.{Source}
 use Rattle.model.specs.Records.{Row, Entry, Ledger, isRow, saturatingAdd, withHits, withAdded, maxOutputs}
 use Rattle.model.specs.Retention.{halved, settle, newborn, Placement, subsumed, protected, placing, evicting, placement}
 use Rattle.model.specs.Retention.{untaken, carryOut, retained, retainReads, retain}
@@ -60,9 +61,10 @@ saturatingAdd-some : (b : ℕ) → 1 ≤ saturatingAdd b 1
 unfolding saturatingAdd
 saturatingAdd-some b = omega arith
 
-newborn-ok : (h : Header) (n : ℕ) (p : Row) (hits : ℕ) → isRow n p ≡ true → ok n (saturatingAdd (h .born) 1) (newborn h p hits) ≡ true
+newborn-ok : (h : Header) (n : ℕ) (p : Row) (hits : ℕ) (source : Source) → isRow n p ≡ true
+    → ok n (saturatingAdd (h .born) 1) (newborn h p hits source) ≡ true
 unfolding newborn
-newborn-ok h n p hits e =
+newborn-ok h n p hits source e =
     and-yes (isRow n p) _ e
     (and-yes (leb 1 (saturatingAdd (h .born) 1)) _ (le-leb 1 (saturatingAdd (h .born) 1) (saturatingAdd-some (h .born)))
     (le-leb (saturatingAdd (h .born) 1) (saturatingAdd (h .born) 1) (omega arith)))
@@ -109,22 +111,22 @@ older l g =
     all-more (l .header .limits .atoms) (l .header .born) (saturatingAdd (l .header .born) 1) (l .entries)
     (saturatingAdd-more (l .header .born) (g .born)) (g .entries)
 
-carry-good : (l : Ledger) (t : Row) (hits : ℕ) (a : Account) (m : Meter) (v : Placement) → Good l
+carry-good : (l : Ledger) (t : Row) (hits : ℕ) (source : Source) (a : Account) (m : Meter) (v : Placement) → Good l
     → PlacementKeeps (λ r. isRow (l .header .limits .atoms) r ≡ true) v → PlacementHas (l .header .limits) (l .entries) v
-    → Good (carryOut l t hits a m v .ledger)
+    → Good (carryOut l t hits source a m v .ledger)
 unfolding carryOut untaken
-carry-good l t hits a m (subsumed p) g k s = g
-carry-good l t hits a m protected g k s = g
-carry-good l t hits a m (placing ks p) g k s =
+carry-good l t hits source a m (subsumed p) g k s = g
+carry-good l t hits source a m protected g k s = g
+carry-good l t hits source a m (placing ks p) g k s =
     let h = l .header in
-    settle-good l _ (h .evicted) g (place-fits (h .limits .«tier_rows») (newborn h p hits) (l .entries) ks (s .0) (s .1) (g .few))
-    (placed-all (ok (h .limits .atoms) (saturatingAdd (h .born) 1)) (newborn h p hits) (l .entries) ks (s .0)
-    (newborn-ok h (h .limits .atoms) p hits k) (older l g))
-carry-good l t hits a m (evicting v p) g k s =
+    settle-good l _ (h .evicted) g (place-fits (h .limits .«tier_rows») (newborn h p hits source) (l .entries) ks (s .0) (s .1) (g .few))
+    (placed-all (ok (h .limits .atoms) (saturatingAdd (h .born) 1)) (newborn h p hits source) (l .entries) ks (s .0)
+    (newborn-ok h (h .limits .atoms) p hits source k) (older l g))
+carry-good l t hits source a m (evicting v p) g k s =
     let h = l .header in
-    settle-good l _ _ g (subst (λ (n : ℕ). n ≤ h .limits .«tier_rows») (sym (length-set (l .entries) v (newborn h p hits))) (g .few))
-    (set-all (ok (h .limits .atoms) (saturatingAdd (h .born) 1)) v (newborn h p hits) (l .entries)
-    (newborn-ok h (h .limits .atoms) p hits k) (older l g))
+    settle-good l _ _ g (subst (λ (n : ℕ). n ≤ h .limits .«tier_rows») (sym (length-set (l .entries) v (newborn h p hits source))) (g .few))
+    (set-all (ok (h .limits .atoms) (saturatingAdd (h .born) 1)) v (newborn h p hits source) (l .entries)
+    (newborn-ok h (h .limits .atoms) p hits source k) (older l g))
 
 -- the rows of entries that pass the test
 all-rows : (n b : ℕ) (es : List Entry) → all (ok n b) es ≡ true → (r : Row) → In r (rowsE es) → isRow n r ≡ true
@@ -134,11 +136,12 @@ all-rows n b (e ∷ es) h r (inl q) =
     subst (λ (x : Row). isRow n x ≡ true) (sym q) (and-both (isRow n (e .row)) _ (and-both (ok n b e) _ h .0) .0)
 all-rows n b (e ∷ es) h r (inr m) = all-rows n b es (and-both (ok n b e) _ h .1) r m
 
-module _ (l : Ledger) (most hits : ℕ) (t : Row) (k : most ≤ maxOutputs) (g : Good l) (r : isRow (l .header .limits .atoms) t ≡ true) where
-  retained-good : (run : Read) → Good (retained l most hits t run .ledger)
+module _ (l : Ledger) (most hits : ℕ) (source : Source) (t : Row) (k : most ≤ maxOutputs) (g : Good l)
+    (r : isRow (l .header .limits .atoms) t ≡ true) where
+  retained-good : (run : Read) → Good (retained l most hits source t run .ledger)
   unfolding retained untaken entryOk
   retained-good (Paid a m) =
-      carry-good l t hits a m (placement (l .header .limits) most t (l .entries)) g
+      carry-good l t hits source a m (placement (l .header .limits) most t (l .entries)) g
       (placement-keeps (λ x. isRow (l .header .limits .atoms) x ≡ true) most (λ x p j. grown-row (l .header .limits .atoms) most x p k j)
       (l .header .limits) t (l .entries) r
       (all-rows (l .header .limits .atoms) (l .header .born) (l .entries) (g .entries)))
@@ -146,6 +149,6 @@ module _ (l : Ledger) (most hits : ℕ) (t : Row) (k : most ≤ maxOutputs) (g :
   retained-good (Declined a m) = g
   retained-good (Stopped a m) = g
 
-  pub retain-good : (run : Read) → Good (retain l most hits t run .ledger)
+  pub retain-good : (run : Read) → Good (retain l most hits source t run .ledger)
   unfolding retain
   retain-good run = retained-good (andThen run (pay (retainReads (l .header .limits) most t (l .entries))))

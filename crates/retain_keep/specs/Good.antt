@@ -5,7 +5,7 @@ use Prim.Native.Nat.{_≤_, _<_}
 use lib.ListN.{length}
 use Rattle.lists.specs.Lists.{all}
 use Rattle.words.specs.Bit.{maxWord}
-use Rattle.model.specs.Records.{Ledger, limitsOk, withRows}
+use Rattle.model.specs.Records.{Ledger, limitsOk, withCounts, foundedRows}
 use Rattle.model.specs.Refusals.{entryOk}
 
 -- its words, laid out and filed, are accepted
@@ -17,6 +17,7 @@ pub record Good (l : Ledger) : Type 0 where
   pub born : l .header .born ≤ maxWord
   pub entries : all (entryOk (l .header)) (l .entries) ≡ true
 
--- the same ledger, its header's count of rows made right
+-- the same ledger, its header's counts made right
 abbrev pub recounted : Ledger → Ledger
-recounted l = record { header = withRows (l .header) (length (l .entries)); entries = l .entries }
+recounted l = record
+    { header = withCounts (l .header) (length (l .entries)) (foundedRows (l .entries)); entries = l .entries }

@@ -63,8 +63,8 @@ pub put-proposal : (cs os : List ℕ) → put bodyAt (cs ++ os) (blankOf (length
 unfolding proposal pad
 put-proposal cs os =
     let k : ℕ = length (cs ++ os) in
-    let n : bodyWords - k ≡ slotWords - suc (suc (suc (suc (suc (suc (suc (suc k))))))) = omega arith in
-    ap (λ (z : List ℕ). length cs ∷ length os ∷ 0 ∷ 0 ∷ 0 ∷ 0 ∷ 0 ∷ 0 ∷ ((cs ++ os) ++ z)) (drop-zeros bodyWords k ∙ ap zeros n)
+    let n : suc bodyWords - k ≡ slotWords - suc (suc (suc (suc (suc (suc (suc (suc k))))))) = omega arith in
+    ap (λ (z : List ℕ). length cs ∷ length os ∷ 0 ∷ 0 ∷ 0 ∷ 0 ∷ 0 ∷ 0 ∷ ((cs ++ os) ++ z)) (drop-zeros (suc bodyWords) k ∙ ap zeros n)
 
 -- the counts, then the conditions, then the outputs
 module _ (ws x cs os : List ℕ) (at : ℕ) (few : length cs ≤ maxConditions) (many : length os ≤ maxOutputs)

@@ -1,20 +1,21 @@
 -- The body of a row in either form, and the slot around it. Assumes nothing.
 use mathlib.Core.Path.{_≡_, sym, ap, ap₂, _∙_}
 use mathlib.Core.Bool.{true, false}
-use mathlib.Core.List.{List, _++_, append-assoc, append-nil}
+use mathlib.Core.List.{List, [], _∷_, _++_, append-assoc}
 use Prim.Native.Nat.{ℕ, suc, _+_, _-_, _*_, _≤_, zero-le}
 use native.Mathlib.Omega.{arith}
-use lib.ListN.{length, getD, take, drop, replicate, length-append, length-replicate, length-drop, drop-of-length-le}
-use lib.Seq.{take-at, drop-at, drop-drop}
+use lib.ListN.{length, getD, set, take, drop, replicate, length-append, length-replicate, length-drop, drop-of-length-le}
+use lib.Seq.{length-take-le, take-at, drop-at, drop-drop, drop-cons, set-at}
 use borrow.Rule.Slice.PartMut.{putMid, midOf}
 use Rattle.lists.specs.Lists.{pad, zeroed}
-use Rattle.lists.proofs.Pads.{put-at, rest-part, drop-zeros, take-zeros}
+use Rattle.lists.proofs.Pads.{put-at, shorter-pad, length-pad, drop-zeros, take-zeros}
 use Rattle.lists.proofs.Bools.{T-of}
-use Rattle.model.specs.Records.{Row, slotWords, conditionsAt, outputsAt, bodyAt, groupLength, bodyWords}
+use Rattle.model.specs.declared.Source.{Source}
+use Rattle.model.specs.Records.{Row, slotWords, conditionsAt, outputsAt, bodyAt, groupLength, bodyWords, sourceAt, sourceWord}
 use Rattle.model.specs.Rows.{groups, groupCount, packed}
 use Rattle.model.specs.Slots.{body, flag, slotOf, rowIn, packs}
 use Rattle.model.proofs.Packing.{words-length}
-use Rattle.model.proofs.Slots.{packed-lt, body-scalar, body-packed}
+use Rattle.model.proofs.Slots.{packed-lt, body-scalar, body-packed, body-fits}
 use Rattle.slots.specs.Layout.{proposal}
 use Rattle.row_propose.specs.Proposed.{Proposed}
 use Rattle.row_propose.proofs.Proposing.{proposed-long, proposed-conditions, proposed-outputs}
@@ -24,29 +25,38 @@ use Rattle.row_write.proofs.Forms.{form-packed}
 use Rattle.row_write.proofs.Proposal.{first-part, second-part}
 
 -- ---- the body, once it is known whether the row is packed
--- scalar: what stands in a proposal from the body on
-pub scalar-body : (r : Row) → packed r ≡ false → drop bodyAt (proposal r) ≡ pad bodyWords (body r)
+-- scalar: what stands in a proposal from the body on, up to the source
+proposal-rest : (r : Row) → drop bodyAt (proposal r) ≡ pad (suc bodyWords) (r .conditions ++ r .outputs)
 unfolding proposal pad
-scalar-body r e =
+proposal-rest r =
     let k : ℕ = length (r .conditions ++ r .outputs) in
-    let n : slotWords - suc (suc (suc (suc (suc (suc (suc (suc k))))))) ≡ bodyWords - k = omega arith in
-    ap (λ (m : ℕ). (r .conditions ++ r .outputs) ++ replicate m 0) n ∙ ap (pad bodyWords) (sym (body-scalar r e))
+    let n : slotWords - suc (suc (suc (suc (suc (suc (suc (suc k))))))) ≡ suc bodyWords - k = omega arith in
+    ap (λ (m : ℕ). (r .conditions ++ r .outputs) ++ replicate m 0) n
 
-pub scalar-long : (ws : List ℕ) → Proposed ws → length (take (length ws - bodyAt) (drop bodyAt ws)) ≡ bodyWords
-scalar-long ws p = ap length (rest-part ws bodyAt) ∙ length-drop bodyAt ws ∙ ap (λ (n : ℕ). n - bodyAt) (proposed-long ws p)
+pub scalar-long : (ws : List ℕ) → Proposed ws → length (take (sourceAt - bodyAt) (drop bodyAt ws)) ≡ bodyWords
+scalar-long ws p = length-take-le bodyWords (drop bodyAt ws) (omega (arith, length-drop bodyAt ws, proposed-long ws p))
 
 pub scalar-words : (ws : List ℕ) → Proposed ws → packed (rowIn ws) ≡ false
-    → take (length ws - bodyAt) (drop bodyAt ws) ≡ pad bodyWords (body (rowIn ws))
-scalar-words ws p e = rest-part ws bodyAt ∙ ap (drop bodyAt) (sym (p .form)) ∙ scalar-body (rowIn ws) e
+    → take (sourceAt - bodyAt) (drop bodyAt ws) ≡ pad bodyWords (body (rowIn ws))
+scalar-words ws p e =
+    let r : Row = rowIn ws in
+    let few = p .few in
+    let many = p .many in
+    ap (λ (l : List ℕ). take bodyWords (drop bodyAt l)) (sym (p .form)) ∙ ap (take bodyWords) (proposal-rest r)
+    ∙ shorter-pad bodyWords (suc bodyWords) (r .conditions ++ r .outputs) (omega (arith, length-append (r .conditions) (r .outputs)))
+    (omega arith)
+    ∙ ap (pad bodyWords) (sym (body-scalar r e))
 
--- ---- the slot: eight words, then the body
-pub new-slot : (r : Row) (hits born : ℕ)
-    → headOf (length (r .conditions)) (length (r .outputs)) (formOf r) hits born ++ pad bodyWords (body r) ≡ slotOf (newEntry r hits born)
+-- ---- the slot: eight words, then the body, then the source
+new-slot : (r : Row) (hits born : ℕ) (source : Source)
+    → headOf (length (r .conditions)) (length (r .outputs)) (formOf r) hits born ++ (pad bodyWords (body r) ++ (sourceWord source ∷ []))
+    ≡ slotOf (newEntry r hits born source)
 unfolding slotOf pad flag
-new-slot r hits born =
+new-slot r hits born source =
     let k : ℕ = length (body r) in
-    let n : bodyWords - k ≡ slotWords - suc (suc (suc (suc (suc (suc (suc (suc k))))))) = omega arith in
-    ap (λ (m : ℕ). headOf (length (r .conditions)) (length (r .outputs)) (formOf r) hits born ++ (body r ++ replicate m 0)) n
+    let n : bodyWords - k ≡ sourceAt - suc (suc (suc (suc (suc (suc (suc (suc k))))))) = omega arith in
+    ap (λ (m : ℕ). headOf (length (r .conditions)) (length (r .outputs)) (formOf r) hits born
+    ++ ((body r ++ replicate m 0) ++ (sourceWord source ∷ []))) n
 
 -- ---- a buffer whose two parts, up to a and from a to e, were lent in turn
 one-part : (a : ℕ) (ws xs : List ℕ) → putMid 0 (a - 0) ws xs ≡ xs ++ drop a ws
@@ -168,18 +178,51 @@ module _ {ws z : List ℕ} {form : Form} (p : Proposed ws) (q : Placed (rowIn ws
         ∙ ap (pad bodyWords) (sym (body-packed r (q .chosen)))
 
 -- ---- the whole slot
-pub slot-words : (slot h b ws : List ℕ) (form : Form) (hits born : ℕ) → length slot ≡ slotWords → Proposed ws → form ≡ formOf (rowIn ws)
-    → h ≡ headOf (getD ws conditionsAt 0) (getD ws outputsAt 0) form hits born → b ≡ pad bodyWords (body (rowIn ws))
-    → putMid bodyAt bodyWords (putMid 0 bodyAt slot h) b ≡ slotOf (newEntry (rowIn ws) hits born)
-slot-words slot h b ws form hits born l p f eh eb =
-    let r : Row = rowIn ws in
-    let le : bodyAt ≤ slotWords = omega arith in
-    let s : length slot ≤ slotWords = omega arith in
-    two-parts bodyAt slotWords slot h b (ap length eh) le
-    ∙ ap (λ (q : List ℕ). h ++ (b ++ q)) (drop-of-length-le slot s)
-    ∙ ap₂ (λ (u v : List ℕ). u ++ v)
-    (eh
-    ∙ ap₂ (λ (i j : ℕ). headOf i j form hits born) (proposed-conditions ws p) (proposed-outputs ws p)
-    ∙ ap (λ (g : Form). headOf (length (r .conditions)) (length (r .outputs)) g hits born) f)
-    (append-nil b ∙ eb)
-    ∙ new-slot r hits born
+module _ (slot h b ws : List ℕ) (form : Form) (hits born w : ℕ) (source : Source) (l : length slot ≡ slotWords) (p : Proposed ws)
+    (f : form ≡ formOf (rowIn ws)) (eh : h ≡ headOf (getD ws conditionsAt 0) (getD ws outputsAt 0) form hits born)
+    (eb : b ≡ pad bodyWords (body (rowIn ws))) (ew : w ≡ sourceWord source) where
+  abbrev row : Row
+  row = rowIn ws
+
+  body-long : length b ≡ bodyWords
+  body-long = ap length eb ∙ length-pad bodyWords (body row) (body-fits row (p .few) (p .many))
+
+  -- the word that was the source's
+  abbrev old : ℕ
+  old = getD slot sourceAt 0
+
+  both-long : length (h ++ b) ≡ sourceAt
+  both-long = let a = length-append h b in let x = ap length eh in let y = body-long in omega arith
+
+  last-word : drop sourceAt slot ≡ old ∷ []
+  last-word =
+      drop-cons slot sourceAt 0 (omega arith)
+      ∙ ap (λ (z : List ℕ). old ∷ z) (let n : length slot ≤ suc sourceAt = omega arith in drop-of-length-le slot n)
+
+  abbrev written : List ℕ
+  written = set (putMid bodyAt bodyWords (putMid 0 bodyAt slot h) b) sourceAt w
+
+  words-are : written ≡ (h ++ b) ++ (w ∷ [])
+  words-are =
+      let le : bodyAt ≤ sourceAt = omega arith in
+      ap (λ (z : List ℕ). set z sourceAt w)
+      (two-parts bodyAt sourceAt slot h b (ap length eh) le ∙ ap (λ (q : List ℕ). h ++ (b ++ q)) last-word
+      ∙ sym (append-assoc h b (old ∷ [])))
+      ∙ set-at (h ++ b) old [] w sourceAt both-long
+
+  pub slot-long : length written ≡ length slot
+  slot-long =
+      let a : length written ≡ length ((h ++ b) ++ (w ∷ [])) = ap length words-are in
+      let c = length-append (h ++ b) (w ∷ []) in
+      let d = both-long in
+      omega arith
+
+  pub slot-words : written ≡ slotOf (newEntry row hits born source)
+  slot-words =
+      words-are ∙ append-assoc h b (w ∷ [])
+      ∙ ap₂ (λ (u v : List ℕ). u ++ v)
+      (eh
+      ∙ ap₂ (λ (i j : ℕ). headOf i j form hits born) (proposed-conditions ws p) (proposed-outputs ws p)
+      ∙ ap (λ (g : Form). headOf (length (row .conditions)) (length (row .outputs)) g hits born) f)
+      (ap₂ (λ (u : List ℕ) (v : ℕ). u ++ (v ∷ [])) eb ew)
+      ∙ new-slot row hits born source

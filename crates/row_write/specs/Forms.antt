@@ -4,6 +4,7 @@ use mathlib.Core.List.{List, [], _∷_}
 use Prim.Native.Nat.{ℕ, _*_}
 use lib.Dec.{eqb}
 use lib.ListN.{length}
+use Rattle.model.specs.declared.Source.{Source}
 use Rattle.model.specs.Records.{Row, Entry}
 use Rattle.model.specs.Rows.{groups, groupCount}
 use Rattle.model.specs.Slots.{ifPacked}
@@ -14,8 +15,8 @@ abbrev pub formOf : Row → Form
 formOf r = record { total = ifPacked r (groupCount r); first = ifPacked r (length (groups (r .conditions))) }
 
 -- a row that is new in its slot: not shared, not delivered
-abbrev pub newEntry : Row → ℕ → ℕ → Entry
-newEntry r hits born = record { row = r; hits = hits; unshared = 0; born = born; delivered = false }
+abbrev pub newEntry : Row → ℕ → ℕ → Source → Entry
+newEntry r hits born source = record { row = r; hits = hits; unshared = 0; born = born; delivered = false; source = source }
 
 -- the words before the body
 abbrev pub headOf : ℕ → ℕ → Form → ℕ → ℕ → List ℕ

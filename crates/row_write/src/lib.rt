@@ -27,9 +27,11 @@ use model::DELIVERED_AT;
 use model::GROUP_WORDS;
 use model::HITS_AT;
 use model::OUTPUTS_AT;
-use model::SLOT_WORDS;
+use model::SOURCE_AT;
+use model::Source;
 use model::TOTAL_GROUPS_AT;
 use model::UNSHARED_AT;
+use model::source_word;
 use words::WORD_BITS;
 use words::locate;
 
@@ -192,7 +194,7 @@ fn write_scalar(body: &mut [u64], p: &[u64])
     requires { ⌜ length (now body) ≡ bodyWords ⌝ ∗ ⌜ Proposed (now p) ⌝ ∗ ⌜ packed (rowIn (now p)) ≡ false ⌝ }
     ensures { λ _. ⌜ now (body .exit) ≡ pad bodyWords (bodyOf (rowIn (now (p .entry)))) ⌝ }
 {
-    copy(&p[BODY_AT..], body);
+    copy(&p[BODY_AT..SOURCE_AT], body);
 }
 
 // The body of a packed row: the groups of its conditions, those of its outputs, and zeros.
@@ -237,10 +239,11 @@ fn write_head(head: &mut [u64], conditions: u64, outputs: u64, form: Form, hits:
     head[DELIVERED_AT] = 0;
 }
 
-// The slot, whatever it held, becomes that of the proposal's row with so many hits, born then, not shared and not delivered.
-pub fn write_row(slot: &mut [u64], p: &[u64], form: Form, hits: u64, born: u64)
+// The slot, whatever it held, becomes that of the proposal's row with so many hits, born then, not shared and not delivered, and with its
+// source.
+pub fn write_row(slot: &mut [u64], p: &[u64], form: Form, hits: u64, born: u64, source: Source)
     requires { ⌜ length (now slot) ≡ slotWords ⌝ ∗ ⌜ Proposed (now p) ⌝ ∗ ⌜ form ≡ formOf (rowIn (now p)) ⌝ }
-    ensures { λ _. ⌜ now (slot .exit) ≡ slotOf (newEntry (rowIn (now (p .entry))) hits born) ⌝ }
+    ensures { λ _. ⌜ now (slot .exit) ≡ slotOf (newEntry (rowIn (now (p .entry))) hits born source) ⌝ }
 {
     write_head(
         &mut slot[0..BODY_AT],
@@ -250,5 +253,6 @@ pub fn write_row(slot: &mut [u64], p: &[u64], form: Form, hits: u64, born: u64)
         hits,
         born,
     );
-    write_body(&mut slot[BODY_AT..SLOT_WORDS], p, form);
+    write_body(&mut slot[BODY_AT..SOURCE_AT], p, form);
+    slot[SOURCE_AT] = source_word(source);
 }

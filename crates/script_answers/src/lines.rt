@@ -7,6 +7,7 @@ use text::put_fields;
 use text::put_text;
 use text::word;
 use wire::ANSWER_WORDS;
+use wire::HEAD_FOUNDED_AT;
 use wire::HEAD_MARK_BORN_AT;
 use wire::HEAD_MARK_NUMBER_AT;
 use wire::HEAD_MARKED_AT;
@@ -44,6 +45,15 @@ pub fn put_case(out: &mut [u8], at: usize, names: &[u8], answer: &[u64; ANSWER_W
     put_text(out, at, &names[from..to])
 }
 
+// The seed mark of a header.
+fn put_mark(out: &mut [u8], at: usize, marked: u64, number: u64, born: u64) -> usize {
+    if marked == 0 {
+        return put_text(out, at, b" mark=none");
+    }
+    let at = put_field(out, at, b" mark=", number);
+    put_field(out, at, b":", born)
+}
+
 // The header, but for its limits and its number.
 pub fn put_head(out: &mut [u8], at: usize, head: &[u64]) -> usize {
     if head.len() < HEADER_WORDS {
@@ -52,11 +62,14 @@ pub fn put_head(out: &mut [u8], at: usize, head: &[u64]) -> usize {
     let names =
         b"rows= born= epoch= attempts= remaining= sharing= evicted= deliveries= seeded= stale= full=";
     let at = put_fields(out, at, names, &head[HEAD_ROWS_AT..HEAD_MARKED_AT]);
-    if head[HEAD_MARKED_AT] == 0 {
-        return put_text(out, at, b" mark=none");
-    }
-    let at = put_field(out, at, b" mark=", head[HEAD_MARK_NUMBER_AT]);
-    put_field(out, at, b":", head[HEAD_MARK_BORN_AT])
+    let at = put_mark(
+        out,
+        at,
+        head[HEAD_MARKED_AT],
+        head[HEAD_MARK_NUMBER_AT],
+        head[HEAD_MARK_BORN_AT],
+    );
+    put_field(out, at, b" founded=", head[HEAD_FOUNDED_AT])
 }
 
 // The charge.

@@ -9,6 +9,7 @@ use crate::lines::put_call;
 use model::BODY_AT;
 use model::GROUP_WORDS;
 use model::SLOT_WORDS;
+use model::SOURCE_AT;
 use model::TOTAL_GROUPS_AT;
 use script_notation::calls::Asked;
 use script_notation::calls::Said;
@@ -133,6 +134,14 @@ fn put_form(out: &mut [u8], at: usize, packed: bool) -> usize {
     put_text(out, at, b" scalar")
 }
 
+// The source of a row, the last word of its slot.
+fn put_source(out: &mut [u8], at: usize, slot: &[u64]) -> usize {
+    if slot.len() <= SOURCE_AT {
+        return at;
+    }
+    put_field(out, at, b" source=", slot[SOURCE_AT])
+}
+
 // The line of a row.
 fn put_line(out: &mut [u8], d: Dumped, position: u64, slot: &[u64]) -> Dumped
     requires { ⌜ bodyAt ≤ length (now slot) ⌝ }
@@ -142,6 +151,7 @@ fn put_line(out: &mut [u8], d: Dumped, position: u64, slot: &[u64]) -> Dumped
     let row = put_codes(out, to, slot);
     let names = b"tg= cg= hits= unshared= born= delivered=";
     let to = put_fields(out, row.to, names, &slot[TOTAL_GROUPS_AT..BODY_AT]);
+    let to = put_source(out, to, slot);
     Dumped {
         to: put_body(out, to, slot),
         postings: wrapping_add_usize(d.postings, row.postings),
@@ -179,7 +189,7 @@ fn put_postings(out: &mut [u8], at: usize, stale: bool, postings: &[u64], count:
 }
 
 // `dump I`: a look inside. `dump I`, then a line for each row,
-// ` row P FORM c=LIST o=LIST tg=N cg=N hits=N unshared=N born=N delivered=B groups=LIST`, and ` postings LIST`.
+// ` row P FORM c=LIST o=LIST tg=N cg=N hits=N unshared=N born=N delivered=B source=N groups=LIST`, and ` postings LIST`.
 pub fn dump(
     q: Asked,
     s: &[u8],

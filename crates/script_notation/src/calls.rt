@@ -14,6 +14,7 @@ pub enum Call {
     Hit,
     Offer,
     Rule,
+    Tip,
     Deduce,
     Close,
     Plan,
@@ -42,7 +43,7 @@ pub fn call_of(s: &[u8], from: usize, to: usize) -> Call
     requires { ⌜ (from ≤ to) × (to ≤ length (now s)) ⌝ }
 {
     let names =
-        b"make decide reset point seed deliver begin hit offer rule deduce close plan next candidates dump";
+        b"make decide reset point seed deliver begin hit offer rule tip deduce close plan next candidates dump";
     match text::position(s, from, to, names) {
         0 => Call::Make,
         1 => Call::Decide,
@@ -54,12 +55,13 @@ pub fn call_of(s: &[u8], from: usize, to: usize) -> Call
         7 => Call::Hit,
         8 => Call::Offer,
         9 => Call::Rule,
-        10 => Call::Deduce,
-        11 => Call::Close,
-        12 => Call::Plan,
-        13 => Call::Next,
-        14 => Call::Candidates,
-        15 => Call::Dump,
+        10 => Call::Tip,
+        11 => Call::Deduce,
+        12 => Call::Close,
+        13 => Call::Plan,
+        14 => Call::Next,
+        15 => Call::Candidates,
+        16 => Call::Dump,
         _ => Call::Unknown,
     }
 }

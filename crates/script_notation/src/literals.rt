@@ -1,6 +1,6 @@
-// The items of `rule` and `plan`, parted by spaces or commas; `-` stands for none. An item is a literal:
+// The items of `rule`, `tip` and `plan`, parted by spaces or commas; `-` stands for none. An item is a literal:
 // `+NAME` or `NAME` for present (held), `!NAME` for absent (cut); `+ATOM` and `!ATOM` by an atom's number;
-// a number alone is a code in `rule`, and an atom held in `plan`.
+// a number alone is a code in `rule` and `tip`, and an atom held in `plan`.
 ghost use Prim.Native.Nat.{_≤_};
 ghost use lib.ListN.{length};
 use crate::memory::ATOMS;

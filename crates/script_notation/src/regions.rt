@@ -104,6 +104,7 @@ pub fn read_region(s: &[u8], at: usize, atoms: u64, held: &mut [u64], cut: &mut 
         ok: h.ok && c.ok && ended(s, c.at),
         first: word_count(atoms, held, h.fit),
         second: word_count(atoms, cut, c.fit),
+        source: 0,
     }
 }
 
@@ -140,6 +141,7 @@ pub fn region_of(ok: bool, atoms: u64, set: &[u64], held: &mut [u64], cut: &mut 
         ok,
         first: word_count(atoms, held, fit),
         second: word_count(atoms, cut, fit),
+        source: 0,
     }
 }
 

@@ -1,8 +1,10 @@
 // The calls on one ledger that have numbers and then two lists, or none:
 // - `begin I`, `hit I P`: `hit I Done charge=0 HEAD`
-// - `offer I M CONDS OUTS`: `offer I ANSWER charge=N HEAD`, ANSWER one of `Shut`, `Stopped`, `Declined`, `Subsumed P`, `Added P`
+// - `offer I M CONDS OUTS [SOURCE]`: `offer I ANSWER charge=N HEAD`, ANSWER one of `Shut`, `Stopped`, `Declined`, `Subsumed P`, `Added P`;
+// SOURCE is 0 for Founded, as where it is left out, or 1 for a Tip
 // - `rule I M ITEMS -> ITEMS`: an offer by items, in any order, each counted once;
 // `Subsumed P` and `Added P` are followed by the row at P as it is then
+// - `tip I M ITEMS -> ITEMS`: the same, of a Tip
 // - `deduce I M P HELD CUT`: `deduce I ANSWER charge=N HEAD`, ANSWER one of `Nothing`, `Force`, `Stopped`, `Require CODE contradicted=CODE`
 // - `close I M HELD CUT`: `close I ANSWER charge=N held=LIST cut=LIST contradicted=CODE HEAD`, ANSWER one of `Closed`, `Conflict`,
 // `Stopped`; `contradicted=none` where no Require was acted on
@@ -67,7 +69,7 @@ fn close(
     ledger_close(head, answer, meter, slots, postings, held, cut, rows, atoms)
 }
 
-// The call itself; `given` are its numbers. Its refusal, or 0.
+// The call itself; `given` are its numbers, `source` that of the row offered. Its refusal, or 0.
 fn operate(
     call: Call,
     given: &[u64; 2],
@@ -77,15 +79,23 @@ fn operate(
     postings: &mut [u64],
     first: &mut [u64],
     second: &mut [u64],
+    source: u64,
 ) -> u64 {
     let mut meter = [0u64; METER_WORDS];
     meter[1] = given[0];
     match call {
         Call::Begin => ledger_begin(head, answer, slots, postings),
         Call::Hit => ledger_hit(head, answer, slots, postings, given[0]),
-        Call::Offer | Call::Rule => {
-            ledger_offer(head, answer, &mut meter, slots, postings, first, second)
-        }
+        Call::Offer | Call::Rule | Call::Tip => ledger_offer(
+            head,
+            answer,
+            &mut meter,
+            slots,
+            postings,
+            first,
+            second,
+            source,
+        ),
         Call::Deduce => ledger_deduce(
             head,
             answer,
@@ -112,7 +122,7 @@ fn put_deduced(out: &mut [u8], to: usize, answer: &[u64; ANSWER_WORDS]) -> usize
 // The answer's words.
 fn put_word(out: &mut [u8], to: usize, call: Call, answer: &[u64; ANSWER_WORDS]) -> usize {
     match call {
-        Call::Offer | Call::Rule => put_case(
+        Call::Offer | Call::Rule | Call::Tip => put_case(
             out,
             to,
             b"- Shut Stopped Declined Subsumed: Added:",
@@ -124,7 +134,7 @@ fn put_word(out: &mut [u8], to: usize, call: Call, answer: &[u64; ANSWER_WORDS])
     }
 }
 
-// After the answer of `rule` the row at its position, where it has one: Subsumed is 4 and Added 5.
+// After the answer of `rule` and `tip` the row at its position, where it has one: Subsumed is 4 and Added 5.
 fn put_joined(
     out: &mut [u8],
     to: usize,
@@ -134,7 +144,7 @@ fn put_joined(
     points: &[u64],
 ) -> usize {
     match call {
-        Call::Rule => {
+        Call::Rule | Call::Tip => {
             if answer[0] < 4 {
                 return to;
             }
@@ -275,6 +285,7 @@ pub fn act(
         postings,
         first,
         second,
+        l.source,
     );
     put_line(
         q,

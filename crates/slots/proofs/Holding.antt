@@ -11,6 +11,7 @@ use Rattle.lists.proofs.Concats.{Blocks, block-at}
 use Rattle.lists.proofs.Bools.{T-true, T-of}
 use Rattle.words.specs.Literal.{atomsWide}
 use Rattle.model.specs.declared.Header.{Header}
+use Rattle.model.specs.declared.Source.the-variants.{Founded}
 use Rattle.model.specs.Records.{Entry, isRow, slotWords, maxRows}
 use Rattle.model.specs.Slots.{slotOf, slotsOf, rowIn, entriesIn}
 use Rattle.model.specs.Postings.{filed}
@@ -25,7 +26,8 @@ use Rattle.slots.proofs.Rows.{row-at}
 
 -- where there is no entry
 abbrev pub no-entry : Entry
-no-entry = record { row = record { conditions = []; outputs = [] }; hits = 0; unshared = 0; born = 0; delivered = false }
+no-entry = record
+    { row = record { conditions = []; outputs = [] }; hits = 0; unshared = 0; born = 0; delivered = false; source = Founded }
 
 -- the rows of entries are rows over n atoms
 abbrev pub AllRows : ℕ → List Entry → Type 0

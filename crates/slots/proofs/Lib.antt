@@ -4,8 +4,6 @@ pub mod Sides
 pub mod Groups
 pub mod Laying
 pub mod Words
-pub mod Canon
 pub mod Storing
-pub mod Checked
 pub mod Rows
 pub mod Holding

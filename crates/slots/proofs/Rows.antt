@@ -6,6 +6,7 @@ use Prim.Native.Nat.{ℕ, zero, suc, _+_, _-_, _*_, _≤_, _<_}
 use native.Mathlib.Omega.{arith}
 use lib.ListN.{length, getD, take, drop, length-map, List·getD-map}
 use lib.Seq.{drop-drop}
+use Rattle.model.specs.declared.Source.the-variants.{Founded}
 use Rattle.model.specs.Records.{Row, Entry, slotWords}
 use Rattle.model.specs.Slots.{rowIn, entryIn, entriesIn}
 use Rattle.model.proofs.Slots.{entries-length}
@@ -62,5 +63,5 @@ row-at n ws p d l = ap (λ (x : Entry). x .row) (entries-at n ws p d l)
 pub rows-at : (n : ℕ) (ws : List ℕ) (p : ℕ) (d : Row) → p < n → getD (rowsIn n ws) p d ≡ rowIn (slotAt ws p)
 unfolding rowsIn
 rows-at n ws p d l =
-    let e : Entry = record { row = d; hits = 0; unshared = 0; born = 0; delivered = false } in
+    let e : Entry = record { row = d; hits = 0; unshared = 0; born = 0; delivered = false; source = Founded } in
     List·getD-map (λ (x : Entry). x .row) (entriesIn n ws) p e ∙ row-at n ws p e l

@@ -1,23 +1,23 @@
 -- A row's slot, and a proposal, are laid out as the row; a packed slot by its groups, a scalar one by its codes. Assumes nothing.
 use mathlib.Core.Path.{_≡_, refl, sym, ap, ap₂, _∙_, subst}
 use mathlib.Core.Bool.{Bool, true, false, _&&_}
-use mathlib.Core.List.{List, [], _++_, map, append-assoc}
+use mathlib.Core.List.{List, [], _∷_, _++_, map, append-assoc}
 use Prim.Native.Nat.{ℕ, zero, suc, _+_, _-_, _*_, _≤_, _<_}
 use native.Mathlib.Omega.{arith}
 use lib.Bits.{bitAnd, bitOr}
 use lib.Dec.{T}
 use lib.ListN.{length, getD, take, drop, replicate, length-append, length-replicate, length-drop, List·getD-append}
-use lib.Seq.{length-take-le, drop-drop, getD-drop, getD-take, getD-append-add, take-at, drop-at}
+use lib.Seq.{length-take-le, getD-drop, getD-take, getD-append-add, take-at, drop-at}
 use Rattle.lists.specs.Lists.{concat, pad, below, ascending}
 use Rattle.lists.proofs.Bools.{T-of}
 use Rattle.words.specs.Literal.{atomsWide, atom}
 use Rattle.words.specs.Region.{wordsFor}
 use Rattle.words.proofs.Widths.{words-for-le}
 use Rattle.model.specs.Records.{Row, Entry, isRow, isRowOver, within, maxConditions, maxOutputs}
-use Rattle.model.specs.Records.{conditionsAt, outputsAt, totalGroupsAt, conditionGroupsAt, deliveredAt, bodyAt, groupLength, bodyWords}
-use Rattle.model.specs.Records.{slotWords}
+use Rattle.model.specs.Records.{conditionsAt, outputsAt, totalGroupsAt, conditionGroupsAt, bodyAt, groupLength, bodyWords}
+use Rattle.model.specs.Records.{slotWords, sourceAt, sourceWord}
 use Rattle.model.specs.Rows.{groups, groupCount, packed}
-use Rattle.model.specs.Slots.{bitsOf, codesOf, groupWords, ifPacked, flag, body, slotOf, rowIn, entryIn}
+use Rattle.model.specs.Slots.{bitsOf, codesOf, groupWords, ifPacked, body, slotOf, rowIn, entryIn}
 use Rattle.model.proofs.Cover.{and-left, and-right}
 use Rattle.model.proofs.Packing.{Asc, Under, groups-fit}
 use Rattle.model.proofs.Slots.{Valid, valid-of, ascending-asc, packed-lt, packed-some, row-there, slot-length, entry-there, body-groups}
@@ -80,36 +80,22 @@ module _ (e : Entry) where
   unfolding groupCount
   slot-packed k = (slot-forms .0 ∙ if-packed r (groupCount r) k, slot-forms .1 ∙ if-packed r (length gc) k)
 
-  pub slot-told : getD (slotOf e) deliveredAt 0 ≤ 1
-  unfolding slotOf pad flag
-  slot-told = go (e .delivered)
-    where
-      go : (b : Bool) → (elim b as (λ k. ℕ) [ true ↦ 1 | false ↦ 0 ]) ≤ 1
-      go true = omega arith
-      go false = omega arith
+  -- zeros, and the source
+  ending : List ℕ
+  ending = replicate (sourceAt - suc (suc (suc (suc (suc (suc (suc (suc (length (body r)))))))))) 0 ++ (sourceWord (e .source) ∷ [])
 
-  rest-zeros : List ℕ
-  rest-zeros = replicate (slotWords - suc (suc (suc (suc (suc (suc (suc (suc (length (body r)))))))))) 0
+  slot-whole : drop bodyAt (slotOf e) ≡ body r ++ ending
+  unfolding slotOf pad ending
+  slot-whole =
+      append-assoc (body r) (replicate (sourceAt - suc (suc (suc (suc (suc (suc (suc (suc (length (body r)))))))))) 0)
+      (sourceWord (e .source) ∷ [])
 
-  slot-whole : drop bodyAt (slotOf e) ≡ body r ++ rest-zeros
-  unfolding slotOf pad rest-zeros
-  slot-whole = refl
-
-  -- the words after the body are zero
-  pub slot-unused : drop (bodyAt + length (body r)) (slotOf e) ≡ replicate (slotWords - (bodyAt + length (body r))) 0
-  unfolding rest-zeros
-  slot-unused =
-      let n : slotWords - suc (suc (suc (suc (suc (suc (suc (suc (length (body r))))))))) ≡ slotWords - (bodyAt + length (body r)) =
-      omega arith in
-      sym (drop-drop (length (body r)) bodyAt (slotOf e)) ∙ ap (drop (length (body r))) slot-whole
-      ∙ drop-at (body r) rest-zeros (length (body r)) refl ∙ ap (λ (k : ℕ). replicate k 0) n
-
-  slot-body : packed r ≡ true → drop bodyAt (slotOf e) ≡ concat (map groupWords (gc ++ go)) ++ rest-zeros
-  slot-body k = slot-whole ∙ ap (λ (b : List ℕ). b ++ rest-zeros) (body-groups r k)
+  slot-body : packed r ≡ true → drop bodyAt (slotOf e) ≡ concat (map groupWords (gc ++ go)) ++ ending
+  slot-body k = slot-whole ∙ ap (λ (b : List ℕ). b ++ ending) (body-groups r k)
 
   slot-words : packed r ≡ true → (g : ℕ) → g < length (gc ++ go) → WordsAt (slotOf e) (bodyAt + groupLength * g) (getD (gc ++ go) g [])
   slot-words k g h =
-      let w = words-at (gc ++ go) rest-zeros g h in
+      let w = words-at (gc ++ go) ending g h in
       let one : bodyAt + (groupLength * g + 1) ≡ bodyAt + groupLength * g + 1 = omega arith in
       let two : bodyAt + (groupLength * g + 2) ≡ bodyAt + groupLength * g + 2 = omega arith in
       record {
@@ -118,7 +104,7 @@ module _ (e : Entry) where
         absent = from (groupLength * g + 2) (bodyAt + groupLength * g + 2) two ∙ w .absent;
       }
     where
-      from : (i j : ℕ) → bodyAt + i ≡ j → getD (slotOf e) j 0 ≡ getD (concat (map groupWords (gc ++ go)) ++ rest-zeros) i 0
+      from : (i j : ℕ) → bodyAt + i ≡ j → getD (slotOf e) j 0 ≡ getD (concat (map groupWords (gc ++ go)) ++ ending) i 0
       from i j q =
           ap (λ (m : ℕ). getD (slotOf e) m 0) (sym q) ∙ sym (getD-drop bodyAt (slotOf e) i 0)
           ∙ ap (λ (l : List ℕ). getD l i 0) (slot-body k)

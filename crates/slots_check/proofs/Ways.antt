@@ -5,16 +5,18 @@ use mathlib.Core.List.{List}
 use Prim.Native.Nat.{ℕ, _+_, _-_, _*_, _≤_, _<_}
 use native.Mathlib.Omega.{arith}
 use lib.Dec.{eqb, leb, ltb}
-use lib.ListN.{length, getD, take, drop, length-drop}
-use lib.Seq.{drop-drop, take-all}
+use lib.ListN.{length, getD, take, drop}
+use lib.Seq.{drop-drop}
 use borrow.Author.Tests.{eq-eqb, ne-eqb, lt-ltb, le-ltb, le-leb, lt-leb}
 use Rattle.lists.proofs.Bools.{and-yes, no-left, no-right}
+use Rattle.lists.proofs.Concats.{drop-take}
 use Rattle.words.specs.Codes.{climbs, runs}
 use Rattle.model.specs.Records.{slotWords, maxConditions, maxOutputs, conditionsAt, outputsAt, totalGroupsAt, conditionGroupsAt, bornAt}
-use Rattle.model.specs.Records.{deliveredAt, bodyAt, groupLength, maxGroups}
+use Rattle.model.specs.Records.{deliveredAt, bodyAt, bodyWords, sourceAt, groupLength, maxGroups}
 use Rattle.model.specs.Rows.{groups}
 use Rattle.model.proofs.Packing.{groups-runs}
-use Rattle.slots_check.specs.Check.{groupsOk, codeCount, sideCodes, allZero, headOk, scalarOk, packedOk, wordsPass, slotOk}
+use Rattle.slots_check.specs.Check.{groupsOk, codeCount, sideCodes, allZero, headOk, bodyIn, scalarOk, packedOk, wordsPass}
+use Rattle.slots_check.specs.Check.{slotOk}
 use Rattle.slots_check.proofs.Loops.{side-test}
 use Rattle.slots_check.proofs.Slot.{words-slot}
 
@@ -37,9 +39,11 @@ next-part ws b n e m q =
     let k : e - (b + n) ≡ m = omega arith in
     ap (λ (i : ℕ). take i (drop (b + n) ws)) k ∙ ap (take m) (sym (drop-drop n b ws))
 
-last-part : (ws : List ℕ) (b n : ℕ) → take (length ws - (b + n)) (drop (b + n) ws) ≡ drop n (drop b ws)
-last-part ws b n =
-    take-all (length ws - (b + n)) (drop (b + n) ws) (omega (arith, length-drop (b + n) ws)) ∙ sym (drop-drop n b ws)
+-- .. up to the source
+last-part : (ws : List ℕ) (n : ℕ) → take (sourceAt - (bodyAt + n)) (drop (bodyAt + n) ws) ≡ drop n (bodyIn ws)
+last-part ws n =
+    let k : sourceAt - (bodyAt + n) ≡ bodyWords - n = omega arith in
+    ap₂ (λ (m : ℕ) (l : List ℕ). take m l) k (sym (drop-drop n bodyAt ws)) ∙ sym (drop-take n bodyWords (drop bodyAt ws))
 
 -- ---- scalar
 module _ (n : ℕ) (ws : List ℕ) where
@@ -69,7 +73,7 @@ module _ (n : ℕ) (ws : List ℕ) where
   s4 = leb (2 * (nc + no)) (3 * (length (groups cs) + length (groups os)))
 
   abbrev s5 : Bool
-  s5 = allZero (drop (nc + no) (drop bodyAt ws))
+  s5 = allZero (drop (nc + no) (bodyIn ws))
 
   pub scalar-groups : (getD ws conditionGroupsAt 0 ≡ 0 → ⊥) → false ≡ scalarOk n ws
   unfolding scalarOk
@@ -109,7 +113,7 @@ module _ (n : ℕ) (ws : List ℕ) where
     pub scalar-rest : (b : Bool) → getD ws conditionGroupsAt 0 ≡ 0 → climbs n 1 (take ((bodyAt + nc) - bodyAt) (drop bodyAt ws)) ≡ true
         →
         climbs n 0 (take ((bodyAt + nc + no) - (bodyAt + nc)) (drop (bodyAt + nc) ws)) ≡ true → 2 * (nc + no) ≤ 3 * (wc + wo) →
-        b ≡ allZero (take (length ws - (bodyAt + nc + no)) (drop (bodyAt + nc + no) ws)) → b ≡ scalarOk n ws
+        b ≡ allZero (take (sourceAt - (bodyAt + nc + no)) (drop (bodyAt + nc + no) ws)) → b ≡ scalarOk n ws
     unfolding scalarOk
     scalar-rest b z c o h e =
         let x = gc in
@@ -120,7 +124,7 @@ module _ (n : ℕ) (ws : List ℕ) where
         (ap (λ (t : Bool). t && climbs n 0 os) (ap (climbs n 1) (sym (first-part ws bodyAt nc)) ∙ c)
         ∙ ap (climbs n 0) (sym (next-part ws bodyAt nc (bodyAt + nc + no) no refl)) ∙ o)
         (after s4 s5 b (le-leb (2 * (nc + no)) (3 * (length (groups cs) + length (groups os))) (omega arith))
-        (e ∙ ap (λ (k : ℕ). allZero (take (length ws - k) (drop k ws))) s ∙ ap allZero (last-part ws bodyAt (nc + no)))))
+        (e ∙ ap (λ (k : ℕ). allZero (take (sourceAt - k) (drop k ws))) s ∙ ap allZero (last-part ws (nc + no)))))
 
 -- ---- packed
 module _ (n : ℕ) (ws : List ℕ) where
@@ -162,7 +166,7 @@ module _ (n : ℕ) (ws : List ℕ) where
   t6 = eqb (codeCount qs) ko
 
   abbrev t7 : Bool
-  t7 = allZero (drop (groupLength * w) (drop bodyAt ws))
+  t7 = allZero (drop (groupLength * w) (bodyIn ws))
 
   -- the tests of both sides, as the code has them
   abbrev u1 : Bool
@@ -214,13 +218,13 @@ module _ (n : ℕ) (ws : List ℕ) where
       pub packed-rest : (b : Bool) → 3 * w < 2 * (kc + ko)
           → sideCodes true n (take ((bodyAt + groupLength * g) - bodyAt) (drop bodyAt ws)) ≡ kc →
           sideCodes false n (take ((bodyAt + groupLength * w) - (bodyAt + groupLength * g)) (drop (bodyAt + groupLength * g) ws)) ≡ ko →
-          b ≡ allZero (take (length ws - (bodyAt + groupLength * w)) (drop (bodyAt + groupLength * w) ws)) → b ≡ packedOk n ws
+          b ≡ allZero (take (sourceAt - (bodyAt + groupLength * w)) (drop (bodyAt + groupLength * w) ws)) → b ≡ packedOk n ws
       packed-rest b l p q e =
           after (t1 && t2) ((u1 && u2) && t7) b (and-yes t1 t2 (le-leb g w h) (lt-ltb (3 * w) (2 * (kc + ko)) l))
           (after (u1 && u2) t7 b
           (and-yes u1 u2 (eq-eqb (sideCodes true n ps) kc (ap (sideCodes true n) (sym first-groups) ∙ p))
           (eq-eqb (sideCodes false n qs) ko (ap (sideCodes false n) (sym (next-groups h)) ∙ q)))
-          (e ∙ ap allZero (last-part ws bodyAt (groupLength * w))))
+          (e ∙ ap allZero (last-part ws (groupLength * w))))
           ∙ sym packed-sides
 
 -- ---- a slot
@@ -241,6 +245,9 @@ module _ (n born : ℕ) (ws : List ℕ) (long : length ws ≡ slotWords) where
   abbrev h5 : Bool
   h5 = leb (getD ws deliveredAt 0) 1
 
+  abbrev h6 : Bool
+  h6 = leb (getD ws sourceAt 0) 1
+
   abbrev formed : Bool
   formed = elim (eqb (getD ws totalGroupsAt 0) 0) [ true ↦ scalarOk n ws | false ↦ packedOk n ws ]
 
@@ -250,33 +257,42 @@ module _ (n born : ℕ) (ws : List ℕ) (long : length ws ≡ slotWords) where
 
   pub slot-conditions : maxConditions < getD ws conditionsAt 0 → false ≡ slotOk n born ws
   unfolding headOk
-  slot-conditions h = head-no (no-left (h1 && h2) ((h3 && h4) && h5) (no-left h1 h2 (lt-leb (getD ws conditionsAt 0) maxConditions h)))
+  slot-conditions h =
+      head-no (no-left (h1 && h2) ((h3 && h4) && (h5 && h6)) (no-left h1 h2 (lt-leb (getD ws conditionsAt 0) maxConditions h)))
 
   pub slot-outputs : maxOutputs < getD ws outputsAt 0 → false ≡ slotOk n born ws
   unfolding headOk
-  slot-outputs h = head-no (no-left (h1 && h2) ((h3 && h4) && h5) (no-right h1 h2 (lt-leb (getD ws outputsAt 0) maxOutputs h)))
+  slot-outputs h = head-no (no-left (h1 && h2) ((h3 && h4) && (h5 && h6)) (no-right h1 h2 (lt-leb (getD ws outputsAt 0) maxOutputs h)))
 
   pub slot-unborn : getD ws bornAt 0 < 1 → false ≡ slotOk n born ws
   unfolding headOk
-  slot-unborn h = head-no (no-right (h1 && h2) ((h3 && h4) && h5) (no-left (h3 && h4) h5 (no-left h3 h4 (lt-leb 1 (getD ws bornAt 0) h))))
+  slot-unborn h = head-no (no-right (h1 && h2) ((h3 && h4) && (h5 && h6))
+      (no-left (h3 && h4) (h5 && h6) (no-left h3 h4 (lt-leb 1 (getD ws bornAt 0) h))))
 
   pub slot-late : born < getD ws bornAt 0 → false ≡ slotOk n born ws
   unfolding headOk
-  slot-late h = head-no (no-right (h1 && h2) ((h3 && h4) && h5) (no-left (h3 && h4) h5 (no-right h3 h4 (lt-leb (getD ws bornAt 0) born h))))
+  slot-late h = head-no (no-right (h1 && h2) ((h3 && h4) && (h5 && h6))
+      (no-left (h3 && h4) (h5 && h6) (no-right h3 h4 (lt-leb (getD ws bornAt 0) born h))))
 
   pub slot-flag : 1 < getD ws deliveredAt 0 → false ≡ slotOk n born ws
   unfolding headOk
-  slot-flag h = head-no (no-right (h1 && h2) ((h3 && h4) && h5) (no-right (h3 && h4) h5 (lt-leb (getD ws deliveredAt 0) 1 h)))
+  slot-flag h = head-no (no-right (h1 && h2) ((h3 && h4) && (h5 && h6))
+      (no-right (h3 && h4) (h5 && h6) (no-left h5 h6 (lt-leb (getD ws deliveredAt 0) 1 h))))
+
+  pub slot-source : 1 < getD ws sourceAt 0 → false ≡ slotOk n born ws
+  unfolding headOk
+  slot-source h =
+      head-no (no-right (h1 && h2) ((h3 && h4) && (h5 && h6))
+      (no-right (h3 && h4) (h5 && h6) (no-right h5 h6 (lt-leb (getD ws sourceAt 0) 1 h))))
 
   module _ (a : getD ws conditionsAt 0 ≤ maxConditions) (b : getD ws outputsAt 0 ≤ maxOutputs) (c : 1 ≤ getD ws bornAt 0)
-      (d : getD ws bornAt 0 ≤ born) (e : getD ws deliveredAt 0 ≤ 1) where
+      (d : getD ws bornAt 0 ≤ born) (e : getD ws deliveredAt 0 ≤ 1) (f : getD ws sourceAt 0 ≤ 1) where
     head-yes : headOk born ws ≡ true
     unfolding headOk
     head-yes =
-        ap₂ (λ (x y : Bool). x
-        && y) (ap₂ (λ (x y : Bool). x && y) (le-leb (getD ws conditionsAt 0) maxConditions a) (le-leb (getD ws outputsAt 0) maxOutputs b))
-        (ap₂ (λ (x y : Bool). x && y) (ap₂ (λ (x y : Bool). x && y) (le-leb 1 (getD ws bornAt 0) c) (le-leb (getD ws bornAt 0) born d))
-        (le-leb (getD ws deliveredAt 0) 1 e))
+        and-yes _ _ (and-yes _ _ (le-leb (getD ws conditionsAt 0) maxConditions a) (le-leb (getD ws outputsAt 0) maxOutputs b))
+        (and-yes _ _ (and-yes _ _ (le-leb 1 (getD ws bornAt 0) c) (le-leb (getD ws bornAt 0) born d))
+        (and-yes _ _ (le-leb (getD ws deliveredAt 0) 1 e) (le-leb (getD ws sourceAt 0) 1 f)))
 
     pub slot-scalar : (r : Bool) → getD ws totalGroupsAt 0 ≡ 0 → r ≡ scalarOk n ws → r ≡ slotOk n born ws
     unfolding wordsPass

@@ -12,7 +12,8 @@ use Rattle.words.specs.Bit.{wordBits}
 use Rattle.words.specs.Literal.{atom}
 use Rattle.words.specs.Codes.{climbs, runs}
 use Rattle.model.specs.Records.{Entry, isRow, maxConditions, maxOutputs}
-use Rattle.model.specs.Records.{conditionsAt, outputsAt, totalGroupsAt, conditionGroupsAt, bornAt, deliveredAt, bodyAt, groupLength}
+use Rattle.model.specs.Records.{conditionsAt, outputsAt, totalGroupsAt, conditionGroupsAt, bornAt, deliveredAt, bodyAt, bodyWords, sourceAt}
+use Rattle.model.specs.Records.{groupLength}
 use Rattle.model.specs.Rows.{groups}
 use Rattle.model.specs.Slots.{slotOf, entryIn}
 
@@ -69,7 +70,11 @@ allZero ws = same ws (zeroed ws)
 unfoldable pub headOk : ℕ → List ℕ → Bool
 headOk born ws =
     (leb (getD ws conditionsAt 0) maxConditions && leb (getD ws outputsAt 0) maxOutputs)
-    && ((leb 1 (getD ws bornAt 0) && leb (getD ws bornAt 0) born) && leb (getD ws deliveredAt 0) 1)
+    && ((leb 1 (getD ws bornAt 0) && leb (getD ws bornAt 0) born) && (leb (getD ws deliveredAt 0) 1 && leb (getD ws sourceAt 0) 1))
+
+-- the words of the body
+abbrev pub bodyIn : List ℕ → List ℕ
+bodyIn ws = take bodyWords (drop bodyAt ws)
 
 unfoldable pub scalarOk : ℕ → List ℕ → Bool
 scalarOk n ws =
@@ -79,7 +84,7 @@ scalarOk n ws =
     let os : List ℕ = take no (drop nc (drop bodyAt ws)) in
     eqb (getD ws conditionGroupsAt 0) 0
     && ((climbs n 1 cs && climbs n 0 os)
-    && (leb (2 * (nc + no)) (3 * (length (groups cs) + length (groups os))) && allZero (drop (nc + no) (drop bodyAt ws))))
+    && (leb (2 * (nc + no)) (3 * (length (groups cs) + length (groups os))) && allZero (drop (nc + no) (bodyIn ws))))
 
 unfoldable pub packedOk : ℕ → List ℕ → Bool
 packedOk n ws =
@@ -91,7 +96,7 @@ packedOk n ws =
     let os : List ℕ = take (groupLength * (w - g)) (drop (groupLength * g) (drop bodyAt ws)) in
     (leb g w && ltb (3 * w) (2 * (nc + no)))
     && ((groupsOk true n 0 cs && groupsOk false n 0 os)
-    && ((eqb (codeCount cs) nc && eqb (codeCount os) no) && allZero (drop (groupLength * w) (drop bodyAt ws))))
+    && ((eqb (codeCount cs) nc && eqb (codeCount os) no) && allZero (drop (groupLength * w) (bodyIn ws))))
 
 unfoldable pub wordsPass : ℕ → ℕ → List ℕ → Bool
 wordsPass n born ws =

@@ -18,6 +18,7 @@ use model::MAX_CONDITIONS;
 use model::MAX_GROUPS;
 use model::MAX_OUTPUTS;
 use model::OUTPUTS_AT;
+use model::SOURCE_AT;
 use model::TOTAL_GROUPS_AT;
 
 // The number of codes of words that are no side of a slot: no side has so many.
@@ -145,7 +146,7 @@ fn is_scalar(slot: &[u64], atoms: u64) -> bool
     if 3 * w < 2 * (nc + no) {
         return false;
     }
-    all_zero(&slot[end..])
+    all_zero(&slot[end..SOURCE_AT])
 }
 
 // The packed form: the groups in order, few enough, as many codes as the slot says, and zeros after them.
@@ -175,7 +176,7 @@ fn is_packed(slot: &[u64], atoms: u64) -> bool
     if group_codes(&slot[from..end], false, atoms) != no {
         return false;
     }
-    all_zero(&slot[end..])
+    all_zero(&slot[end..SOURCE_AT])
 }
 
 // Whether the words are the slot of a row over `atoms` atoms, born from 1 to `born`.
@@ -196,6 +197,9 @@ pub fn is_slot(slot: &[u64], atoms: u64, born: u64) -> bool
         return false;
     }
     if 1 < slot[DELIVERED_AT] {
+        return false;
+    }
+    if 1 < slot[SOURCE_AT] {
         return false;
     }
     if slot[TOTAL_GROUPS_AT] == 0 {

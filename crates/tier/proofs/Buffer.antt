@@ -10,9 +10,9 @@ use Rattle.lists.specs.Lists.{all, concat, pad, adjust}
 use Rattle.lists.proofs.Selects.{adjust-set, length-adjust}
 use Rattle.lists.proofs.Concats.{block-put}
 use Rattle.model.specs.Records.{Row, Entry, slotWords, saturatingAdd, hitEntry, withHits, withDelivered, hitsAt, unsharedAt, bornAt}
-use Rattle.model.specs.Records.{deliveredAt}
+use Rattle.model.specs.Records.{deliveredAt, sourceAt, sourceWord}
 use Rattle.model.specs.Slots.{slotOf, slotsOf, entriesIn, flag}
-use Rattle.model.proofs.Slots.{Valid, AllValid, entries-length}
+use Rattle.model.proofs.Slots.{Valid, AllValid, entries-length, source-there}
 use Rattle.model.proofs.Accepting.{laid-length, slots-length}
 use Rattle.slots.specs.Layout.{tierOf, Held}
 use Rattle.slots.proofs.Holding.{no-entry, valid-at, valid-blocks, slot-at, holding}
@@ -132,10 +132,11 @@ change tier p k x es d f v h r l s q =
     ∙ ap (slotsOf tier) (sym (adjust-set f p es d h))
 
 withUnshared : ℕ → Entry → Entry
-withUnshared n e = record { row = e .row; hits = e .hits; unshared = n; born = e .born; delivered = e .delivered }
+withUnshared n e = record
+    { row = e .row; hits = e .hits; unshared = n; born = e .born; delivered = e .delivered; source = e .source }
 
 asDelivered : Entry → Entry
-asDelivered e = record { row = e .row; hits = e .hits; unshared = e .unshared; born = e .born; delivered = true }
+asDelivered e = record { row = e .row; hits = e .hits; unshared = e .unshared; born = e .born; delivered = true; source = e .source }
 
 module _ (tier p : ℕ) (es : List Entry) (v : AllValid es) (h : p < length es) (r : length es ≤ tier) where
   pub word-hits : getD (slotsOf tier es) (slotWords * p + hitsAt) 0 ≡ getD es p no-entry .hits
@@ -149,6 +150,9 @@ module _ (tier p : ℕ) (es : List Entry) (v : AllValid es) (h : p < length es) 
   word-born : getD (slotsOf tier es) (slotWords * p + bornAt) 0 ≡ getD es p no-entry .born
   unfolding slotOf pad
   word-born = word-of tier p bornAt es no-entry v h (omega arith)
+
+  word-source : getD (slotsOf tier es) (slotWords * p + sourceAt) 0 ≡ sourceWord (getD es p no-entry .source)
+  word-source = word-of tier p sourceAt es no-entry v h (omega arith) ∙ source-there (getD es p no-entry) (valid-at p es no-entry v h)
 
   pub hits-set : (n : ℕ) → set (slotsOf tier es) (slotWords * p + hitsAt) n ≡ slotsOf tier (adjust (λ e. withHits e n) p es)
   unfolding slotOf pad withHits
@@ -196,6 +200,11 @@ module _ {atoms : ℕ} (rows p : ℕ) (ws : List ℕ) (k : Held atoms rows ws) (
   born-at =
       let f = holding rows ws k in
       ap (λ (w : List ℕ). getD w (slotWords * p + bornAt) 0) (sym (k .same)) ∙ word-born (tierOf ws) p held (f .valid) at (f .room)
+
+  pub source-at : getD ws (wordAt p sourceAt) 0 ≡ sourceWord (getD (entriesIn rows ws) p no-entry .source)
+  source-at =
+      let f = holding rows ws k in
+      ap (λ (w : List ℕ). getD w (slotWords * p + sourceAt) 0) (sym (k .same)) ∙ word-source (tierOf ws) p held (f .valid) at (f .room)
 
   pub hit-held : hitWords p ws ≡ slotsOf (tierOf ws) (adjust hitEntry p (entriesIn rows ws))
   unfolding hitWords hitEntry withHits withUnshared

@@ -1,11 +1,12 @@
 -- The slots of a tier as one buffer, and its changes word by word. Assumes nothing.
-use mathlib.Core.Bool.{Bool, true, false, _&&_, _||_}
+use mathlib.Core.Bool.{Bool, true, false, _&&_, _||_, not}
 use mathlib.Core.List.{List, [], _∷_, _++_}
+use mathlib.Core.Option.{Option, none, some}
 use Prim.Native.Nat.{ℕ, zero, suc, _+_, _*_}
 use lib.Dec.{eqb, ltb}
 use lib.ListN.{getD, set, take, drop}
 use Rattle.meter.specs.Meter.{pick}
-use Rattle.model.specs.Records.{Entry, slotWords, saturatingAdd, hitsAt, unsharedAt, bornAt, deliveredAt}
+use Rattle.model.specs.Records.{Entry, slotWords, saturatingAdd, hitsAt, unsharedAt, bornAt, deliveredAt, sourceAt}
 
 -- word k of the slot at position p
 abbrev pub wordAt : ℕ → ℕ → ℕ
@@ -65,3 +66,16 @@ lesserOf ws at i =
     || (eqb (getD ws (wordAt i hitsAt) 0) (getD ws (wordAt at hitsAt) 0)
     && ltb (getD ws (wordAt i bornAt) 0) (getD ws (wordAt at bornAt) 0)))
     i at
+
+-- the row at a position may be evicted
+unfoldable pub mayGo : List ℕ → ℕ → Bool → Bool
+mayGo ws p guarded = not guarded || eqb (getD ws (wordAt p sourceAt) 0) 1
+
+-- of the least so far, n while there is none, and position i, if its row may be evicted
+unfoldable pub leastBy : List ℕ → ℕ → ℕ → ℕ → Bool → ℕ
+leastBy ws n at i guarded = pick (mayGo ws i guarded) (pick (eqb at n) i (lesserOf ws at i)) at
+
+-- a position, or n for none
+abbrev pub atOr : ℕ → Option ℕ → ℕ
+atOr n none = n
+atOr n (some p) = p

@@ -4,17 +4,18 @@ ghost use mathlib.Core.List.{_++_};
 ghost use Prim.Native.Nat.{_+_, _-_, _*_, _<_, _≤_};
 ghost use lib.ListN.{length, take, drop, replicate};
 ghost use Rattle.words.specs.Region.{has, maxAtoms};
-ghost use Rattle.model.specs.Records.{slotWords};
+ghost use Rattle.model.specs.Records.{slotWords, foundedRows};
 ghost use Rattle.model.specs.Slots.{slotsOf, entriesIn};
-ghost use Rattle.model.specs.Retention.{victim as victimOf, halved};
+ghost use Rattle.model.specs.Retention.{victimAmong, halved};
 ghost use Rattle.slots.specs.Layout.{tierOf, Held};
-ghost use Rattle.tier.specs.Tier.{hitWords, hitsAdded, markedDelivered, sharedOut, lesserOf, moved, keptWords};
+ghost use Rattle.tier.specs.Tier.{hitWords, hitsAdded, markedDelivered, sharedOut, lesserOf, mayGo, leastBy, atOr, moved, keptWords};
 ghost use Rattle.tier.specs.Tier.{keptPlace, closedUp};
 use lists::fill_zero;
 use model::BORN_AT;
 use model::DELIVERED_AT;
 use model::HITS_AT;
 use model::SLOT_WORDS;
+use model::SOURCE_AT;
 use model::UNSHARED_AT;
 use model::saturating_add;
 use words::contains;
@@ -78,18 +79,58 @@ fn lesser(slots: &[u64], at: usize, i: usize) -> usize
     at
 }
 
-// The row that a full tier gives up: the least (hits, born), the first on ties.
-pub fn victim(slots: &[u64], rows: usize) -> usize
-    requires { ⌜ Held maxAtoms rows (now slots) ⌝ ∗ ⌜ 0 < rows ⌝ }
-    ensures { λ r. ⌜ r ≡ victimOf (entriesIn rows (now (slots .entry))) ⌝ }
+// Whether the row at `position` may be evicted: any, or where the floor guards the Founded ones a Tip.
+fn may_go(slots: &[u64], position: usize, guarded: bool) -> bool
+    requires { ⌜ slotWords * position + slotWords ≤ length (now slots) ⌝ }
+    ensures { λ r. ⌜ r ≡ mayGo (now (slots .entry)) position guarded ⌝ }
 {
-    let mut at: usize = 0;
-    let mut i: usize = 1;
+    if guarded {
+        return slots[SLOT_WORDS * position + SOURCE_AT] == 1;
+    }
+    true
+}
+
+// The least so far, `rows` while there is none, or the row at `i` where it may be evicted and is less.
+fn least_after(slots: &[u64], rows: usize, at: usize, i: usize, guarded: bool) -> usize
+    requires { ⌜ slotWords * rows ≤ length (now slots) ⌝ ∗ ⌜ at ≤ rows ⌝ ∗ ⌜ i < rows ⌝ }
+    ensures { λ r. ⌜ r ≡ leastBy (now (slots .entry)) rows at i guarded ⌝ }
+{
+    if !may_go(slots, i, guarded) {
+        return at;
+    }
+    if at == rows {
+        return i;
+    }
+    lesser(slots, at, i)
+}
+
+// The row that a full tier gives up: the least (hits, born), the first on ties, where the floor guards the Founded rows of the Tips alone;
+// `rows` where there is none.
+pub fn victim(slots: &[u64], rows: usize, guarded: bool) -> usize
+    requires { ⌜ Held maxAtoms rows (now slots) ⌝ }
+    ensures { λ r. ⌜ r ≡ atOr rows (victimAmong guarded (entriesIn rows (now (slots .entry)))) ⌝ }
+{
+    let mut at = rows;
+    let mut i: usize = 0;
     while i < rows {
-        at = lesser(slots, at, i);
+        at = least_after(slots, rows, at, i, guarded);
         i += 1;
     }
     at
+}
+
+// How many rows are Founded.
+pub fn count_founded(slots: &[u64], rows: usize) -> u64
+    requires { ⌜ Held maxAtoms rows (now slots) ⌝ }
+    ensures { λ r. ⌜ r ≡ foundedRows (entriesIn rows (now (slots .entry))) ⌝ }
+{
+    let mut count: u64 = 0;
+    let mut i: usize = 0;
+    while i < rows {
+        count += 1 - slots[SLOT_WORDS * i + SOURCE_AT];
+        i += 1;
+    }
+    count
 }
 
 // All hits halved.

@@ -13,6 +13,7 @@ use Rattle.meter.specs.declared.Read.{Read}
 use Rattle.meter.specs.Meter.{pay}
 use Rattle.model.specs.declared.LearningLimits.{LearningLimits}
 use Rattle.model.specs.declared.Header.{Header}
+use Rattle.model.specs.declared.Source.{Source}
 use Rattle.model.specs.Records.{Row, Ledger, isRow, limitsOk, literals, slotWords, maxRows, maxOutputs}
 use Rattle.model.specs.Slots.{rowIn}
 use Rattle.model.specs.Retention.{Retention as Kept, retain}
@@ -28,7 +29,7 @@ use Rattle.retain.specs.declared.Retention.{Retention}
 use Rattle.retain.specs.Ends.{End, outcomeOf, retainEnd}
 use Rattle.transfers.specs.declared.receiving.Progress.{Progress}
 use Rattle.transfers.specs.declared.receiving.TransferState.{TransferState}
-use Rattle.transfers.specs.Receiving.{receivedEnd}
+use Rattle.transfers.specs.Receiving.{receivedEnd, sourceOf}
 use Rattle.transfers.specs.Transfer.{progressOf, startBy, Carried, Ready}
 use Rattle.transfers.proofs.Positions.{Within, retain-within, retain-limits}
 
@@ -75,6 +76,9 @@ module _ (n c : ℕ) (p : TransferState) (slots postings : List ℕ) (v : Transf
     abbrev t : Row
     t = rowIn row
 
+    abbrev source : Source
+    source = sourceOf row
+
     abbrev most : ℕ
     most = max (length (t .outputs)) (tier .«founded_outputs»)
 
@@ -82,29 +86,31 @@ module _ (n c : ℕ) (p : TransferState) (slots postings : List ℕ) (v : Transf
     run = pay (suc (literals t)) (v .account) (v .meter)
 
     pub carried-received : (k : Retention) (ws ps : List ℕ) →
-        retainEnd k ws ps ≡ receivedEnd (lent (p .header) slots postings) t (tier .«founded_outputs») hits
+        retainEnd k ws ps ≡ receivedEnd (lent (p .header) slots postings) source t (tier .«founded_outputs») hits
         (pay (suc (literals t)) (p .account) (p .meter)) →
-        Received n c p v k ws ps (receive tier hits t v)
+        Received n c p v k ws ps (receive tier hits source t v)
     unfolding receive
     carried-received k ws ps e =
-        let q : retainEnd k ws ps ≡ receivedEnd (lent (p .header) slots postings) t (tier .«founded_outputs») hits run
+        let q : retainEnd k ws ps ≡ receivedEnd (lent (p .header) slots postings) source t (tier .«founded_outputs») hits run
         = e
-        ∙ ap₂ (λ (a : Account) (m : Meter). receivedEnd (lent (p .header) slots postings) t (tier .«founded_outputs») hits
+        ∙ ap₂ (λ (a : Account) (m : Meter). receivedEnd (lent (p .header) slots postings) source t (tier .«founded_outputs») hits
         (pay (suc (literals t)) a m)) (h .account) (h .meter) in
         let g = laid-stored (p .header .limits .atoms) row s in
         let few : most ≤ maxOutputs = let i = g .counted .most in let j = g .outputCount in omega arith in
-        let stood : Stood (k .header) ws ps (retain (v .receiver) most hits t run .ledger)
-        = stood-retained (p .header) slots postings (v .receiver) (h .stood) most hits t run (k .header) ws ps few
+        let stood : Stood (k .header) ws ps (retain (v .receiver) most hits source t run .ledger)
+        = stood-retained (p .header) slots postings (v .receiver) (h .stood) most hits source t run (k .header) ws ps few
         (T-true (isRow (p .header .limits .atoms) t) (s .row)) (ap (λ (x : End). x .ledger) q) in
         record {
           stood = stood;
-          outcome = ap (λ (x : End). x .outcome) q ∙ stood-outcome (p .header) slots postings (v .receiver) (h .stood) most hits t run;
-          account = ap (λ (x : End). x .account) q ∙ stood-account (p .header) slots postings (v .receiver) (h .stood) most hits t run;
-          meter = ap (λ (x : End). x .meter) q ∙ stood-meter (p .header) slots postings (v .receiver) (h .stood) most hits t run;
-          over = ap (λ (x : LearningLimits). x .atoms) (retain-limits (v .receiver) hits t most run) ∙ h .over;
-          within = subst (λ (i : ℕ). Within i (retain (v .receiver) most hits t run .outcome))
-              (sym (stood-rows (k .header) ws ps (retain (v .receiver) most hits t run .ledger) stood))
-              (retain-within (v .receiver) hits t most run);
+          outcome =
+              ap (λ (x : End). x .outcome) q ∙ stood-outcome (p .header) slots postings (v .receiver) (h .stood) most hits source t run;
+          account =
+              ap (λ (x : End). x .account) q ∙ stood-account (p .header) slots postings (v .receiver) (h .stood) most hits source t run;
+          meter = ap (λ (x : End). x .meter) q ∙ stood-meter (p .header) slots postings (v .receiver) (h .stood) most hits source t run;
+          over = ap (λ (x : LearningLimits). x .atoms) (retain-limits (v .receiver) hits source t most run) ∙ h .over;
+          within = subst (λ (i : ℕ). Within i (retain (v .receiver) most hits source t run .outcome))
+              (sym (stood-rows (k .header) ws ps (retain (v .receiver) most hits source t run .ledger) stood))
+              (retain-within (v .receiver) hits source t most run);
           added = h .added;
           few = h .few;
         }

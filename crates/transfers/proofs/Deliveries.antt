@@ -31,7 +31,7 @@ module _ (tier : LearningLimits) where
   -- ---- a row handed over
   module _ (e : Entry) (v : Transfer) where
     abbrev d : Retention
-    d = receive tier (e .unshared) (e .row) v
+    d = receive tier (e .unshared) (e .source) (e .row) v
 
     abbrev counts : ℕ → Ledger
     counts p = changeAt p (λ x. withHits x (saturatingAdd (x .hits) (e .unshared))) (d .ledger)
@@ -76,10 +76,10 @@ module _ (tier : LearningLimits) where
       over : (m : Meter) → tickOf (v .meter) ≡ Ticked m → passesOver tier e ≡ false
           → deliverRows tier (e ∷ es) v ≡ then (handed tier e (ticked v m whole))
       unfolding deliverRows handed front ticked received
-      over m q h = rw (q, h, deliverRows) (go (receive tier (e .unshared) (e .row) (ticked v m whole) .outcome))
+      over m q h = rw (q, h, deliverRows) (go (receive tier (e .unshared) (e .source) (e .row) (ticked v m whole) .outcome))
         where
           w : Retention
-          w = receive tier (e .unshared) (e .row) (ticked v m whole)
+          w = receive tier (e .unshared) (e .source) (e .row) (ticked v m whole)
 
           go : (o : Outcome) →
               (elim o as (λ x. Delivery) [

@@ -2,11 +2,11 @@
 use mathlib.Core.Path.{_≡_, refl, sym, _∙_, subst}
 use mathlib.Core.Bool.{Bool, true, false, _||_}
 use mathlib.Core.List.{List, [], _∷_}
+use mathlib.Core.Option.{Option, none, some}
 use Prim.Native.Nat.{ℕ, suc, _<_}
 use native.Mathlib.Omega.{arith}
 use lib.Dec.{ltb, leb}
 use lib.ListN.{length, set, length-set}
-use borrow.Author.Tests.{leb-false}
 use Rattle.meter.specs.declared.Meter.{Meter}
 use Rattle.meter.specs.declared.Account.{Account}
 use Rattle.meter.specs.declared.Read.{Read}
@@ -14,6 +14,7 @@ use Rattle.meter.specs.declared.Read.the-variants.{Paid, Declined, Stopped}
 use Rattle.meter.specs.Meter.{andThen, pay}
 use Rattle.model.specs.declared.LearningLimits.{LearningLimits}
 use Rattle.model.specs.declared.Header.{Header}
+use Rattle.model.specs.declared.Source.{Source}
 use Rattle.model.specs.Records.{Row, Entry, Ledger, withAdded, saturatingAdd}
 use Rattle.model.specs.Rows.{subsumes}
 use Rattle.model.specs.Union.{joins, grown}
@@ -63,20 +64,18 @@ PlacementIn n protected = Unit {0}
 PlacementIn n (placing ks p) = Unit {0}
 PlacementIn n (evicting v p) = v < n
 
-judge-in : (es : List Entry) (ks : List Examined) (p : Row) (a c : Bool) → (c ≡ false → 0 < length es)
-    → PlacementIn (length es) (elim a [ true ↦ placing ks p | false ↦ elim c [ true ↦ protected | false ↦ evicting (victim es) p ] ])
-judge-in es ks p true c h = tt
-judge-in es ks p false true h = tt
-judge-in es ks p false false h = victim-held es (h refl)
+judge-in : (l : LearningLimits) (es : List Entry) (ks : List Examined) (p : Row) (a : Bool) (x : Option ℕ) → victim l es ≡ x
+    → PlacementIn (length es) (elim a [ true ↦ placing ks p | false ↦ elim x [ none ↦ protected | some v ↦ evicting v p ] ])
+judge-in l es ks p true x h = tt
+judge-in l es ks p false none h = tt
+judge-in l es ks p false (some v) h = victim-held l es v h
 
 placementAfter-in : (l : LearningLimits) (es : List Entry) (x : Pass) → PassIn (length es) x
     → PlacementIn (length es) (placementAfter l es x)
 unfolding placementAfter placementBy
 placementAfter-in l es (found p) h = h
 placementAfter-in l es (passed ks p) h =
-    judge-in es (secondPass p ks) p (anyReplaced (secondPass p ks) || ltb (length es) (l .«tier_rows»))
-    (leb (length es) (l .«founded_floor»))
-    (λ e. let k = leb-false (length es) (l .«founded_floor») e in omega arith)
+    judge-in l es (secondPass p ks) p (anyReplaced (secondPass p ks) || ltb (length es) (l .«tier_rows»)) (victim l es) refl
 
 placement-in : (l : LearningLimits) (m : ℕ) (t : Row) (es : List Entry) → PlacementIn (length es) (placement l m t es)
 unfolding placement
@@ -112,25 +111,25 @@ settle-both h es v = go (leb (h .limits .«tier_rows») (suc (h .epoch)))
     go true = (halved-length es, refl)
     go false = (refl, refl)
 
-module _ (l : Ledger) (hits : ℕ) (t : Row) where
+module _ (l : Ledger) (hits : ℕ) (source : Source) (t : Row) where
   abbrev Stays : Retention → Type 0
   Stays d = Within (length (d .ledger .entries)) (d .outcome) × (d .ledger .header .limits ≡ l .header .limits)
 
-  carry-stays : (a : Account) (m : Meter) (v : Placement) → PlacementIn (length (l .entries)) v → Stays (carryOut l t hits a m v)
+  carry-stays : (a : Account) (m : Meter) (v : Placement) → PlacementIn (length (l .entries)) v → Stays (carryOut l t hits source a m v)
   unfolding carryOut untaken
   carry-stays a m (subsumed p) h = (h, refl)
   carry-stays a m protected h = (tt, refl)
   carry-stays a m (placing ks p) h =
-      let e : Entry = newborn (l .header) p hits in
+      let e : Entry = newborn (l .header) p hits source in
       let s = settle-both (l .header) (place e ks) (l .header .evicted) in
       (subst (λ (n : ℕ). placeOf ks < n) (sym (s .0)) (place-in e ks), s .1)
   carry-stays a m (evicting v p) h =
-      let e : Entry = newborn (l .header) p hits in
+      let e : Entry = newborn (l .header) p hits source in
       let s = settle-both (l .header) (set (l .entries) v e) (saturatingAdd (l .header .evicted) 1) in
       (subst (λ (n : ℕ). v < n) (sym (s .0 ∙ length-set (l .entries) v e)) h, s .1)
 
   module _ (most : ℕ) where
-    retained-stays : (run : Read) → Stays (retained l most hits t run)
+    retained-stays : (run : Read) → Stays (retained l most hits source t run)
     unfolding retained untaken
     retained-stays (Paid a m) =
         carry-stays a m (placement (l .header .limits) most t (l .entries)) (placement-in (l .header .limits) most t (l .entries))
@@ -138,10 +137,10 @@ module _ (l : Ledger) (hits : ℕ) (t : Row) where
     retained-stays (Stopped a m) = (tt, refl)
 
     module _ (run : Read) where
-      pub retain-within : Within (length (retain l most hits t run .ledger .entries)) (retain l most hits t run .outcome)
+      pub retain-within : Within (length (retain l most hits source t run .ledger .entries)) (retain l most hits source t run .outcome)
       unfolding retain
       retain-within = retained-stays (andThen run (pay (retainReads (l .header .limits) most t (l .entries)))) .0
 
-      pub retain-limits : retain l most hits t run .ledger .header .limits ≡ l .header .limits
+      pub retain-limits : retain l most hits source t run .ledger .header .limits ≡ l .header .limits
       unfolding retain
       retain-limits = retained-stays (andThen run (pay (retainReads (l .header .limits) most t (l .entries)))) .1

@@ -33,7 +33,7 @@ use Rattle.retain.specs.declared.Retention.{Retention}
 use Rattle.retain.specs.Ends.{retainEnd}
 use Rattle.transfers.specs.declared.receiving.Progress.the-variants.{Whole, Declined, Stopped}
 use Rattle.transfers.specs.declared.receiving.TransferState.{TransferState}
-use Rattle.transfers.specs.Receiving.{receivedEnd}
+use Rattle.transfers.specs.Receiving.{receivedEnd, sourceOf}
 use Rattle.transfers.specs.Transfer.{passedBy, tickedAs, tickedBy, Carried, Ready}
 use Rattle.transfers.specs.Handing.{handed, Keeps, Handed}
 use Rattle.transfers.proofs.receiving.Progress.{the-type}
@@ -116,17 +116,20 @@ module _ (n c : ℕ) (p : TransferState) (slots postings : List ℕ) (v : Transf
     (limits : LearningLimits)
     (s : Stored (p .header .limits .atoms) (slotAt ts i)) (o : limits .«founded_outputs» ≤ maxOutputs) (k : Retention) (ws ps : List ℕ)
     (e : retainEnd k ws ps
-    ≡ receivedEnd (lent (p .header) slots postings) (rowIn (take ((slotWords * i + slotWords) - slotWords * i) (drop (slotWords * i) ts)))
+    ≡ receivedEnd (lent (p .header) slots postings) (sourceOf
+    (take ((slotWords * i + slotWords) - slotWords * i) (drop (slotWords * i) ts)))
+    (rowIn (take ((slotWords * i + slotWords) - slotWords * i) (drop (slotWords * i) ts)))
     (limits .«founded_outputs») (getD ts (slotWords * i + unsharedAt) 0)
     (pay (suc (literals (rowIn (take ((slotWords * i + slotWords) - slotWords * i) (drop (slotWords * i) ts))))) (p .account)
     (p .meter))) where
   abbrev row : List ℕ
   row = slotAt ts i
 
-  r : Received n c p v k ws ps (receive limits (getD row unsharedAt 0) (rowIn row) v)
+  r : Received n c p v k ws ps (receive limits (getD row unsharedAt 0) (sourceOf row) (rowIn row) v)
   r = carried-received n c p slots postings v h row s limits o (getD row unsharedAt 0) k ws ps
       (e
-      ∙ ap₂ (λ (x : List ℕ) (z : ℕ). receivedEnd (lent (p .header) slots postings) (rowIn x) (limits .«founded_outputs») z
+      ∙ ap₂ (λ (x : List ℕ) (z : ℕ). receivedEnd (lent (p .header) slots postings) (sourceOf x) (rowIn x)
+      (limits .«founded_outputs») z
       (pay (suc (literals (rowIn x))) (p .account) (p .meter)))
       (slot-code ts i) (word-five ts i))
 
@@ -168,9 +171,10 @@ module _ (n c : ℕ) (p : TransferState) (slots postings : List ℕ) (v : Transf
         (subst
         (λ (us : List ℕ). Stood (k .header) us ps
         (changeAt j (λ z. withHits z (saturatingAdd (z .hits) (getD row unsharedAt 0)))
-        (receive limits (getD row unsharedAt 0) (rowIn row) v .ledger)))
+        (receive limits (getD row unsharedAt 0) (sourceOf row) (rowIn row) v .ledger)))
         (sym (m ∙ ap (λ (z : ℕ). hitsAdded j z ws) (word-five ts i)))
-        (stood-hits-added (k .header) ws ps (receive limits (getD row unsharedAt 0) (rowIn row) v .ledger) (r .stood) j (subsumed-in r a)
+        (stood-hits-added (k .header) ws ps (receive limits (getD row unsharedAt 0) (sourceOf row) (rowIn row) v .ledger) (r .stood) j
+        (subsumed-in r a)
         (getD row unsharedAt 0))) refl)
 
 -- ---- the tick before it

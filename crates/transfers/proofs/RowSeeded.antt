@@ -22,7 +22,7 @@ use Rattle.retain.specs.declared.Retention.{Retention}
 use Rattle.retain.specs.Ends.{retainEnd}
 use Rattle.transfers.specs.declared.receiving.Progress.the-variants.{Whole, Declined, Stopped}
 use Rattle.transfers.specs.declared.receiving.TransferState.{TransferState}
-use Rattle.transfers.specs.Receiving.{receivedEnd}
+use Rattle.transfers.specs.Receiving.{receivedEnd, sourceOf}
 use Rattle.transfers.specs.Transfer.{passedBy, tickedAs, tickedBy, Carried}
 use Rattle.transfers.proofs.Seeds.{seed-past, seed-halted, seed-stops, seed-declines, seed-subsumed, seed-added}
 use Rattle.transfers.proofs.Carrying.{Received, carried-ticked, carried-up, carried-received}
@@ -52,9 +52,9 @@ module _ (n c : ℕ) (p : TransferState) (slots postings : List ℕ) (v : Transf
   module _ (s : Stored (p .header .limits .atoms) row) (o : limits .«founded_outputs» ≤ maxOutputs) (late : mark < getD row bornAt 0)
       (k : Retention) (ws ps : List ℕ)
       (e : retainEnd k ws ps
-      ≡ receivedEnd (lent (p .header) slots postings) (rowIn row) (limits .«founded_outputs») (getD row hitsAt 0)
+      ≡ receivedEnd (lent (p .header) slots postings) (sourceOf row) (rowIn row) (limits .«founded_outputs») (getD row hitsAt 0)
       (pay (suc (literals (rowIn row))) (p .account) (p .meter))) where
-    r : Received n c p v k ws ps (receive limits (getD row hitsAt 0) (rowIn row) v)
+    r : Received n c p v k ws ps (receive limits (getD row hitsAt 0) (sourceOf row) (rowIn row) v)
     r = carried-received n c p slots postings v h row s limits o (getD row hitsAt 0) k ws ps e
 
     same : p .added ≡ p .added + 0
@@ -88,6 +88,8 @@ module _ (n c : ℕ) (p : TransferState) (slots postings : List ℕ) (v : Transf
           changed-as r Whole 1 (omega arith) (p .added + 1) refl q i (λ x. withDelivered (x .unshared) x)
           (subst
           (λ (us : List ℕ). Stood (k .header) us ps
-          (changeAt i (λ x. withDelivered (x .unshared) x) (receive limits (getD row hitsAt 0) (rowIn row) v .ledger))) (sym m)
-          (stood-marked (k .header) ws ps (receive limits (getD row hitsAt 0) (rowIn row) v .ledger) (r .stood) i (added-in r a)))
+          (changeAt i (λ x. withDelivered (x .unshared) x) (receive limits (getD row hitsAt 0) (sourceOf row) (rowIn row) v .ledger)))
+          (sym m)
+          (stood-marked (k .header) ws ps (receive limits (getD row hitsAt 0) (sourceOf row) (rowIn row) v .ledger) (r .stood) i
+          (added-in r a)))
           (seed-added limits mark (entryIn row) v (lt-leb (getD row bornAt 0) mark late) i (told r a))

@@ -32,7 +32,7 @@ module _ (tier : LearningLimits) (mark : ℕ) where
 
   module _ (e : Entry) (v : Transfer) where
     abbrev d : Retention
-    d = receive tier (e .hits) (e .row) v
+    d = receive tier (e .hits) (e .source) (e .row) v
 
     abbrev marks : ℕ → Ledger
     marks p = changeAt p (λ x. withDelivered (x .unshared) x) (d .ledger)

@@ -16,7 +16,7 @@ use Rattle.transfers.specs.Transfer.{Carried}
 -- a row of the tier that is not passed over, once its tick is made
 unfoldable pub handed : LearningLimits → Entry → Transfer → Delivery
 handed tier e v =
-    let d : Retention = receive tier (e .unshared) (e .row) v in
+    let d : Retention = receive tier (e .unshared) (e .source) (e .row) v in
     elim (d .outcome) [
       | Stops ↦ (e ∷ [], received v d (d .ledger) 0 stopped)
       | Declines ↦ (e ∷ [], received v d (d .ledger) 0 declined)

@@ -8,7 +8,7 @@ ghost use Rattle.slots.specs.Layout.{Stored};
 ghost use Rattle.contents.specs.Lent.{lent};
 ghost use Rattle.contents.specs.Accepted.{Accepted};
 ghost use Rattle.retain.specs.Ends.{retainEnd};
-ghost use Rattle.transfers.specs.Receiving.{receivedEnd};
+ghost use Rattle.transfers.specs.Receiving.{receivedEnd, sourceOf};
 ghost use Rattle.transfers.specs.Transfer.{startBy, passedBy, tickedBy};
 ghost use Rattle.transfers.specs.Ends.{answerOf};
 use meter::Account;
@@ -20,7 +20,9 @@ use meter::Verdict;
 use model::Header;
 use model::OUTPUTS_AT;
 use model::SLOT_WORDS;
+use model::SOURCE_AT;
 use model::TransferAnswer;
+use model::source_of;
 use retain::Retained;
 use retain::Retention;
 use retain::retain;
@@ -65,7 +67,7 @@ fn larger(a: u64, b: u64) -> u64
     a
 }
 
-// The row in a slot is retained once its literals are paid for, one read each: Subsumed or Added and a position.
+// The row in a slot is retained, with its own source, once its literals are paid for, one read each: Subsumed or Added and a position.
 // Declined or Stopped where a read is not paid; Declined where the rows are protected.
 fn receive_literals(
     header: Header,
@@ -79,7 +81,8 @@ fn receive_literals(
 ) -> Retention
     requires { ⌜ Accepted header (now slots) (now postings) ⌝ ∗ ⌜ Stored (header .limits .atoms) (now row) ⌝ ∗ ⌜ outputs ≤ maxOutputs ⌝ }
     ensures { λ r. ⌜ retainEnd r (now (slots .exit)) (now (postings .exit))
-        ≡ receivedEnd (lent header (now (slots .entry)) (now (postings .entry))) (rowIn (now (row .entry))) outputs hits
+        ≡ receivedEnd (lent header (now (slots .entry)) (now (postings .entry))) (sourceOf (now (row .entry)))
+        (rowIn (now (row .entry))) outputs hits
         (pay (literals (rowIn (now (row .entry)))) account work) ⌝ }
 {
     let mut p = [0u64; SLOT_WORDS];
@@ -90,7 +93,18 @@ fn receive_literals(
     match verdict {
         Verdict::Yes => {
             let most = larger(row[OUTPUTS_AT], outputs);
-            retain(header, slots, postings, &mut p, most, hits, account, meter)
+            let source = source_of(row[SOURCE_AT]);
+            retain(
+                header,
+                slots,
+                postings,
+                &mut p,
+                most,
+                hits,
+                source,
+                account,
+                meter,
+            )
         }
         Verdict::Stopped => Retention {
             answer: Retained::Stopped,
@@ -127,7 +141,8 @@ pub fn receive(
 ) -> Retention
     requires { ⌜ Accepted header (now slots) (now postings) ⌝ ∗ ⌜ Stored (header .limits .atoms) (now row) ⌝ ∗ ⌜ outputs ≤ maxOutputs ⌝ }
     ensures { λ r. ⌜ retainEnd r (now (slots .exit)) (now (postings .exit))
-        ≡ receivedEnd (lent header (now (slots .entry)) (now (postings .entry))) (rowIn (now (row .entry))) outputs hits
+        ≡ receivedEnd (lent header (now (slots .entry)) (now (postings .entry))) (sourceOf (now (row .entry)))
+        (rowIn (now (row .entry))) outputs hits
         (pay (suc (literals (rowIn (now (row .entry))))) account work) ⌝ }
 {
     match account.pay(work) {

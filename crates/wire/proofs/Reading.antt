@@ -1,7 +1,7 @@
 -- Words written and read again: the header, the meter, the cursor are what they were. Assumes nothing.
 use mathlib.Core.Path.{_≡_, refl, sym, ap}
 use mathlib.Core.Bool.{Bool, true, false}
-use mathlib.Core.List.{List, [], _∷_}
+use mathlib.Core.List.{List, [], _∷_, _++_}
 use Prim.Native.Nat.{ℕ}
 use native.Mathlib.Omega.{arith}
 use lib.ListN.{length, getD, take}
@@ -28,13 +28,21 @@ mark-none w n b e = ap (λ (k : ℕ). markIn k n b) (sym e)
 pub mark-some : (w n b : ℕ) → (w ≡ 0 → ⊥) → Marked n b ≡ markIn w n b
 mark-some w n b f = rw (ne-eqb w 0 f, markIn)
 
-pub mark-three : (m : Mark) → getD (markWords m) 0 0 ∷ getD (markWords m) 1 0 ∷ getD (markWords m) 2 0 ∷ [] ≡ markWords m
-mark-three Unmarked = refl
-mark-three (Marked n b) = refl
+-- the words of a mark, and one more
+abbrev markThen : Mark → ℕ → List ℕ
+markThen m k = markWords m ++ (k ∷ [])
 
-mark-read : (m : Mark) → markIn (getD (markWords m) 0 0) (getD (markWords m) 1 0) (getD (markWords m) 2 0) ≡ m
-mark-read Unmarked = refl
-mark-read (Marked n b) = refl
+pub mark-three : (m : Mark) (k : ℕ) → getD (markWords m) 0 0 ∷ getD (markWords m) 1 0 ∷ getD (markWords m) 2 0 ∷ k ∷ [] ≡ markThen m k
+mark-three Unmarked k = refl
+mark-three (Marked n b) k = refl
+
+mark-read : (m : Mark) (k : ℕ) → markIn (getD (markThen m k) 0 0) (getD (markThen m k) 1 0) (getD (markThen m k) 2 0) ≡ m
+mark-read Unmarked k = refl
+mark-read (Marked n b) k = refl
+
+last-read : (m : Mark) (k : ℕ) → getD (markThen m k) 3 0 ≡ k
+last-read Unmarked k = refl
+last-read (Marked n b) k = refl
 
 -- a header of limits and a mark that were read, and of the words between
 pub header-parts : (ws : List ℕ) {l : LearningLimits} {m : Mark} → l ≡ limitsIn ws → m ≡ markIn (getD ws 22 0) (getD ws 23 0) (getD ws 24 0)
@@ -45,7 +53,8 @@ header-parts ws e f = rw (e, f)
 
 pub header-read : (h : Header) → headerIn (headerWords h) ≡ h
 unfolding headerIn headerWords limitsIn
-header-read h = rw (flag-read (h .stale), flag-read (h .full), mark-read (h .mark))
+header-read h =
+    rw (flag-read (h .stale), flag-read (h .full), mark-read (h .mark) (h .founded), last-read (h .mark) (h .founded))
 
 pub meter-read : (m : Meter) → meterIn (meterWords m) ≡ m
 meter-read m = refl
@@ -54,13 +63,13 @@ pub cursor-read : (k : OutputCursor) → cursorIn (cursorWords k) ≡ k
 cursor-read k = refl
 
 -- ---- as many words as each has
-mark-long : (m : Mark) → length (markWords m) ≡ 3
-mark-long Unmarked = refl
-mark-long (Marked n b) = refl
+mark-long : (m : Mark) (k : ℕ) → length (markThen m k) ≡ 4
+mark-long Unmarked k = refl
+mark-long (Marked n b) k = refl
 
 pub header-long : (h : Header) → length (headerWords h) ≡ headerLength
 unfolding headerWords
-header-long h = let e = mark-long (h .mark) in omega arith
+header-long h = let e = mark-long (h .mark) (h .founded) in omega arith
 
 pub limits-first : (h : Header) → limitsIn (take limitsLength (headerWords h)) ≡ h .limits
 unfolding limitsIn headerWords

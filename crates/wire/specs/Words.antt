@@ -1,7 +1,7 @@
 -- 01, Header, Limits, Meter, and the cursor of next output, each as a list of words, and read from any words. Assumes nothing.
 -- A flag is 0 or 1; read, it is true if its word is not 0. A word past the end is read as 0.
 use mathlib.Core.Bool.{Bool, true, false, not}
-use mathlib.Core.List.{List, [], _∷_}
+use mathlib.Core.List.{List, [], _∷_, _++_}
 use Prim.Native.Nat.{ℕ}
 use lib.Dec.{eqb}
 use lib.ListN.{getD}
@@ -19,7 +19,7 @@ abbrev pub limitsLength : ℕ
 limitsLength = 10
 
 abbrev pub headerLength : ℕ
-headerLength = 25
+headerLength = 26
 
 abbrev pub meterLength : ℕ
 meterLength = 2
@@ -56,7 +56,7 @@ markWords (Marked number born) = 1 ∷ number ∷ born ∷ []
 abbrev pub markIn : ℕ → ℕ → ℕ → Mark
 markIn w number born = elim (flagIn w) [ true ↦ Marked number born | false ↦ Unmarked ]
 
--- ---- Header: the limits first, then 01's order
+-- ---- Header: the limits first, then 01's order; the count of Founded rows (02, Eight) is the last, so that the others keep their places
 unfoldable pub headerWords : Header → List ℕ
 headerWords h =
     h .limits .atoms
@@ -81,14 +81,14 @@ headerWords h =
     ∷ h .seeded
     ∷ flagWord (h .stale)
     ∷ flagWord (h .full)
-    ∷ markWords (h .mark)
+    ∷ (markWords (h .mark) ++ (h .founded ∷ []))
 
 -- a header of its limits and its mark, and of the words between
 abbrev pub headerWith : LearningLimits → Mark → List ℕ → Header
 headerWith l m ws =
     header l (getD ws 10 0) (getD ws 11 0) (getD ws 12 0) (getD ws 13 0) (getD ws 14 0)
     (record { 0 = getD ws 15 0 }) (record { 0 = getD ws 16 0 }) (getD ws 17 0) (getD ws 18 0) (getD ws 19 0)
-    (flagIn (getD ws 20 0)) (flagIn (getD ws 21 0)) m
+    (getD ws 25 0) (flagIn (getD ws 20 0)) (flagIn (getD ws 21 0)) m
 
 unfoldable pub headerIn : List ℕ → Header
 headerIn ws = headerWith (limitsIn ws) (markIn (getD ws 22 0) (getD ws 23 0) (getD ws 24 0)) ws

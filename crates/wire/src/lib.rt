@@ -30,7 +30,7 @@ use model::TransferAnswer;
 // The words of the limits, the header, the meter, the cursor, and an answer.
 pub const LIMITS_WORDS: usize = 10;
 
-pub const HEADER_WORDS: usize = 25;
+pub const HEADER_WORDS: usize = 26;
 
 pub const METER_WORDS: usize = 2;
 
@@ -88,6 +88,8 @@ pub const HEAD_MARKED_AT: usize = 22;
 pub const HEAD_MARK_NUMBER_AT: usize = 23;
 
 pub const HEAD_MARK_BORN_AT: usize = 24;
+
+pub const HEAD_FOUNDED_AT: usize = 25;
 
 // An answer as numbers: `refusal` is the number of a refusal, or 0; then `case` and `value` say which answer it is, and `contradicted`
 // is the code of the output that it names, or 0.
@@ -181,6 +183,7 @@ pub fn header_of(words: &[u64; HEADER_WORDS]) -> Header
         evicted: words[HEAD_EVICTED_AT],
         deliveries: words[HEAD_DELIVERIES_AT],
         seeded: words[HEAD_SEEDED_AT],
+        founded: words[HEAD_FOUNDED_AT],
         stale: words[HEAD_STALE_AT] != 0,
         full: words[HEAD_FULL_AT] != 0,
         mark,
@@ -224,6 +227,7 @@ pub fn put_header(h: Header, words: &mut [u64; HEADER_WORDS])
         m[0],
         m[1],
         m[2],
+        h.founded,
     ];
 }
 

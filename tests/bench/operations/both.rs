@@ -3,7 +3,7 @@
 use crate::boundary::{Answer, Limits};
 use crate::lent::Lent;
 use crate::rows::{ATOMS, ROWS, Row};
-use zetesis_ferraris::regions::{LearningLimits, Literal, Retention, Tier, metered};
+use zetesis_ferraris::regions::{LearningLimits, Literal, Origin, Retention, Tier, metered};
 
 const PLENTY: u64 = 1 << 40;
 fn limits(atoms: u64) -> Limits {
@@ -51,7 +51,7 @@ impl Offered {
     pub fn to(&self, tier: &mut Tier) -> Answer {
         assert!(tier.can_capture(), "the ledger is open");
         let (retained, ticks) = metered(u64::MAX, |work| {
-            tier.capture(&self.conditions, &self.outputs, work)
+            tier.capture(&self.conditions, &self.outputs, Origin::Founded, work)
         });
         match retained.expect("the meter does not run out") {
             Retention::Declined => [3, 0, ticks, 0],

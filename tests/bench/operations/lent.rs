@@ -7,6 +7,8 @@ const ROWS: usize = 11;
 const STALE: usize = 20;
 const FULL: usize = 21;
 const HITS: usize = 4;
+/// The source of all rows.
+const FOUNDED: u64 = 0;
 
 /// A ledger as its caller keeps it.
 #[derive(Clone)]
@@ -43,7 +45,10 @@ impl Lent {
     }
 
     pub fn offer(&mut self, conditions: &[u64], outputs: &[u64]) -> Answer {
-        given(|answer| self.0.offer(conditions, outputs, answer, &mut meter()))
+        given(|answer| {
+            self.0
+                .offer((conditions, outputs), FOUNDED, answer, &mut meter())
+        })
     }
 
     pub fn candidates(&mut self, atoms: &[u64], found: &mut [u64]) -> Answer {

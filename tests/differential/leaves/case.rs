@@ -3,7 +3,7 @@
 use std::fmt;
 
 /// The words of a slot.
-pub const SLOT_WORDS: usize = 168;
+pub const SLOT_WORDS: usize = 169;
 
 /// The functions compared.
 #[derive(Clone, Copy, Debug, PartialEq, Eq)]
@@ -137,7 +137,7 @@ impl Case {
 /// What came back.
 #[derive(Clone, Copy, Debug, PartialEq, Eq)]
 pub enum Answer {
-    /// The input is none: 1 a row, 2 a region, 3 a cursor, 4 a maximum or a choice of forms. The library's 5, no slot of 168
+    /// The input is none: 1 a row, 2 a region, 3 a cursor, 4 a maximum or a choice of forms. The library's 5, no slot of 169
     /// words, cannot be given here.
     Unfit(u64),
     Stopped,

@@ -59,7 +59,7 @@ fn cursor_fits(row: &Row, [next, word, present, absent]: [u64; 4]) -> bool {
     word == group.0 && present & !group.1 == 0 && absent & !group.2 == 0
 }
 
-/// A slot: the counts, and the body.
+/// A slot: the counts, the body, and 0 for the source: a leaf's row is Founded.
 fn slot(counts: [u64; 4], body: impl IntoIterator<Item = u64>) -> Vec<u64> {
     let mut words = counts.to_vec();
     words.extend([0; 4]);

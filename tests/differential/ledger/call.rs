@@ -99,6 +99,7 @@ pub enum Call {
         meter: Meter,
         conditions: Vec<u64>,
         outputs: Vec<u64>,
+        source: u64,
     },
     Hit {
         place: usize,
@@ -214,6 +215,16 @@ impl Call {
         }
     }
 
+    /// The ledger that an offer or a transfer may add rows to.
+    pub fn receiver(&self) -> Option<usize> {
+        match self {
+            Self::Offer { place, .. } => Some(*place),
+            Self::Seed { tier, .. } => Some(*tier),
+            Self::Deliver { store, .. } => Some(*store),
+            _ => None,
+        }
+    }
+
     pub fn meter(&self) -> Option<Meter> {
         self.clone().meter_mut().copied()
     }
@@ -306,8 +317,16 @@ impl Call {
             Self::Offer {
                 conditions,
                 outputs,
+                source,
                 ..
-            } => write!(f, " {} {}", List(conditions), List(outputs)),
+            } => {
+                write!(f, " {} {}", List(conditions), List(outputs))?;
+                // The last word may be left out.
+                match source {
+                    0 => Ok(()),
+                    source => write!(f, " {source}"),
+                }
+            }
             Self::Hit { position, .. } => write!(f, " {position}"),
             Self::Candidates { atoms, .. } => write!(f, " {}", List(atoms)),
             Self::Deduce {

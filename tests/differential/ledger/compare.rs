@@ -2,7 +2,7 @@
 
 use std::array;
 
-use oracle::{Answer, Header, Ledger};
+use oracle::{Answer, Header, Ledger, Row};
 
 use crate::book::Book;
 use crate::call::{Call, PLACES};
@@ -14,6 +14,9 @@ use crate::layout::{self, SLOT};
 use crate::rust::{self, Ended};
 use crate::told::{Told, told};
 use crate::unfit;
+
+/// Up to so many rows are few.
+const FEW: usize = 8;
 
 /// The ledgers of a script on both sides.
 #[derive(Default)]
@@ -40,6 +43,8 @@ pub struct Made {
     pub value: u64,
     /// The hits that a closing counted.
     pub hits: u64,
+    /// The rows before it of the ledger that an offer or a transfer may add to, where they are few.
+    pub rows: Vec<Row>,
     /// The Requires of a deduction or a closing.
     pub told: Told,
     /// What differs, in words.
@@ -92,6 +97,7 @@ impl World {
         let given = End::lent(call, &self.ledgers);
         let (before_marks, hits) = (given.marks(), self.hits(call));
         let told = told(call, &self.ledgers, &given);
+        let rows = self.receiving(call);
         let Ended { answer, end } = rust::run(call, &mut self.ledgers)?;
         let mut lent = host::lend(call, &mut self.books, given)?;
         let head = lent.tier.head;
@@ -115,6 +121,7 @@ impl World {
             highest: highest(&decided),
             value,
             hits: self.hits(call).wrapping_sub(hits),
+            rows,
             told,
             difference,
         })
@@ -130,6 +137,18 @@ impl World {
         };
         let hits = (0..ledger.rows()).map(|position| ledger.row(position).hits);
         hits.fold(0, u64::wrapping_add)
+    }
+
+    /// The rows of the ledger that an offer or a transfer may add to; none where they are many.
+    fn receiving(&self, call: &Call) -> Vec<Row> {
+        let ledger = call
+            .receiver()
+            .and_then(|place| self.ledgers[place].as_ref());
+        let few = ledger.filter(|ledger| ledger.rows() <= FEW);
+        few.map_or(Vec::new(), |ledger| {
+            let positions = 0..ledger.rows();
+            positions.map(|position| ledger.row(position)).collect()
+        })
     }
 
     fn header(&self, place: Option<usize>) -> Option<Header> {

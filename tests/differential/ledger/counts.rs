@@ -6,6 +6,7 @@ use crate::call::{Call, Meter};
 use crate::compare::{Made, World};
 use crate::contradicted;
 use crate::distant;
+use crate::sources;
 use crate::told::{Require, Told};
 
 const OPERATIONS: usize = Call::NAMES.len();
@@ -24,6 +25,7 @@ const ENDINGS: [&[&str]; OPERATIONS] = [
         "Refused 2",
         "Refused 3",
         "Refused 4",
+        "Refused 11",
     ],
     &["Done", "Refused 1", "Refused 2", "Refused 3", "Refused 5"],
     &["Done", "Refused 1", "Refused 2", "Refused 3"],
@@ -85,7 +87,7 @@ const TRANSFER: &[&str] = &[
 ];
 
 /// The most endings that an operation has.
-const MOST_ENDINGS: usize = 10;
+const MOST_ENDINGS: usize = 11;
 
 /// The name of an ending.
 fn ending(answer: Answer, charge: u64) -> String {
@@ -160,8 +162,9 @@ const SHAPES: [&str; 57] = [
     "a tier that was delivered to",
 ];
 
-/// All shapes: those of Requires and those of many atoms behind the others.
-const ALL_SHAPES: usize = SHAPES.len() + contradicted::SHAPES.len() + distant::SHAPES.len();
+/// All shapes: those of Requires, of many atoms and of sources behind the others.
+const ALL_SHAPES: usize =
+    SHAPES.len() + contradicted::SHAPES.len() + distant::SHAPES.len() + sources::SHAPES.len();
 
 /// The counts: by operation and ending, and by shape.
 pub struct Counts {
@@ -181,7 +184,7 @@ impl Default for Counts {
 /// The names of all shapes.
 fn shape_names() -> impl Iterator<Item = &'static str> {
     let first = SHAPES.into_iter().chain(contradicted::SHAPES);
-    first.chain(distant::SHAPES)
+    first.chain(distant::SHAPES).chain(sources::SHAPES)
 }
 
 /// The shapes of a call.
@@ -425,6 +428,7 @@ impl Counts {
         let place = place.unwrap_or_else(|| panic!("{} ends with {name}", Call::NAMES[operation]));
         self.endings[operation][place] += 1;
         self.note(distant::shapes(call, world, made));
+        self.note(sources::shapes(call, world, made));
         if !matches!(made.answer, Answer::Refused(_)) {
             self.note(shapes(call, world, made));
         }

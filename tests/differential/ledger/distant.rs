@@ -7,6 +7,7 @@ use oracle::{Answer, Ledger, Limits};
 use crate::call::{Call, Wound};
 use crate::compare::{Made, World};
 use crate::far::{HALF, PLACES, SPAN, TOO_MANY, alike, splits};
+use crate::shapes::{Places, chosen};
 
 /// The shapes that must occur.
 pub const SHAPES: [&str; 38] = [
@@ -49,17 +50,6 @@ pub const SHAPES: [&str; 38] = [
     "an offer with atom 200,000 as a condition and as an output",
     "an offer with atom 1,048,575 as a condition and an output",
 ];
-
-/// The shapes of a call, by their places in `SHAPES`.
-type Places = Vec<usize>;
-
-/// The places that have something, from one on.
-fn chosen<const N: usize>(first: usize, has: [bool; N]) -> Places {
-    let has = has.into_iter().enumerate();
-    has.filter(|(_, has)| *has)
-        .map(|(place, _)| first + place)
-        .collect()
-}
 
 /// The names of a call's shapes; `world` is as it left it.
 pub fn shapes(call: &Call, world: &World, made: &Made) -> Vec<&'static str> {

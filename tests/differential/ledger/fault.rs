@@ -4,7 +4,7 @@ use crate::call::Call;
 use crate::end::Scratch;
 use crate::far::SPAN;
 use crate::host::Lent;
-use crate::layout::{ANSWER, HEAD, SLOT};
+use crate::layout::{ANSWER, FOUNDED, HEAD, SLOT, SOURCE};
 use crate::told::{Require, Told};
 
 #[derive(Clone, Copy, Debug, PartialEq, Eq)]
@@ -57,10 +57,22 @@ pub enum Fault {
     Unshared,
     /// A stopped delivery pays nothing.
     Sharing,
+    /// A Tip is stored as a Founded row.
+    Tip,
+    /// A row that joins others, or replaces them, has the other source.
+    Joined,
+    /// A Tip is counted as a Founded row.
+    Counted,
+    /// The founded count never falls.
+    Rises,
+    /// The rows that a transfer brings are all Founded, and counted so.
+    Carried,
+    /// A source that is none is refused before all else.
+    Eager,
 }
 
 impl Fault {
-    pub const ALL: [Self; 24] = [
+    pub const ALL: [Self; 30] = [
         Self::Ticks,
         Self::Meter,
         Self::Sign,
@@ -85,6 +97,12 @@ impl Fault {
         Self::Mark,
         Self::Unshared,
         Self::Sharing,
+        Self::Tip,
+        Self::Joined,
+        Self::Counted,
+        Self::Rises,
+        Self::Carried,
+        Self::Eager,
     ];
 
     /// Alters what a call left. `head` is the tier's header before it.
@@ -92,13 +110,20 @@ impl Fault {
         let answer = &mut lent.end.answer;
         if lent.end.result != 0 {
             answer[0] ^= u64::from(self == Self::Refused);
+            let over = matches!(call, Call::Offer { source, .. } if *source > 1);
+            if self == Self::Eager && over {
+                lent.end.result = 11;
+            }
             return;
         }
         if let Some(last) = told.requires.last() {
             self.alter_named(last, told, answer);
         }
         match call {
-            Call::Offer { .. } => self.alter_offer(head, lent),
+            Call::Offer { source, .. } => {
+                self.alter_offer(head, lent);
+                self.alter_source(*source, head, lent);
+            }
             Call::Deduce { .. } if self == Self::Sign && answer[0] == 3 => answer[1] ^= 1,
             Call::Deduce { .. } | Call::Next { .. } if self == Self::Narrow => answer[1] %= SPAN,
             Call::Hit { position, .. } if self == Self::Hits && *position > 0 => {
@@ -136,9 +161,26 @@ impl Fault {
             Self::Attempts if case == 2 => tier.head[14] = head[14],
             Self::Stored if case == 5 => tier.slots[SLOT * value as usize + 8] %= SPAN,
             Self::Unused if case == 5 && value > 0 => {
-                let last = SLOT * (value as usize + 1) - 1;
-                tier.slots[last] = 1;
+                // The last of the body.
+                tier.slots[SLOT * value as usize + SOURCE - 1] = 1;
             }
+            _ => {}
+        }
+    }
+
+    /// Of an offer that was Added, with its source.
+    fn alter_source(self, source: u64, head: &[u64; HEAD], lent: &mut Lent) {
+        let (tier, [case, value, ..]) = (&mut lent.tier, lent.end.answer);
+        if case != 5 {
+            return;
+        }
+        let stored = &mut tier.slots[SLOT * value as usize + SOURCE];
+        let grows = tier.head[11] > head[11] || tier.head[17] > head[17];
+        match self {
+            Self::Tip => *stored = 0,
+            Self::Joined if !grows => *stored ^= 1,
+            Self::Counted => tier.head[FOUNDED] += source,
+            Self::Rises => tier.head[FOUNDED] = tier.head[FOUNDED].max(head[FOUNDED]),
             _ => {}
         }
     }
@@ -167,8 +209,18 @@ impl Fault {
     }
 
     fn alter_transfer(self, call: &Call, head: &[u64; HEAD], lent: &mut Lent) {
-        let tier = &mut lent.tier;
         let seeds = matches!(call, Call::Seed { .. });
+        if self == Self::Carried {
+            let book = if seeds {
+                &mut lent.tier
+            } else {
+                &mut lent.store
+            };
+            book.head[FOUNDED] = book.head[11];
+            let slots = book.slots.chunks_mut(SLOT);
+            slots.for_each(|slot| slot[SOURCE] = 0);
+        }
+        let tier = &mut lent.tier;
         let stopped = lent.end.answer[0] == 2;
         match self {
             Self::Mark if seeds && stopped => tier.head[22] = 1,

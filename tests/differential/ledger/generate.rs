@@ -57,6 +57,28 @@ pub struct Author {
     wanted: usize,
     /// A publication to go on with.
     going: Option<Call>,
+    /// Who offers Tips; none where all rows are Founded.
+    chef: Option<Chef>,
+}
+
+/// Chooses the sources of rows, by random numbers of its own: without it a script is as it was.
+struct Chef {
+    random: Random,
+    /// Of eight rows so many are Tips.
+    tips: u64,
+}
+
+impl Chef {
+    /// A source: 0 for Founded, 1 for a Tip.
+    fn source(&mut self) -> u64 {
+        u64::from(self.random.chance(self.tips, 8))
+    }
+
+    /// A floor about as high as the founded count of a full tier is likely to be.
+    fn floor(&mut self, tier_rows: u64) -> u64 {
+        let founded = tier_rows * (8 - self.tips) / 8;
+        (founded + self.random.below(3)).saturating_sub(1)
+    }
 }
 
 impl Author {
@@ -96,7 +118,24 @@ impl Author {
             ledgers,
             wanted,
             going: None,
+            chef: None,
         }
+    }
+
+    /// The same with Tips among the rows that are offered.
+    pub fn with_tips(mut self, mut random: Random) -> Self {
+        let tips = random.pick(&[1, 2, 4, 4, 6, 8]);
+        self.chef = Some(Chef { random, tips });
+        self
+    }
+
+    /// The source of a row that is offered: now and then none.
+    fn source(&mut self) -> u64 {
+        let Some(chef) = &mut self.chef else { return 0 };
+        if chef.random.chance(1, 25) {
+            return chef.random.pick(&[2, 2, 3, 256, 1 << 32, u64::MAX]);
+        }
+        chef.source()
     }
 
     /// The calls after the ledgers are made and filled.
@@ -200,6 +239,11 @@ impl Author {
         if random.chance(24, 25) {
             limits.atoms = self.atoms;
         }
+        if let Some(chef) = &mut self.chef
+            && chef.random.chance(1, 2)
+        {
+            limits.founded_floor = chef.floor(tier_rows);
+        }
         if self.wanted > 0 {
             limits.founded_conditions = 16;
             limits.founded_outputs = 64;
@@ -252,6 +296,7 @@ impl Author {
             meter: Meter::fresh(1_000_000),
             conditions,
             outputs,
+            source: self.chef.as_mut().map_or(0, Chef::source),
         }
     }
 
@@ -265,6 +310,7 @@ impl Author {
             meter: parts::meter(&mut self.random, self.plain),
             conditions: row.0,
             outputs: row.1,
+            source: self.source(),
         }
     }
 

@@ -89,8 +89,9 @@ pub fn pass(call: &Call, lent: &mut Lent) {
         Call::Offer {
             conditions,
             outputs,
+            source,
             ..
-        } => tier.offer(conditions, outputs, answer, meter),
+        } => tier.offer((conditions, outputs), *source, answer, meter),
         Call::Hit { position, .. } => tier.hit(*position, answer),
         Call::Begin { .. } => tier.begin(answer),
         Call::Candidates { atoms, .. } => tier.candidates(atoms, found, answer, meter),

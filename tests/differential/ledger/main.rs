@@ -33,8 +33,11 @@ mod required;
 mod requires;
 mod run;
 mod rust;
+mod shapes;
 mod shrink;
+mod sources;
 mod sweep;
+mod tips;
 mod told;
 mod unfit;
 #[path = "../verdict.rs"]

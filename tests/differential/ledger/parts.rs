@@ -1,14 +1,41 @@
 //! The parts of random calls: meters, rows, regions, cursors. They are made from a few atoms and from the rows that a ledger has, so
 //! that rows subsume, join and replace each other and every answer comes up.
 
-use oracle::{Cursor, Ledger, Row};
+use oracle::{Cursor, Ledger, Limits, Row};
 
-use crate::call::{Meter, Region};
+use crate::call::{Call, Meter, Region};
 use crate::far::SPAN;
 use crate::random::Random;
 
 /// A row's conditions and outputs.
 pub type Codes = (Vec<u64>, Vec<u64>);
+
+/// More than any call of a script of one kind ticks.
+pub const AMPLE: Meter = Meter {
+    charged: 0,
+    limit: 1_000_000,
+};
+
+/// A ledger for the largest rows, with more attempts and reads than a script of one kind uses.
+pub fn roomy(place: usize, atoms: u64, tier_rows: u64, founded_floor: u64) -> Call {
+    let limits = Limits {
+        atoms,
+        tier_rows,
+        founded_conditions: 16,
+        founded_outputs: 64,
+        founded_floor,
+        founded_attempts: 256,
+        founded_work: 1_000_000,
+        share_work: 1_000_000,
+        share_conditions: 8,
+        share_hits: 2,
+    };
+    Call::Make {
+        place,
+        limits,
+        number: place as u64 + 1,
+    }
+}
 
 /// A number of nothing, of little, or of more than any call wants.
 pub fn amount(random: &mut Random) -> u64 {

@@ -1,39 +1,13 @@
 //! Scripts of Requires: rows of 64 outputs of which chosen ones are contradicted, and closings that act on several Requires.
 
-use oracle::Limits;
-
-use crate::call::{Call, Meter, Region};
+use crate::call::{Call, Region};
+use crate::parts::{AMPLE, roomy};
 use crate::random::Random;
 use crate::requires::{self, Place};
 
-/// More than any call here ticks.
-const AMPLE: Meter = Meter {
-    charged: 0,
-    limit: 1_000_000,
-};
 /// The ledger of wide rows, and that of the closings.
 const WIDE: usize = 0;
 const SHORT: usize = 1;
-
-fn make(place: usize, atoms: u64) -> Call {
-    let limits = Limits {
-        atoms,
-        tier_rows: 8,
-        founded_conditions: 16,
-        founded_outputs: 64,
-        founded_floor: 0,
-        founded_attempts: 256,
-        founded_work: 1_000_000,
-        share_work: 1_000_000,
-        share_conditions: 8,
-        share_hits: 2,
-    };
-    Call::Make {
-        place,
-        limits,
-        number: place as u64 + 1,
-    }
-}
 
 fn offer(place: usize, conditions: &[u64], outputs: &[u64]) -> Call {
     let mut outputs = outputs.to_vec();
@@ -43,6 +17,7 @@ fn offer(place: usize, conditions: &[u64], outputs: &[u64]) -> Call {
         meter: AMPLE,
         conditions: conditions.to_vec(),
         outputs,
+        source: 0,
     }
 }
 
@@ -70,7 +45,7 @@ fn close(marks: &[u64]) -> Call {
 
 /// Rows of 64 outputs, scalar and packed: deductions and closings with each place contradicted.
 fn wide(random: &mut Random, atoms: u64, calls: &mut Vec<Call>) {
-    calls.push(make(WIDE, atoms));
+    calls.push(roomy(WIDE, atoms, 8, 0));
     for (position, packed) in [false, true].into_iter().enumerate() {
         let row = requires::row(random, atoms, packed);
         calls.push(offer(WIDE, &row.conditions, &row.outputs));
@@ -124,7 +99,7 @@ fn chain(random: &mut Random, atoms: u64, calls: &mut Vec<Call>) {
     if random.chance(1, 2) {
         random.shuffle(&mut rows);
     }
-    calls.push(make(SHORT, atoms));
+    calls.push(roomy(SHORT, atoms, 8, 0));
     calls.extend(
         rows.iter()
             .map(|(conditions, outputs)| offer(SHORT, conditions, outputs)),
@@ -138,7 +113,7 @@ fn chain(random: &mut Random, atoms: u64, calls: &mut Vec<Call>) {
 fn late(random: &mut Random, atoms: u64, calls: &mut Vec<Call>) {
     let [condition, one, other] = literals(random, atoms);
     let (lesser, greater) = (one.min(other), one.max(other));
-    calls.push(make(SHORT, atoms));
+    calls.push(roomy(SHORT, atoms, 8, 0));
     calls.push(offer(SHORT, &[condition], &[lesser, greater]));
     calls.push(offer(SHORT, &[condition ^ 1], &[lesser ^ 1]));
     calls.push(close(&[greater ^ 1]));

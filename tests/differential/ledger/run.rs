@@ -9,6 +9,7 @@ use crate::random::Random;
 use crate::required;
 use crate::shrink;
 use crate::sweep::Sweep;
+use crate::tips;
 use crate::unfit;
 
 /// So many differences are shown, at their smallest.
@@ -84,20 +85,26 @@ impl Comparison {
         difference.is_none()
     }
 
-    /// A random script, and in some rounds one of Requires.
+    /// A random script, and in some rounds one of Requires, in some one of Tips.
     pub fn round(&mut self, random: Random) {
         let mut other = Random(!random.0);
         self.script(random);
+        let mut more = Random(other.word());
         if other.chance(1, 50) {
-            self.requires(other);
+            let calls = required::script(&mut other);
+            self.written(other, calls);
+        }
+        if more.chance(1, 20) {
+            let calls = tips::script(&mut more);
+            self.written(more, calls);
         }
     }
 
-    /// A script of Requires, of which some calls are swept over.
-    fn requires(&mut self, mut random: Random) {
+    /// A script that is written out, of which some calls are swept over.
+    fn written(&mut self, mut random: Random, calls: Vec<Call>) {
         let mut world = World::new(self.fault);
         let mut history = Vec::new();
-        for call in required::script(&mut random) {
+        for call in calls {
             if random.chance(1, 4) {
                 let sweep = Sweep {
                     world: &world,
@@ -122,6 +129,9 @@ impl Comparison {
             _ => Kind::Tiny,
         };
         let mut author = Author::new(Random(random.word()), kind, false);
+        if !random.chance(1, 8) {
+            author = author.with_tips(Random(random.word()));
+        }
         let mut world = World::new(self.fault);
         let mut history = Vec::new();
         let mut left = author.length();

@@ -112,8 +112,9 @@ fn one(call: &Call, ledger: &mut Ledger, end: &mut End, named: &mut Option<u64>)
         Call::Offer {
             conditions,
             outputs,
+            source,
             ..
-        } => ledger.offer(conditions, outputs, room),
+        } => ledger.offer(conditions, outputs, *source, room),
         Call::Hit { position, .. } => ledger.hit(*position),
         Call::Begin { .. } => ledger.begin(),
         Call::Deduce { position, .. } => ledger.deduce(*position, &end.region, room),

@@ -203,6 +203,7 @@ fn numbers(call: &mut Call) -> Vec<&mut u64> {
             &mut limits.share_hits,
             number,
         ],
+        Call::Offer { source, .. } => vec![source],
         Call::Hit { position, .. } | Call::Deduce { position, .. } => vec![position],
         Call::Next {
             position, cursor, ..

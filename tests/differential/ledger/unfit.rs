@@ -10,7 +10,7 @@ use crate::compare::{Made, World};
 use crate::end::{End, lengths};
 use crate::far::{SPAN, TOO_MANY};
 use crate::host::{self, Lent};
-use crate::layout::{self, POSTINGS, SLOT};
+use crate::layout::{self, FOUNDED, POSTINGS, SLOT, SOURCE};
 use crate::random::Random;
 use crate::told::Told;
 
@@ -53,6 +53,7 @@ pub fn step(world: &World, call: &Call, wounds: &[Wound]) -> Option<Made> {
         highest: None,
         value: 0,
         hits: 0,
+        rows: Vec::new(),
         told: Told::default(),
         difference,
     })
@@ -163,7 +164,9 @@ fn contents_fit(book: &Book) -> bool {
         postings = layout::postings(&read);
     }
     postings.resize(POSTINGS * tier_rows as usize, 0);
+    let founded = read.iter().filter(|row| row.source == 0).count();
     read.iter().all(|row| (1..=born).contains(&row.born))
+        && founded as u64 == head[FOUNDED]
         && unused.iter().all(|&word| word == 0)
         && postings == book.postings
 }
@@ -180,10 +183,13 @@ fn read(slot: &[u64]) -> Option<Row> {
     let [conditions, outputs, total, condition_groups, ..] = slot[..4] else {
         return None;
     };
-    if conditions > MOST.0 || outputs > MOST.1 || total > MOST_GROUPS || slot[7] > 1 {
+    if conditions > MOST.0 || outputs > MOST.1 || total > MOST_GROUPS {
         return None;
     }
-    let body = &slot[8..];
+    if slot[7] > 1 || slot[SOURCE] > 1 {
+        return None;
+    }
+    let body = &slot[8..SOURCE];
     let codes = if total == 0 {
         body[..(conditions + outputs) as usize].to_vec()
     } else {
@@ -199,6 +205,7 @@ fn read(slot: &[u64]) -> Option<Row> {
         unshared: slot[5],
         born: slot[6],
         delivered: slot[7] == 1,
+        source: slot[SOURCE],
     })
 }
 
@@ -224,9 +231,11 @@ pub fn wound(random: &mut Random, call: &Call, world: &World) -> Wound {
     let Some(book) = place.and_then(|place| world.books[place].as_ref()) else {
         return length(random, call, role, (0, 0));
     };
-    match random.below(10) {
+    match random.below(12) {
         0 => limit(random, role),
         1 => count(random, role, book),
+        10 => founded(random, role, book),
+        11 => source(random, role, book),
         2 | 3 => {
             let lengths = (book.slots.len(), book.postings.len());
             length(random, call, role, lengths)
@@ -245,6 +254,29 @@ fn slot_word(random: &mut Random, role: Role, book: &Book) -> Wound {
         slice: Slice::Slots(role),
         index,
         word: random.pick(&[0, 1, 2, 65, u64::MAX, old ^ 1, old ^ bit, more]),
+    }
+}
+
+/// Another founded count.
+fn founded(random: &mut Random, role: Role, book: &Book) -> Wound {
+    let (old, rows) = (book.head[FOUNDED], book.head[11]);
+    let less = old.wrapping_sub(1);
+    Wound::Head {
+        role,
+        index: FOUNDED,
+        word: random.pick(&[old + 1, old + 1, less, less, rows - old, rows, 0, 1 << 32]),
+    }
+}
+
+/// Another source, of a row or of an unused slot.
+fn source(random: &mut Random, role: Role, book: &Book) -> Wound {
+    let slots = book.slots.len() / SLOT;
+    let place = random.pick(&[book.head[11].max(1) as usize, slots]);
+    let index = SLOT * random.below(place.min(slots) as u64) as usize + SOURCE;
+    Wound::Word {
+        slice: Slice::Slots(role),
+        index,
+        word: random.pick(&[1 - book.slots[index].min(1), 2, 256, 1 << 32, u64::MAX]),
     }
 }
 

@@ -5,8 +5,8 @@
 
 use zetesis_algebra::region::Region;
 use zetesis_ferraris::regions::{
-    Cursor, Deduced, Fields, LearningLimits, Literal, Metered, Record, Retention, Tier, Work,
-    metered,
+    Cursor, Deduced, Fields, LearningLimits, Literal, Metered, Origin, Record, Retention, Tier,
+    Work, metered,
 };
 
 use crate::answer::Answer;
@@ -72,6 +72,8 @@ pub struct Header {
     pub full: bool,
     /// The seed mark: a store's number and its born.
     pub mark: Option<(u64, u64)>,
+    /// The Founded rows.
+    pub founded: u64,
 }
 
 /// A row as its slot holds it: codes, and groups (index, present bits, absent bits). A scalar row has no group.
@@ -86,6 +88,8 @@ pub struct Row {
     pub unshared: u64,
     pub born: u64,
     pub delivered: bool,
+    /// 0 for Founded, 1 for a Tip.
+    pub source: u64,
 }
 
 impl Row {
@@ -249,10 +253,11 @@ impl Ledger {
             stale: fields.stale,
             full: fields.full,
             mark: fields.mark,
+            founded: fields.founded as u64,
         }
     }
 
-    /// Sets every field of the header but rows; stale can be set, never cleared.
+    /// Sets every field of the header but rows and founded; stale can be set, never cleared.
     pub fn set_header(&mut self, header: Header) {
         self.number = header.number;
         self.deliveries = header.deliveries;
@@ -265,6 +270,7 @@ impl Ledger {
             remaining: header.remaining,
             sharing: header.sharing,
             evicted: header.evicted,
+            founded: header.founded as usize,
             stale: header.stale,
             full: header.full,
             mark: header.mark,
@@ -289,6 +295,10 @@ impl Ledger {
             unshared: record.unshared,
             born: record.born,
             delivered: record.delivered,
+            source: match self.tier.origin(position) {
+                Origin::Founded => 0,
+                Origin::Tip => 1,
+            },
         }
     }
 
@@ -306,8 +316,14 @@ impl Ledger {
             .collect()
     }
 
-    /// Offer a row.
-    pub fn offer(&mut self, conditions: &[u64], outputs: &[u64], limit: u64) -> Done {
+    /// Offer a row of a source: 0 for Founded, 1 for a Tip.
+    pub fn offer(
+        &mut self,
+        conditions: &[u64],
+        outputs: &[u64],
+        source: u64,
+        limit: u64,
+    ) -> Done {
         let limits = self.limits();
         let most = (limits.founded_conditions, limits.founded_outputs);
         if !self.contents_fit() {
@@ -316,12 +332,18 @@ impl Ledger {
         if !is_row(self.atoms, most, conditions, outputs) {
             return refused(4);
         }
+        let origin = match source {
+            0 => Origin::Founded,
+            1 => Origin::Tip,
+            _ => return refused(11),
+        };
         if !self.tier.can_capture() {
             return done(Answer::Shut, 0);
         }
         let (conditions, outputs) = (literals(conditions), literals(outputs));
-        let (result, charge) =
-            metered(limit, |work| self.tier.capture(&conditions, &outputs, work));
+        let (result, charge) = metered(limit, |work| {
+            self.tier.capture(&conditions, &outputs, origin, work)
+        });
         let answer = match result {
             None => Answer::Stopped,
             Some(Retention::Declined) => Answer::Declined,

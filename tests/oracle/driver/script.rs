@@ -41,6 +41,13 @@ impl<'a> Line<'a> {
         number(self.word()?)
     }
 
+    /// The last word of a line, a number that may be left out: then it is 0.
+    fn last(&mut self) -> Option<u64> {
+        let word = self.word();
+        self.end()?;
+        word.map_or(Some(0), number)
+    }
+
     fn list(&mut self) -> Option<Vec<u64>> {
         match self.word()? {
             "-" => Some(Vec::new()),
@@ -145,9 +152,9 @@ impl Script {
         let limit = line.number()?;
         let conditions = line.list()?;
         let outputs = line.list()?;
-        line.end()?;
+        let source = line.last()?;
         let ledger = self.made(place)?;
-        let done = ledger.offer(&conditions, &outputs, limit);
+        let done = ledger.offer(&conditions, &outputs, source, limit);
         put(out, format_args!("offer {place} "));
         end(out, done, ledger);
         Some(())
@@ -428,6 +435,7 @@ fn head(out: &mut String, header: &Header) {
         stale,
         full,
         mark,
+        founded,
     } = header;
     put(
         out,
@@ -449,6 +457,7 @@ fn head(out: &mut String, header: &Header) {
         None => out.push_str("none"),
         Some((store, born)) => put(out, format_args!("{store}:{born}")),
     }
+    put(out, format_args!(" founded={founded}"));
 }
 
 /// A row of a dump.
@@ -471,7 +480,11 @@ fn row(out: &mut String, position: usize, row: &Row) {
     );
     put(
         out,
-        format_args!(" delivered={} groups=", u8::from(row.delivered)),
+        format_args!(
+            " delivered={} source={} groups=",
+            u8::from(row.delivered),
+            row.source
+        ),
     );
     let groups: Vec<String> = row
         .groups

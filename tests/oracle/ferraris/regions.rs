@@ -1,4 +1,4 @@
-//! Stands for `regions.rs`: it holds the ledger, unchanged, and the few names of the rest that the ledger uses.
+//! Stands for `regions.rs`: it holds the ledger, and the few names of the rest that the ledger uses.
 //!
 //! The types at the end are the driver's door to the ledger: their methods stand in `ledger/tests.rs` and
 //! `ledger/row/tests.rs`, where private items are in reach.
@@ -93,6 +93,8 @@ pub struct Fields {
     pub remaining: u64,
     pub sharing: u64,
     pub evicted: u64,
+    /// The Rust counts it anew in `settle`; it is given, and never set.
+    pub founded: usize,
     pub stale: bool,
     pub full: bool,
     pub mark: Option<(u64, u64)>,
@@ -105,6 +107,13 @@ pub struct Record {
     pub unshared: u64,
     pub born: u64,
     pub delivered: bool,
+}
+
+/// Who a row is from: the Rust's `Source`, with the second variant that document 02, Eight, adds to it.
+#[derive(Clone, Copy, Debug, PartialEq, Eq)]
+pub enum Origin {
+    Founded,
+    Tip,
 }
 
 /// A row: its literals, and its groups (index, present bits, absent bits), conditions first. A scalar row has no group.

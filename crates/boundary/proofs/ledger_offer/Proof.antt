@@ -32,7 +32,7 @@ returns c =
     let offer = at-offer s in
     let meter-of = at-meter-of offer in
     offer-refused _ _ _ _ _ _ (at-header-of meter-of .header-of .ensures) _
-    (meter-of .meter-of .ensures) _ _ _ (offer .offer .result)
+    (meter-of .meter-of .ensures) _ _ _ _ (offer .offer .result)
     _ _ (offer .offer .ensures) (s .offer-reply .ensures) (c .if1 .taken)
 
 returns-2 : tie.Need-returns-2
@@ -43,7 +43,7 @@ returns-2 c =
     let offer = at-offer s in
     let meter-of = at-meter-of offer in
     offer-done _ _ _ _ _ _ (at-header-of meter-of .header-of .ensures) _
-    (meter-of .meter-of .ensures) _ _ _ (offer .offer .result)
+    (meter-of .meter-of .ensures) _ _ _ _ (offer .offer .result)
     _ _ (offer .offer .ensures) (s .offer-reply .ensures) _ _ _
     (put-header .before .before .before .before .if1 .left) (put-header .put-header .ensures)
     (put-answer .put-answer .ensures) (c .put-meter .ensures)

@@ -3,6 +3,7 @@ use mathlib.Core.Path.{_≡_, refl, sym, _∙_, subst}
 use mathlib.Core.Logic.{inl, inr}
 use mathlib.Core.Bool.{Bool, true, false, _||_, false≢true, true≢false}
 use mathlib.Core.List.{List, [], _∷_, _++_}
+use mathlib.Core.Option.{Option, none, some}
 use Prim.Native.Nat.{ℕ, zero, suc, _+_, _≤_, _<_}
 use native.Mathlib.Nat.{le-trans}
 use native.Mathlib.Omega.{arith}
@@ -16,6 +17,7 @@ use Rattle.meter.specs.declared.Read.the-variants.{Paid, Declined, Stopped}
 use Rattle.meter.specs.Meter.{andThen, pay}
 use Rattle.model.specs.declared.LearningLimits.{LearningLimits}
 use Rattle.model.specs.declared.Header.{Header}
+use Rattle.model.specs.declared.Source.{Source}
 use Rattle.model.specs.Records.{Row, Entry, Ledger, saturatingAdd, withAdded, maxOutputs}
 use Rattle.model.specs.Union.{union, mayJoin, joins, grown}
 use Rattle.model.specs.Rows.{subsumes}
@@ -85,18 +87,17 @@ module _ (P : Row → Type 0) (m : ℕ) (join : (r p : Row) → T (joins m r p) 
       (λ t. pass-keeps (grown (e .row) p) es (join (e .row) p t (f (e .row) (inl refl)) v) (λ r i. f r (inr i)))
       (pass-keeps p es v (λ r i. f r (inr i)))
 
-  judge-keeps-step : (es : List Entry) (ks : List Examined) (p : Row) (a c : Bool) → P p
-      → PlacementKeeps P (elim a [ true ↦ placing ks p | false ↦ elim c [ true ↦ protected | false ↦ evicting (victim es) p ] ])
-  judge-keeps-step es ks p true c v = v
-  judge-keeps-step es ks p false true v = tt
-  judge-keeps-step es ks p false false v = v
+  judge-keeps-step : (ks : List Examined) (p : Row) (a : Bool) (x : Option ℕ) → P p
+      → PlacementKeeps P (elim a [ true ↦ placing ks p | false ↦ elim x [ none ↦ protected | some y ↦ evicting y p ] ])
+  judge-keeps-step ks p true x v = v
+  judge-keeps-step ks p false none v = tt
+  judge-keeps-step ks p false (some y) v = v
 
   placementAfter-keeps : (l : LearningLimits) (es : List Entry) (x : Pass) → PassKeeps P x → PlacementKeeps P (placementAfter l es x)
   unfolding placementAfter placementBy
   placementAfter-keeps l es (found n) f = tt
   placementAfter-keeps l es (passed ks p) f =
-      judge-keeps-step es (secondPass p ks) p (anyReplaced (secondPass p ks) || ltb (length es) (l .«tier_rows»))
-      (leb (length es) (l .«founded_floor»)) f
+      judge-keeps-step (secondPass p ks) p (anyReplaced (secondPass p ks) || ltb (length es) (l .«tier_rows»)) (victim l es) f
 
   pub placement-keeps : (l : LearningLimits) (t : Row) (es : List Entry) → P t → ((r : Row) → In r (rowsE es) → P r)
       → PlacementKeeps P (placement l m t es)
@@ -176,14 +177,14 @@ only : (t r : Row) → In r (t ∷ []) → r ≡ t
 only t r (inl e) = e
 only t r (inr m) = absurd m
 
-carry-fine : (l : Ledger) (t : Row) (h : ℕ) (a : Account) (m : Meter) (v : Placement) → Fine (rowsE (l .entries))
-    → PlacementOk t (l .entries) v → PlacementKeeps Valid v → RetainedFine l t (carryOut l t h a m v)
+carry-fine : (l : Ledger) (t : Row) (h : ℕ) (s : Source) (a : Account) (m : Meter) (v : Placement) → Fine (rowsE (l .entries))
+    → PlacementOk t (l .entries) v → PlacementKeeps Valid v → RetainedFine l t (carryOut l t h s a m v)
 unfolding carryOut untaken newborn
-carry-fine l t h a m (subsumed p) f o v =
+carry-fine l t h s a m (subsumed p) f o v =
     record { limits = refl; fine = f; took = only t; from = covers-sub (λ r i. inr i); counted = none-counted _ }
-carry-fine l t h a m protected f o v =
+carry-fine l t h s a m protected f o v =
     record { limits = refl; fine = f; took = λ r i. absurd i; from = covers-refl (rowsE (l .entries)); counted = none-counted _ }
-carry-fine l t h a m (placing ks p) f o v = record {
+carry-fine l t h s a m (placing ks p) f o v = record {
   limits = settle-limits (l .header) _ _;
   fine = λ r i. fine-cons p (rowsM ks) v (subst Fine (sym (o .rows)) f) r
       (place-in _ ks r (subst (λ (rs : List Row). In r rs) (settle-rows (l .header) _ _) i));
@@ -193,7 +194,7 @@ carry-fine l t h a m (placing ks p) f o v = record {
   counted = subst (λ (k : ℕ). Counted false (l .header .evicted) k) (sym (settle-evicted (l .header) _ (l .header .evicted)))
       (none-counted (l .header .evicted));
 }
-carry-fine l t h a m (evicting v p) f o w = record {
+carry-fine l t h s a m (evicting v p) f o w = record {
   limits = settle-limits (l .header) _ _;
   fine = λ r i. fine-cons p (rowsE (l .entries)) w f r
       (set-in v _ (l .entries) r (subst (λ (rs : List Row). In r rs) (settle-rows (l .header) _ _) i));
@@ -204,18 +205,18 @@ carry-fine l t h a m (evicting v p) f o w = record {
   counted = one-counted (l .header .evicted) _ (settle-evicted (l .header) _ _);
 }
 
-retained-fine : (l : Ledger) (m h : ℕ) (t : Row) (run : Read) → m ≤ maxOutputs → Valid t → Fine (rowsE (l .entries))
-    → RetainedFine l t (retained l m h t run)
+retained-fine : (l : Ledger) (m h : ℕ) (s : Source) (t : Row) (run : Read) → m ≤ maxOutputs → Valid t → Fine (rowsE (l .entries))
+    → RetainedFine l t (retained l m h s t run)
 unfolding retained untaken
-retained-fine l m h t (Paid a n) k v f =
-    carry-fine l t h a n (placement (l .header .limits) m t (l .entries)) f (placement-ok (l .header .limits) m t (l .entries))
+retained-fine l m h s t (Paid a n) k v f =
+    carry-fine l t h s a n (placement (l .header .limits) m t (l .entries)) f (placement-ok (l .header .limits) m t (l .entries))
     (placement-keeps Valid m (λ r p j. grown-valid m r p k j) (l .header .limits) t (l .entries) v f)
-retained-fine l m h t (Declined a n) k v f =
+retained-fine l m h s t (Declined a n) k v f =
     record { limits = refl; fine = f; took = λ r i. absurd i; from = covers-refl (rowsE (l .entries)); counted = none-counted _ }
-retained-fine l m h t (Stopped a n) k v f =
+retained-fine l m h s t (Stopped a n) k v f =
     record { limits = refl; fine = f; took = λ r i. absurd i; from = covers-refl (rowsE (l .entries)); counted = none-counted _ }
 
-pub retain-fine : (l : Ledger) (m h : ℕ) (t : Row) (run : Read) → m ≤ maxOutputs → Valid t → Fine (rowsE (l .entries))
-    → RetainedFine l t (retain l m h t run)
+pub retain-fine : (l : Ledger) (m h : ℕ) (s : Source) (t : Row) (run : Read) → m ≤ maxOutputs → Valid t → Fine (rowsE (l .entries))
+    → RetainedFine l t (retain l m h s t run)
 unfolding retain
-retain-fine l m h t run k v f = retained-fine l m h t (andThen run (pay (retainReads (l .header .limits) m t (l .entries)))) k v f
+retain-fine l m h s t run k v f = retained-fine l m h s t (andThen run (pay (retainReads (l .header .limits) m t (l .entries)))) k v f

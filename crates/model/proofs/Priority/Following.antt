@@ -42,7 +42,7 @@ follow l u s took evicts k d = record {
 
 step-ok : (l : LearningLimits) (u : Followed) (c : Call) → RunOk l u → RunOk l (step u c)
 unfolding step
-step-ok l u (Offer c o m) k = follow l u _ _ _ k (offer-ok (u .ledger) c o m)
+step-ok l u (Offer c o source m) k = follow l u _ _ _ k (offer-ok (u .ledger) c o source m)
 step-ok l u (Hit p) k = follow l u _ _ _ k (hit-ok (u .ledger) p)
 step-ok l u Begin k = follow l u _ _ _ k (begin-ok (u .ledger))
 step-ok l u (Candidates a b m) k = follow l u _ _ _ k (candidates-ok (u .ledger) a b m)

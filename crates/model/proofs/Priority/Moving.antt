@@ -13,6 +13,7 @@ use Rattle.meter.specs.declared.Account.{Account}
 use Rattle.meter.specs.Meter.{tickOf, pay}
 use Rattle.model.specs.declared.LearningLimits.{LearningLimits}
 use Rattle.model.specs.declared.Header.{Header}
+use Rattle.model.specs.declared.Source.{Source}
 use Rattle.model.specs.Records.{Row, Entry, Ledger, isRow, isRowOver, literals, saturatingAdd}
 use Rattle.model.specs.Records.{withAccount, withMark, withDeliveries, withSeeded, withHits}
 use Rattle.model.specs.Records.{withDelivered, maxOutputs}
@@ -31,8 +32,9 @@ use Rattle.model.proofs.Priority.Retaining.{Alike, alike-refl, alike-tr
 use Rattle.model.proofs.Priority.Fine.{Fine, retain-fine, Counted, none-counted, both-counted}
 use Rattle.model.proofs.Priority.Steps.{if-elim, opt-elim, tick-elim, out-elim, alike-app, covers-app, app-assoc, nor-left}
 use Rattle.model.proofs.Priority.Steps.{nor-right, Over, over-app, Accepted, refusal-cons, accepted, rows-ok, fine-in, row-over}
-use Rattle.model.proofs.Priority.Steps.{most-ok, StepOk, still, to-lent}
-use Rattle.model.proofs.Priority.Quiet.{adjust-rows, Same, same-step, same-refl}
+use Rattle.model.proofs.Priority.Steps.{most-ok, StepOk, still, quiet, to-lent}
+use Rattle.model.proofs.Priority.Quiet.{adjust-rows, Same, same-refl}
+use Rattle.model.proofs.Entries.{founded-adjust}
 
 -- what the receiver l has become and taken
 pub record TransferOk (l : Ledger) (v : Transfer) : Type 0 where
@@ -70,16 +72,17 @@ record ReceivedOk (l : Ledger) (v : Transfer) (d : Retention) : Type 0 where
 max-le : (a b : ℕ) → a ≤ maxOutputs → b ≤ maxOutputs → max a b ≤ maxOutputs
 max-le a b h k = omega arith
 
-receive-ok : (l : Ledger) (tier : LearningLimits) (hits : ℕ) (r : Row) (v : Transfer) → tier .«founded_outputs» ≤ maxOutputs
-    → T (isRow (l .header .limits .atoms) r) → TransferOk l v → ReceivedOk l v (receive tier hits r v)
+receive-ok : (l : Ledger) (tier : LearningLimits) (hits : ℕ) (source : Source) (r : Row) (v : Transfer)
+    → tier .«founded_outputs» ≤ maxOutputs
+    → T (isRow (l .header .limits .atoms) r) → TransferOk l v → ReceivedOk l v (receive tier hits source r v)
 unfolding receive
-receive-ok l tier hits r v h t k =
+receive-ok l tier hits source r v h t k =
     let w = valid-of (l .header .limits .atoms) r t in
-    let f = retain-fine (v .receiver) (max (length (r .outputs)) (tier .«founded_outputs»)) hits r
+    let f = retain-fine (v .receiver) (max (length (r .outputs)) (tier .«founded_outputs»)) hits source r
     (pay (suc (literals r)) (v .account) (v .meter)) (max-le (length (r .outputs)) (tier .«founded_outputs») (w .many) h) w (k .fine) in
     record {
       limits = f .limits ∙ k .limits;
-      alike = retain-ok (v .receiver) (max (length (r .outputs)) (tier .«founded_outputs»)) hits r
+      alike = retain-ok (v .receiver) (max (length (r .outputs)) (tier .«founded_outputs»)) hits source r
           (pay (suc (literals r)) (v .account) (v .meter));
       fine = f .fine;
       over = λ q i. subst (λ (x : Row). T (isRowOver (l .header .limits .atoms) x)) (sym (f .took q i))
@@ -109,13 +112,28 @@ received-ok l v d u k x a b q = record {
       (b .counted));
 }
 
-change-same : (p : ℕ) (f : Entry → Entry) (l : Ledger) → ((e : Entry) → f e .row ≡ e .row) → Same l (changeAt p f l)
+change-same : (p : ℕ) (f : Entry → Entry) (l : Ledger) → ((e : Entry) → f e .row ≡ e .row) → ((e : Entry) → f e .source ≡ e .source)
+    → Same l (changeAt p f l)
 unfolding changeAt
-change-same p f l q = record { limits = refl; rows = adjust-rows f q p (l .entries); evicted = refl }
+change-same p f l q w = record {
+  limits = refl;
+  rows = adjust-rows f q p (l .entries);
+  evicted = refl;
+  counted = refl;
+  founded = founded-adjust f w p (l .entries);
+}
 
 delivered-row : (u : ℕ) (e : Entry) → withDelivered u e .row ≡ e .row
 unfolding withDelivered
 delivered-row u e = refl
+
+delivered-source : (u : ℕ) (e : Entry) → withDelivered u e .source ≡ e .source
+unfolding withDelivered
+delivered-source u e = refl
+
+hits-source : (e : Entry) (n : ℕ) → withHits e n .source ≡ e .source
+unfolding withHits
+hits-source e n = refl
 
 hits-row : (e : Entry) (n : ℕ) → withHits e n .row ≡ e .row
 unfolding withHits
@@ -139,13 +157,14 @@ seed-rows-ok l tier mark (e ∷ es) v h c k =
     (received-ok l v d (d .ledger) 0 transfers.whole k dk (same-refl (d .ledger))))
     (λ p. seed-rows-ok l tier mark es _ h (λ r i. c r (inr i))
     (received-ok l v d (changeAt p (λ x. withDelivered (x .unshared) x) (d .ledger)) 1 transfers.whole k dk
-    (change-same p (λ x. withDelivered (x .unshared) x) (d .ledger) (λ x. delivered-row (x .unshared) x)))))
+    (change-same p (λ x. withDelivered (x .unshared) x) (d .ledger) (λ x. delivered-row (x .unshared) x)
+    (λ x. delivered-source (x .unshared) x)))))
   where
     d : Retention
-    d = receive tier (e .hits) (e .row) v
+    d = receive tier (e .hits) (e .source) (e .row) v
 
     dk : ReceivedOk l v d
-    dk = receive-ok l tier (e .hits) (e .row) v h (c (e .row) (inl refl)) k
+    dk = receive-ok l tier (e .hits) (e .source) (e .row) v h (c (e .row) (inl refl)) k
 
 -- ---- delivering: the tier's rows stay
 record DeliveryOk (l : Ledger) (es : List Entry) (x : Delivery) : Type 0 where
@@ -172,16 +191,16 @@ deliver-rows-ok l tier (e ∷ es) v h c k =
     (λ p. front-ok l e _ es _ (delivered-row 0 e) (deliver-rows-ok l tier es _ h (λ r i. c r (inr i))
     (received-ok l v (d m) (changeAt p (λ x. withHits x (saturatingAdd (x .hits) (e .unshared))) (d m .ledger)) 0 transfers.whole k (dk m)
     (change-same p (λ x. withHits x (saturatingAdd (x .hits) (e .unshared))) (d m .ledger)
-    (λ x. hits-row x (saturatingAdd (x .hits) (e .unshared)))))))
+    (λ x. hits-row x (saturatingAdd (x .hits) (e .unshared))) (λ x. hits-source x (saturatingAdd (x .hits) (e .unshared)))))))
     (λ p. front-ok l e _ es _ (delivered-row 0 e) (deliver-rows-ok l tier es _ h (λ r i. c r (inr i))
     (received-ok l v (d m) (d m .ledger) 1 transfers.whole k (dk m) (same-refl (d m .ledger)))))))
   where
     d : Meter → Retention
-    d m = receive tier (e .unshared) (e .row) (ticked v m transfers.whole)
+    d m = receive tier (e .unshared) (e .source) (e .row) (ticked v m transfers.whole)
 
     dk : (m : Meter) → ReceivedOk l v (d m)
     dk m =
-        let x = receive-ok l tier (e .unshared) (e .row) (ticked v m transfers.whole) h (c (e .row) (inl refl))
+        let x = receive-ok l tier (e .unshared) (e .source) (e .row) (ticked v m transfers.whole) h (c (e .row) (inl refl))
         (ticked-ok l v m transfers.whole k) in
         again m x
       where
@@ -251,12 +270,12 @@ seeded-tier t s v k =
 
 seeded-store : (s : Lent) (v : Transfer) → Accepted s → StepOk s (lentOf (seededStore (ledgerIn s) v)) [] false
 unfolding seededStore withSeeded ledgerIn
-seeded-store s v a = same-step s _ a (record { limits = refl; rows = refl; evicted = refl })
+seeded-store s v a = quiet s _ a refl refl refl
 
 delivered-tier : (t s : Lent) → Accepted t → (d : Delivery) → DeliveryOk (ledgerIn s) (ledgerIn t .entries) d
     → StepOk t (lentOf (deliveredTier (ledgerIn t) d)) [] false
 unfolding deliveredTier withAccount ledgerIn
-delivered-tier t s a d k = same-step t _ a (record { limits = refl; rows = k .rows; evicted = refl })
+delivered-tier t s a d k = quiet t _ a refl (k .rows) refl
 
 delivered-store : (t s : Lent) (d : Delivery) → DeliveryOk (ledgerIn s) (ledgerIn t .entries) d
     → StepOk s (lentOf (deliveredStore d)) (d .1 .took) (d .1 .evicts)

@@ -12,7 +12,7 @@ use Rattle.meter.specs.declared.Tick.{Tick}
 use Rattle.meter.specs.declared.Tick.the-variants.{Ticked, Stopped}
 use Rattle.meter.specs.Meter.{ticks}
 use Rattle.model.specs.declared.Header.{Header}
-use Rattle.model.specs.Records.{Row, Entry, Ledger, rowsOf, rowAt}
+use Rattle.model.specs.Records.{Row, Entry, Ledger, rowsOf, rowAt, foundedRows}
 use Rattle.model.specs.Records.{withStale, withFull, hitEntry}
 use Rattle.model.specs.Refusals.{Lent, refusal, ledgerIn, lentOf, accepts}
 use Rattle.model.specs.Operations.{positionOk, hit, begin}
@@ -30,7 +30,7 @@ use Rattle.model.specs.Deduction.{Next, nextOutput, deduction, deduction
 use Rattle.model.specs.Deduction as deducing
 use Rattle.model.specs.Postings.{Search, searched, rebuilt, candidates as search, postingsOf, searchTicks}
 use Rattle.model.specs.Operations.{HitEnd, BeginEnd, CandidatesEnd, CloseEnd, closeEnd, closedBy, candidates, close}
-use Rattle.model.proofs.Entries.{hit-row}
+use Rattle.model.proofs.Entries.{hit-row, founded-hit}
 
 -- ---- rows stay where entries are changed in their counts alone
 pub adjust-rows : (f : Entry → Entry) → ((e : Entry) → f e .row ≡ e .row) → (p : ℕ) (es : List Entry) → rowsE (adjust f p es) ≡ rowsE es
@@ -39,17 +39,25 @@ adjust-rows f q p [] = refl
 adjust-rows f q zero (e ∷ es) = ap (λ (r : Row). r ∷ rowsE es) (q e)
 adjust-rows f q (suc p) (e ∷ es) = ap (λ (l : List Row). e .row ∷ l) (adjust-rows f q p es)
 
--- limits and rows of one ledger are those of another
+-- limits, rows and counts of one ledger are those of another
 pub record Same (l k : Ledger) : Type 0 where
   pub limits : k .header .limits ≡ l .header .limits
   pub rows : rowsE (k .entries) ≡ rowsE (l .entries)
   pub evicted : k .header .evicted ≡ l .header .evicted
+  pub counted : k .header .founded ≡ l .header .founded
+  pub founded : foundedRows (k .entries) ≡ foundedRows (l .entries)
 
 pub same-refl : (l : Ledger) → Same l l
-same-refl l = record { limits = refl; rows = refl; evicted = refl }
+same-refl l = record { limits = refl; rows = refl; evicted = refl; counted = refl; founded = refl }
 
 same-trans : (a b c : Ledger) → Same a b → Same b c → Same a c
-same-trans a b c p q = record { limits = q .limits ∙ p .limits; rows = q .rows ∙ p .rows; evicted = q .evicted ∙ p .evicted }
+same-trans a b c p q = record {
+  limits = q .limits ∙ p .limits;
+  rows = q .rows ∙ p .rows;
+  evicted = q .evicted ∙ p .evicted;
+  counted = q .counted ∙ p .counted;
+  founded = q .founded ∙ p .founded;
+}
 
 pub same-step : (s : Lent) (l : Ledger) → Accepted s → Same (ledgerIn s) l → StepOk s (lentOf l) [] false
 unfolding ledgerIn
@@ -57,7 +65,13 @@ same-step s l a k = quiet s l a (k .limits) (k .rows) (k .evicted)
 
 hit-same : (p : ℕ) (l : Ledger) → Same l (hitAt p l)
 unfolding hitAt
-hit-same p l = record { limits = refl; rows = adjust-rows hitEntry hit-row p (l .entries); evicted = refl }
+hit-same p l = record {
+  limits = refl;
+  rows = adjust-rows hitEntry hit-row p (l .entries);
+  evicted = refl;
+  counted = refl;
+  founded = founded-hit p (l .entries);
+}
 
 -- ---- Hit, Begin
 pub hit-ok : (s : Lent) (p : ℕ) → StepOk s (hit s p .ledger) [] false
@@ -69,7 +83,7 @@ hit-ok s p =
 
 full-same : (l : Ledger) (b : Bool) → Same l (record { header = withFull (l .header) b; entries = l .entries })
 unfolding withFull
-full-same l b = record { limits = refl; rows = refl; evicted = refl }
+full-same l b = record { limits = refl; rows = refl; evicted = refl; counted = refl; founded = refl }
 
 pub begin-ok : (s : Lent) → StepOk s (begin s .ledger) [] false
 unfolding begin ledgerIn
@@ -82,22 +96,29 @@ begin-ok s =
 pub record HeadOk (h : Header) (x : Search) : Type 0 where
   pub limits : x .header .limits ≡ h .limits
   pub evicted : x .header .evicted ≡ h .evicted
+  pub counted : x .header .founded ≡ h .founded
 
-searched-ok : (h g : Header) (ps as′ : List ℕ) (t : Tick) → g .limits ≡ h .limits → g .evicted ≡ h .evicted → HeadOk h (searched g ps as′ t)
+searched-ok : (h g : Header) (ps as′ : List ℕ) (t : Tick) → g .limits ≡ h .limits → g .evicted ≡ h .evicted → g .founded ≡ h .founded
+    → HeadOk h (searched g ps as′ t)
 unfolding searched
-searched-ok h g ps as′ (Stopped m) e f = record { limits = e; evicted = f }
-searched-ok h g ps as′ (Ticked m) e f = record { limits = e; evicted = f }
+searched-ok h g ps as′ (Stopped m) e f c = record { limits = e; evicted = f; counted = c }
+searched-ok h g ps as′ (Ticked m) e f c = record { limits = e; evicted = f; counted = c }
 
 rebuilt-ok : (h : Header) (ps as′ : List ℕ) (t : Tick) → HeadOk h (rebuilt h ps as′ t)
 unfolding rebuilt withStale
-rebuilt-ok h ps as′ (Stopped m) = record { limits = refl; evicted = refl }
-rebuilt-ok h ps as′ (Ticked m) = searched-ok h _ ps as′ (ticks (searchTicks ps as′) m) refl refl
+rebuilt-ok h ps as′ (Stopped m) = record { limits = refl; evicted = refl; counted = refl }
+rebuilt-ok h ps as′ (Ticked m) = searched-ok h _ ps as′ (ticks (searchTicks ps as′) m) refl refl refl
 
 pub search-ok : (l : Ledger) (as′ : List ℕ) (m : Meter) → HeadOk (l .header) (search l as′ m)
 unfolding search withFull
 search-ok l as′ m =
-    if-elim (HeadOk (l .header)) (leb (length (l .entries)) 64 || l .header .full) _ _ (λ t. record { limits = refl; evicted = refl })
+    if-elim (HeadOk (l .header)) (leb (length (l .entries)) 64 || l .header .full) _ _
+    (λ t. record { limits = refl; evicted = refl; counted = refl })
     (rebuilt-ok (l .header) (postingsOf (rowsOf l)) as′ _)
+
+-- the ledger under the header of a search
+head-same : (l : Ledger) (x : Search) → HeadOk (l .header) x → Same l (record { header = x .header; entries = l .entries })
+head-same l x o = record { limits = o .limits; rows = refl; evicted = o .evicted; counted = o .counted; founded = refl }
 
 pub candidates-ok : (s : Lent) (as′ buffer : List ℕ) (m : Meter) → StepOk s (candidates s as′ buffer m .ledger) [] false
 unfolding candidates ledgerIn
@@ -105,7 +126,7 @@ candidates-ok s as′ buffer m =
     opt-elim (λ (e : CandidatesEnd). StepOk s (e .ledger) [] false)
     (refusal (accepts s (eqb (length buffer) (s .header .limits .«tier_rows»)) [])) _ _
     (λ e. same-step s _ (accepted s (eqb (length buffer) (s .header .limits .«tier_rows»)) [] e .0)
-    (record { limits = search-ok (ledgerIn s) as′ m .limits; rows = refl; evicted = search-ok (ledgerIn s) as′ m .evicted }))
+    (head-same (ledgerIn s) _ (search-ok (ledgerIn s) as′ m)))
     (λ n. still s)
 
 -- ---- Close
@@ -186,16 +207,12 @@ unfolding rounds
 rounds-same l zero n as′ s q = q
 rounds-same l (suc fuel) n as′ s q =
     let h : Same l (record { header = search (s .ledger) as′ (s .meter) .header; entries = s .ledger .entries }) =
-    record {
-      limits = search-ok (s .ledger) as′ (s .meter) .limits ∙ q .limits;
-      rows = q .rows;
-      evicted = search-ok (s .ledger) as′ (s .meter) .evicted ∙ q .evicted;
-    } in
+    same-trans l (s .ledger) _ q (head-same (s .ledger) (search (s .ledger) as′ (s .meter)) (search-ok (s .ledger) as′ (s .meter))) in
     opt-elim (TurnSame l) (search (s .ledger) as′ (s .meter) .found) _ _ (λ e. h)
     (λ ps. on-same l (round n ps _) _ (round-same l n ps _ h)
     (λ u i. list-elim (TurnSame l) (decidedSince n (s .region) (u .region)) _ _ i (λ y ys. rounds-same l fuel n (y ∷ ys) u i)))
 
-closing-same : (l : Ledger) (r : Region) (m : Meter) → TurnSame l (closing l r m)
+pub closing-same : (l : Ledger) (r : Region) (m : Meter) → TurnSame l (closing l r m)
 unfolding closing
 closing-same l r m = rounds-same l _ _ [] _ (full-same l true)
 

@@ -3,6 +3,7 @@ use mathlib.Core.Path.{_≡_, refl, sym, _∙_, ap, subst}
 use mathlib.Core.Logic.{_⊎_, inl, inr}
 use mathlib.Core.Bool.{Bool, true, false, _||_, not}
 use mathlib.Core.List.{List, [], _∷_, _++_}
+use mathlib.Core.Option.{Option, none, some}
 use Prim.Native.Nat.{ℕ, suc}
 use lib.Dec.{T, leb, ltb}
 use lib.ListN.{length}
@@ -13,6 +14,7 @@ use Rattle.meter.specs.declared.Read.the-variants.{Paid, Declined, Stopped}
 use Rattle.meter.specs.Meter.{andThen, pay}
 use Rattle.model.specs.declared.LearningLimits.{LearningLimits}
 use Rattle.model.specs.declared.Header.{Header}
+use Rattle.model.specs.declared.Source.{Source}
 use Rattle.model.specs.Records.{Row, Entry, Ledger, withAdded, withHits}
 use Rattle.model.specs.Rows.{subsumes}
 use Rattle.model.specs.Retention.{Examined, Pass, found, passed, firstPass, secondPass, anyReplaced, kept, place, placementBy}
@@ -163,18 +165,18 @@ PlacementOk t es protected = Unit {0}
 PlacementOk t es (placing ks p) = Grown t es ks p
 PlacementOk t es (evicting v p) = Cov (t ∷ rowsE es) p × Dom p t
 
-judge-ok-step : (t : Row) (es : List Entry) (ks : List Examined) (p : Row) (a c : Bool) → Grown t es ks p
-    → PlacementOk t es (elim a [ true ↦ placing ks p | false ↦ elim c [ true ↦ protected | false ↦ evicting (victim es) p ] ])
-judge-ok-step t es ks p true c g = g
-judge-ok-step t es ks p false true g = tt
-judge-ok-step t es ks p false false g = (g .from, grown-dom g)
+judge-ok-step : (t : Row) (es : List Entry) (ks : List Examined) (p : Row) (a : Bool) (v : Option ℕ) → Grown t es ks p
+    → PlacementOk t es (elim a [ true ↦ placing ks p | false ↦ elim v [ none ↦ protected | some x ↦ evicting x p ] ])
+judge-ok-step t es ks p true v g = g
+judge-ok-step t es ks p false none g = tt
+judge-ok-step t es ks p false (some x) g = (g .from, grown-dom g)
 
 settle-pass-ok : (l : LearningLimits) (t : Row) (es : List Entry) (x : Pass) → PassOk t es x → PlacementOk t es (placementAfter l es x)
 unfolding placementAfter placementBy
 settle-pass-ok l t es (found n) h = h
 settle-pass-ok l t es (passed ks p) h =
     judge-ok-step t es (secondPass p ks) p (anyReplaced (secondPass p ks) || ltb (length es) (l .«tier_rows»))
-    (leb (length es) (l .«founded_floor»)) (record {
+    (victim l es) (record {
       conditions = h .conditions;
       outputs = h .outputs;
       from = h .from;
@@ -208,22 +210,22 @@ settle-rows h es n = go (leb (h .limits .«tier_rows») (suc (h .epoch)))
 abbrev pub RetainedOk : Ledger → Retention → Type 0
 RetainedOk l d = T (not (d .evicts)) → Alike (rowsE (d .ledger .entries)) (d .took ++ rowsE (l .entries))
 
-carry-ok : (l : Ledger) (t : Row) (h : ℕ) (a : Account) (m : Meter) (v : Placement) → PlacementOk t (l .entries) v
-    → RetainedOk l (carryOut l t h a m v)
+carry-ok : (l : Ledger) (t : Row) (h : ℕ) (s : Source) (a : Account) (m : Meter) (v : Placement) → PlacementOk t (l .entries) v
+    → RetainedOk l (carryOut l t h s a m v)
 unfolding carryOut untaken newborn
-carry-ok l t h a m (subsumed p) c = λ e. record
+carry-ok l t h s a m (subsumed p) c = λ e. record
     { there = covers-cons c (covers-refl (rowsE (l .entries))); back = covers-sub (λ r i. inr i) }
-carry-ok l t h a m protected c = λ e. alike-refl (rowsE (l .entries))
-carry-ok l t h a m (placing ks p) c = λ e. rw settle-rows (placed t (l .entries) ks _ c)
-carry-ok l t h a m (evicting v p) c = λ e. absurd e
+carry-ok l t h s a m protected c = λ e. alike-refl (rowsE (l .entries))
+carry-ok l t h s a m (placing ks p) c = λ e. rw settle-rows (placed t (l .entries) ks _ c)
+carry-ok l t h s a m (evicting v p) c = λ e. absurd e
 
-pub retained-ok : (l : Ledger) (m h : ℕ) (t : Row) (r : Read) → RetainedOk l (retained l m h t r)
+pub retained-ok : (l : Ledger) (m h : ℕ) (s : Source) (t : Row) (r : Read) → RetainedOk l (retained l m h s t r)
 unfolding retained untaken
-retained-ok l m h t (Paid a k) =
-    carry-ok l t h a k (placement (l .header .limits) m t (l .entries)) (placement-ok (l .header .limits) m t (l .entries))
-retained-ok l m h t (Declined a k) = λ e. alike-refl (rowsE (l .entries))
-retained-ok l m h t (Stopped a k) = λ e. alike-refl (rowsE (l .entries))
+retained-ok l m h s t (Paid a k) =
+    carry-ok l t h s a k (placement (l .header .limits) m t (l .entries)) (placement-ok (l .header .limits) m t (l .entries))
+retained-ok l m h s t (Declined a k) = λ e. alike-refl (rowsE (l .entries))
+retained-ok l m h s t (Stopped a k) = λ e. alike-refl (rowsE (l .entries))
 
-pub retain-ok : (l : Ledger) (m h : ℕ) (t : Row) (r : Read) → RetainedOk l (retain l m h t r)
+pub retain-ok : (l : Ledger) (m h : ℕ) (s : Source) (t : Row) (r : Read) → RetainedOk l (retain l m h s t r)
 unfolding retain
-retain-ok l m h t r = retained-ok l m h t (andThen r (pay (retainReads (l .header .limits) m t (l .entries))))
+retain-ok l m h s t r = retained-ok l m h s t (andThen r (pay (retainReads (l .header .limits) m t (l .entries))))

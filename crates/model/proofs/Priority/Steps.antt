@@ -6,7 +6,7 @@ use mathlib.Core.List.{List, [], _∷_, _++_}
 use mathlib.Core.Option.{Option, none, some, IsSome}
 use Prim.Native.Nat.{ℕ, _+_, _≤_}
 use native.Mathlib.Nat.{le-trans}
-use lib.Dec.{T, leb, le→leb, leb→le}
+use lib.Dec.{T, eqb, leb, le→leb, leb→le}
 use lib.ListN.{length}
 use Rattle.lists.specs.Lists.{all}
 use Rattle.lists.proofs.Bools.{and-of}
@@ -16,13 +16,13 @@ use Rattle.meter.specs.declared.Tick.{Tick}
 use Rattle.meter.specs.declared.Tick.the-variants.{Ticked, Stopped}
 use Rattle.model.specs.declared.LearningLimits.{LearningLimits}
 use Rattle.model.specs.declared.Header.{Header}
+use Rattle.model.specs.declared.Source.{Source}
 use Rattle.model.specs.Records.{Row, Entry, Ledger, isRow, isRowOver, within, limitsOk}
-use Rattle.model.specs.Records.{withRows}
-use Rattle.model.specs.Records.{attempted, withAccount}
+use Rattle.model.specs.Records.{attempted, withAccount, withCounts, sourceIn}
 use Rattle.model.specs.Records.{maxRows, maxConditions, maxOutputs}
 use Rattle.model.specs.Retention.{Outcome, Stops, Declines, Subsumes, Adds, canCapture}
-use Rattle.model.specs.Refusals.{Lent, refusal, ledgerIn, lentOf, entryOk, countsOk, wordsOk, contentsOk, accepts}
-use Rattle.model.specs.Operations.{Offered, unoffered, capture, fitsOffer, offer}
+use Rattle.model.specs.Refusals.{Lent, refusal, ledgerIn, lentOf, entryOk, countsOk, foundedOk, wordsOk, contentsOk, accepts}
+use Rattle.model.specs.Operations.{Offered, unoffered, capture, fitsOffer, offerTests, offer}
 use Rattle.model.specs.Priority.{In, Gives, Covers}
 use Rattle.model.proofs.Cover.{and-left, and-right}
 use Rattle.model.proofs.Slots.{valid-of, AllValid, decode-encode}
@@ -119,6 +119,18 @@ unfolding refusal
 refusal-cons true n ts e = (tt, e)
 refusal-cons false n ts e = absurd (subst IsSome e tt)
 
+-- the test of a number, wherever it stands among them
+testOf : ℕ → List (Bool × ℕ) → Bool
+testOf n [] = true
+testOf n (t ∷ ts) = elim (eqb (t .1) n) [ true ↦ t .0 | false ↦ testOf n ts ]
+
+refusal-test : (n : ℕ) (ts : List (Bool × ℕ)) → refusal ts ≡ none → T (testOf n ts)
+unfolding testOf
+refusal-test n [] e = tt
+refusal-test n (t ∷ ts) e =
+    let x = refusal-cons (t .0) (t .1) ts e in
+    if-elim T (eqb (t .1) n) _ _ (λ k. x .0) (refusal-test n ts (x .1))
+
 pub accepted : (s : Lent) (b : Bool) (ts : List (Bool × ℕ)) → refusal (accepts s b ts) ≡ none → Accepted s × (refusal ts ≡ none)
 unfolding accepts
 accepted s b ts e =
@@ -139,7 +151,8 @@ pub rows-ok : (s : Lent) → Accepted s → (r : Row) → In r (rowsE (ledgerIn 
 unfolding contentsOk wordsOk
 rows-ok s a =
     entry-rows (s .header) (ledgerIn s .entries)
-    (and-left (all (entryOk (s .header)) (ledgerIn s .entries)) _ (and-right (countsOk (s .header)) _ (a .contents)))
+    (and-left (all (entryOk (s .header)) (ledgerIn s .entries)) _
+    (and-right (foundedOk (s .header) (ledgerIn s)) _ (and-right (countsOk (s .header)) _ (a .contents))))
 
 pub fine-in : (s : Lent) → Accepted s → Fine (rowsE (ledgerIn s .entries))
 fine-in s a r m = valid-of (s .header .limits .atoms) r (rows-ok s a r m)
@@ -165,7 +178,7 @@ all-valid [] f = tt
 all-valid (e ∷ es) f = (f (e .row) (inl refl), all-valid es (λ r i. f r (inr i)))
 
 pub rows-back : (l : Ledger) → Fine (rowsE (l .entries)) → rowsE (ledgerIn (lentOf l) .entries) ≡ rowsE (l .entries)
-unfolding ledgerIn lentOf withRows
+unfolding ledgerIn lentOf withCounts
 rows-back l f = ap rowsE (decode-encode (l .header .limits .«tier_rows») (l .entries) (all-valid (l .entries) f))
 
 -- ---- a step
@@ -191,7 +204,7 @@ pub to-lent : (s : Lent) (l : Ledger) (took : List Row) (evicts : Bool) → Fine
     → (T (not evicts) → Alike (rowsE (l .entries)) (took ++ rowsE (ledgerIn s .entries))) → Over (s .header .limits .atoms) took
     → Covers (took ++ rowsE (ledgerIn s .entries)) (rowsE (l .entries)) → Counted evicts (s .header .evicted) (l .header .evicted)
     → StepOk s (lentOf l) took evicts
-unfolding lentOf withRows
+unfolding lentOf withCounts
 to-lent s l took evicts f e a o c n = record {
   limits = e;
   alike = λ t. subst (λ (rs : List Row). Alike rs (took ++ rowsE (ledgerIn s .entries))) (sym (rows-back l f)) (a t);
@@ -230,26 +243,31 @@ offered-valid l t k h =
     le-leb : (a b c : ℕ) → T (leb a b) → b ≤ c → T (leb a c)
     le-leb a b c x y = le→leb a c (le-trans (leb→le a b x) y)
 
+tests-fit : (l : LearningLimits) (t : Row) (source : ℕ) → refusal (offerTests l t source) ≡ none → T (fitsOffer l t)
+unfolding offerTests testOf
+tests-fit l t source e = refusal-test 4 (offerTests l t source) e
+
 abbrev OfferOk : Lent → Offered → Type 0
 OfferOk s e = StepOk s (e .seen .ledger) (e .took) (e .evicts)
 
-capture-ok : (s : Lent) (t : Row) (m : Meter) → Accepted s → T (fitsOffer (s .header .limits) t) → OfferOk s (capture (ledgerIn s) t m)
+capture-ok : (s : Lent) (source : Source) (t : Row) (m : Meter) → Accepted s → T (fitsOffer (s .header .limits) t)
+    → OfferOk s (capture (ledgerIn s) source t m)
 unfolding capture attempted withAccount ledgerIn
-capture-ok s t m a h =
+capture-ok s source t m a h =
     let v = offered-valid (s .header .limits) t (a .limits) h in
-    let f = retain-fine _ (s .header .limits .«founded_outputs») 0 t _ (most-ok (s .header .limits) (a .limits) .1)
+    let f = retain-fine _ (s .header .limits .«founded_outputs») 0 source t _ (most-ok (s .header .limits) (a .limits) .1)
     (valid-of (s .header .limits .atoms) t v) (fine-in s a) in
-    to-lent s _ _ _ (f .fine) (f .limits) (retain-ok _ (s .header .limits .«founded_outputs») 0 t _)
+    to-lent s _ _ _ (f .fine) (f .limits) (retain-ok _ (s .header .limits .«founded_outputs») 0 source t _)
     (λ r i. subst (λ (x : Row). T (isRowOver (s .header .limits .atoms) x)) (sym (f .took r i)) (row-over (s .header .limits .atoms) t v))
     (f .from) (f .counted)
 
-pub offer-ok : (s : Lent) (c o : List ℕ) (m : Meter) → OfferOk s (offer s c o m)
+pub offer-ok : (s : Lent) (c o : List ℕ) (source : ℕ) (m : Meter) → OfferOk s (offer s c o source m)
 unfolding offer unoffered
-offer-ok s c o m =
-    opt-elim (OfferOk s) (refusal (accepts s true ((fitsOffer (s .header .limits) t, 4) ∷ []))) _ _
-    (λ e. let x = accepted s true ((fitsOffer (s .header .limits) t, 4) ∷ []) e in
+offer-ok s c o source m =
+    opt-elim (OfferOk s) (refusal (accepts s true (offerTests (s .header .limits) t source))) _ _
+    (λ e. let x = accepted s true (offerTests (s .header .limits) t source) e in
     if-elim (OfferOk s) (canCapture (ledgerIn s)) _ _
-    (λ k. capture-ok s t m (x .0) (refusal-cons _ _ _ (x .1) .0)) (still s))
+    (λ k. capture-ok s (sourceIn source) t m (x .0) (tests-fit (s .header .limits) t source (x .1))) (still s))
     (λ n. still s)
   where
     t : Row

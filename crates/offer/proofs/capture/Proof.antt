@@ -71,7 +71,7 @@ same-length-2 c = search needs
 returns : tie.Need-returns
 returns c =
     let capture-row = at-capture-row c in
-    capture-proposed _ _ _ (capture-row .capture-row .result) _ _ _ (at-propose capture-row .propose .ensures)
+    capture-proposed _ _ _ _ (capture-row .capture-row .result) _ _ _ (at-propose capture-row .propose .ensures)
     (capture-row .capture-row .ensures)
 
 pub capture-spec : {M : Type 1} → statement M

@@ -13,11 +13,14 @@ use Rattle.retain.proofs.retain.Reads as retain-reads
 abbrev at-start-from-limits : tie.After-limits → tie.Start
 at-start-from-limits c = c .before .before .before .before
 
-abbrev at-start-from-t17 : tie.After-t17 → tie.Start
-at-start-from-t17 c = at-start-from-limits (c .before .before .before .before)
+abbrev at-start-from-t18 : tie.After-t18 → tie.Start
+at-start-from-t18 c = at-start-from-limits (c .before .before .before .before)
+
+abbrev at-start-from-t19 : tie.After-t19 → tie.Start
+at-start-from-t19 c = at-start-from-t18 (c .before)
 
 abbrev at-start-from-retain-arg3 : tie.After-retain-arg3 → tie.Start
-at-start-from-retain-arg3 c = at-start-from-t17 (c .before .before .before .before)
+at-start-from-retain-arg3 c = at-start-from-t19 (c .before .before .before)
 
 abbrev at-start : tie.After-retain → tie.Start
 at-start c = at-start-from-retain-arg3 (c .before)
@@ -28,8 +31,8 @@ at-retain-from-slice-known5 c = c .before .before .before .before
 abbrev at-retain : tie.After-captured → tie.After-retain
 at-retain c = at-retain-from-slice-known5 (c .before .before .before)
 
-add-t11 : tie.Need-add-t11
-add-t11 c = search needs
+add-t12 : tie.Need-add-t12
+add-t12 c = search needs
 
 retain-requires : tie.Need-retain-requires
 retain-requires c κs =
@@ -53,14 +56,14 @@ returns c =
     let retain = at-retain c in
     let a =
     at-start retain .args in
-    capture-retained (a .header) _ _ _ (a .work) (retain .retain .result) _ _ _
+    capture-retained (a .header) _ _ _ _ (a .work) (retain .retain .result) _ _ _
     (c .captured .ensures) (retain .retain .ensures)
 
 pub capture-row-spec : {M : Type 1} → statement M
 capture-row-spec =
     tie.close
     (tie.spec
-    add-t11
+    add-t12
     retain-requires
     captured-requires
     same-length

@@ -44,9 +44,9 @@ settle-requires c κs =
     let g = at-place c in
     let t = top g in
     let a = t .pre .0 in (
-      new-held _ _ _ a _ _ (t .pre .1 .0) (f g) _ _ _ _ (g .place .ensures .0) (g .place .ensures .1),
+      new-held _ _ _ a _ _ (t .pre .1 .0) (f g) _ _ _ _ _ (g .place .ensures .0) (g .place .ensures .1),
       (
-        new-tier _ _ _ a _ _ (t .pre .1 .0) (f g) _ _ _ _ (g .place .ensures .0) (g .place .ensures .1),
+        new-tier _ _ _ a _ _ (t .pre .1 .0) (f g) _ _ _ _ _ (g .place .ensures .0) (g .place .ensures .1),
         (a .some, (a .wide, stale-zero _ _ _ a)),
       ),
     )
@@ -65,7 +65,7 @@ returns c =
     let t = top g in
     r .settle .ensures
     ∙ ap₂ (λ (x : List Entry) (n : ℕ). lentOf (settle (t .args .header) x n))
-    (new-entries _ _ _ (t .pre .0) _ _ (t .pre .1 .0) (f g) _ _ _ _ (g .place .ensures .0) (g .place .ensures .1)
+    (new-entries _ _ _ (t .pre .0) _ _ (t .pre .1 .0) (f g) _ _ _ _ _ (g .place .ensures .0) (g .place .ensures .1)
     (g .before .before .saturating-add .ensures)) (v .evictions .ensures)
 
 pub add-spec : {M : Type 1} → statement M

@@ -42,7 +42,7 @@ module _ (c : tie.After-find-room) where
 find-room-requires : tie.Need-find-room-requires
 find-room-requires c κs =
     let t = at-start-from-find-room-arg c in
-    (held _ _ _ (t .pre .0), t .pre .0 .some)
+    (held _ _ _ (t .pre .0), t .pre .0 .founded)
 
 enum-told : tie.Need-enum-told
 enum-told c = search needs
@@ -53,7 +53,7 @@ same-length c = search needs
 returns : tie.Need-returns
 returns c =
     let g = c .before .before in
-    admit-protected _ _ _ (top g .pre .0) (f g) (P g) _ _ _ _ (g .find-room .ensures) (c .enum-told .given .1)
+    admit-protected _ _ _ (top g .pre .0) (f g) (P g) _ _ _ _ _ (g .find-room .ensures) (c .enum-told .given .1)
 
 pay-place-requires : tie.Need-pay-place-requires
 pay-place-requires c κs = search needs
@@ -90,7 +90,7 @@ returns-2 c =
     let r = q .before .before in
     let y = r .before .before .before in
     let g = y .before .before in
-    admit-paid _ _ _ (top g .pre .0) (f g) (P g) _ _ _ _ (g .find-room .ensures) (not-protected _ (y .before .match .keys2))
+    admit-paid _ _ _ (top g .pre .0) (f g) (P g) _ _ _ _ _ (g .find-room .ensures) (not-protected _ (y .before .match .keys2))
     (sym (r .read .given .1) ∙ y .pay-place .ensures .0) (u .add .ensures) (q .position .ensures)
 
 same-length-4 : tie.Need-same-length-4
@@ -101,7 +101,7 @@ returns-3 c =
     let r = c .before in
     let y = r .before .before .before in
     let g = y .before .before in
-    admit-declined _ _ _ (top g .pre .0) (f g) (P g) _ _ _ _ (g .find-room .ensures) (not-protected _ (y .before .match .keys2))
+    admit-declined _ _ _ (top g .pre .0) (f g) (P g) _ _ _ _ _ (g .find-room .ensures) (not-protected _ (y .before .match .keys2))
     (sym (r .read2 .given .1) ∙ y .pay-place .ensures .0)
 
 same-length-5 : tie.Need-same-length-5
@@ -112,7 +112,7 @@ returns-4 c =
     let r = c .before in
     let y = r .before .before .before in
     let g = y .before .before in
-    admit-stopped _ _ _ (top g .pre .0) (f g) (P g) _ _ _ _ (g .find-room .ensures) (not-protected _ (y .before .match .keys2))
+    admit-stopped _ _ _ (top g .pre .0) (f g) (P g) _ _ _ _ _ (g .find-room .ensures) (not-protected _ (y .before .match .keys2))
     (sym (r .read3 .given .1) ∙ y .pay-place .ensures .0)
 
 pub admit-spec : {M : Type 1} → statement M

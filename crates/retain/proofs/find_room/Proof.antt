@@ -49,14 +49,16 @@ returns c =
     let g = c .before .before in
     room-after (marks (k g)) (es (k g)) _ _ (rows-are (k g)) (nothing g) (c .if1 .taken)
 
-returns-2 : tie.Need-returns-2
-returns-2 c =
-    let f = c .before .before in
-    let g = f .before .before in
-    room-protected (marks (k g)) (es (k g)) _ _ (rows-are (k g)) (nothing g) (f .if1 .left) (c .if2 .taken)
-
 victim-requires : tie.Need-victim-requires
 victim-requires c κs = search needs
+
+returns-2 : tie.Need-returns-2
+returns-2 c =
+    let v = c .before in
+    let f = v .before .before in
+    let g = f .before .before in
+    room-protected (marks (k g)) (es (k g)) _ _ (rows-are (k g)) (nothing g) (f .if1 .left) _ _ (top (k g) .pre .1) (v .victim .ensures)
+    (c .if2 .taken)
 
 returns-3 : tie.Need-returns-3
 returns-3 c =
@@ -65,9 +67,11 @@ returns-3 c =
 
 returns-4 : tie.Need-returns-4
 returns-4 c =
-    let f = c .before .before .before in
+    let v = c .before in
+    let f = v .before .before in
     let g = f .before .before in
-    room-victim (marks (k g)) (es (k g)) _ _ (rows-are (k g)) (nothing g) (f .if1 .left) (c .before .if2 .left) _ (c .victim .ensures)
+    room-victim (marks (k g)) (es (k g)) _ _ (rows-are (k g)) (nothing g) (f .if1 .left) _ _ (top (k g) .pre .1) (v .victim .ensures)
+    (c .if2 .left)
 
 pub find-room-spec : {M : Type 1} → statement M
 find-room-spec =
@@ -77,7 +81,7 @@ find-room-spec =
     enum-known-first
     enum-told
     returns
-    returns-2
     victim-requires
+    returns-2
     returns-3
     returns-4)

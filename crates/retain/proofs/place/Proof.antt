@@ -74,7 +74,7 @@ close-up-requires c κs =
     let w = c .before .before .before in
     let t = at-start w in
     let r = w .before .before .before in (
-      first-held _ _ _ _ (t .pre .0) (f t) _ _ _ (r .room .given .1) _ (w .write-at2 .ensures),
+      first-held _ _ _ _ (t .pre .0) (f t) _ _ _ _ (r .room .given .1) _ (w .write-at2 .ensures),
       first-before _ _ _ _ (t .pre .0) _ (r .room .given .1),
     )
 
@@ -96,7 +96,7 @@ returns : tie.Need-returns
 returns c =
     let w = c .before .before in
     let t = at-start-from-write-at w in
-    place-after _ _ _ _ (t .pre .0) (f t) _ _ _ (w .before .before .enum-told .given .1) (w .write-at .ensures)
+    place-after _ _ _ _ (t .pre .0) (f t) _ _ _ _ (w .before .before .enum-told .given .1) (w .write-at .ensures)
 
 same-length-2 : tie.Need-same-length-2
 same-length-2 c = search needs
@@ -107,7 +107,7 @@ returns-2 c =
     let w = at-write-at2 u in
     let t = at-start w in
     let r = w .before .before .before in
-    place-first _ _ _ _ (t .pre .0) (f t) _ _ _ (r .room .given .1) _ (w .write-at2 .ensures) _ _ (u .close-up .ensures)
+    place-first _ _ _ _ (t .pre .0) (f t) _ _ _ _ (r .room .given .1) _ (w .write-at2 .ensures) _ _ (u .close-up .ensures)
 
 same-length-3 : tie.Need-same-length-3
 same-length-3 c = search needs
@@ -117,12 +117,12 @@ returns-3 c =
     let w = c .before .before in
     let t = at-start-from-write-at3 w in
     let r = w .before .before .before in
-    place-victim _ _ _ _ (t .pre .0) (f t) _ _ _ _ (r .room2 .given .1) (w .write-at3 .ensures)
+    place-victim _ _ _ _ (t .pre .0) (f t) _ _ _ _ _ (r .room2 .given .1) (w .write-at3 .ensures)
 
 returns-4 : tie.Need-returns-4
 returns-4 c =
     let t = at-start-from-enum-told2 c in
-    place-none _ _ _ _ (t .pre .0) (f t) _ _ (c .enum-told2 .given .1)
+    place-none _ _ _ _ (t .pre .0) (f t) _ _ _ (c .enum-told2 .given .1)
 
 pub place-spec : {M : Type 1} → statement M
 place-spec =

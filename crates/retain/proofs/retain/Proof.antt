@@ -97,7 +97,8 @@ admit-requires c κs =
       t .pre .0,
       (
         told g .1,
-        retain-row _ _ _ (t .pre .0) (P (k g)) _ (t .args .hits) _ _ (k g .compare .ensures .0) (f (k g)) _ (told g .0) (t .pre .1 .1 .1)
+        retain-row _ _ _ (t .pre .0) (P (k g)) _ (t .args .hits) (t .args .source) _ _ (k g .compare .ensures .0) (f (k g)) _ (told g .0)
+            (t .pre .1 .1 .1)
             (t .pre .1 .1 .0),
       ),
     )
@@ -125,7 +126,7 @@ returns c =
     let d = c .before .before .before .before in
     let g = at-enum-told d in
     let compare = k g in
-    retain-admits _ _ _ (top compare .pre .0) (P compare) _ _ _ _ (compare .compare .ensures .0) (f compare) _ (told g .0)
+    retain-admits _ _ _ (top compare .pre .0) (P compare) _ _ _ _ _ (compare .compare .ensures .0) (f compare) _ (told g .0)
     (g .enum-told .given .1)
     (d .admit .ensures)
 
@@ -138,7 +139,7 @@ same-length-5 c = search needs
 returns-2 : tie.Need-returns-2
 returns-2 c =
     let g = at-compare-from-known-told c in
-    retain-subsumed _ _ _ (top g .pre .0) (P g) _ _ _ _ (g .compare .ensures .0) _ (c .before .compared .given .1)
+    retain-subsumed _ _ _ (top g .pre .0) (P g) _ _ _ _ _ (g .compare .ensures .0) _ (c .before .compared .given .1)
 
 same-length-6 : tie.Need-same-length-6
 same-length-6 c = search needs
@@ -149,7 +150,7 @@ same-length-7 c = search needs
 returns-3 : tie.Need-returns-3
 returns-3 c =
     let g = at-compare-from-enum-told2 c in
-    retain-declined _ _ _ (top g .pre .0) (P g) _ _ _ _ (g .compare .ensures .0) (c .enum-told2 .given .1)
+    retain-declined _ _ _ (top g .pre .0) (P g) _ _ _ _ _ (g .compare .ensures .0) (c .enum-told2 .given .1)
 
 same-length-8 : tie.Need-same-length-8
 same-length-8 c = search needs
@@ -160,7 +161,7 @@ same-length-9 c = search needs
 returns-4 : tie.Need-returns-4
 returns-4 c =
     let g = at-compare-from-enum-told3 c in
-    retain-stopped _ _ _ (top g .pre .0) (P g) _ _ _ _ (g .compare .ensures .0) (c .enum-told3 .given .1)
+    retain-stopped _ _ _ (top g .pre .0) (P g) _ _ _ _ _ (g .compare .ensures .0) (c .enum-told3 .given .1)
 
 pub retain-spec : {M : Type 1} → statement M
 retain-spec =

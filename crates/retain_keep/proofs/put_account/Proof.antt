@@ -9,8 +9,8 @@ use Rattle.retain_keep.proofs.put_account.Reads as reads
 use Rattle.retain_keep.proofs.put_account.Lts as lts
 
 -- back from each place to the one before it that the proof names
-abbrev at-start-from-t19 : tie.After-t19 → tie.Start
-at-start-from-t19 c = c .before .before .before .before
+abbrev at-start-from-t20 : tie.After-t20 → tie.Start
+at-start-from-t20 c = c .before .before .before .before
 
 abbrev at-start-from-t6 : tie.After-t6 → tie.Start
 at-start-from-t6 c = c .before .before .before .before
@@ -18,8 +18,8 @@ at-start-from-t6 c = c .before .before .before .before
 abbrev at-start : tie.After-t12 → tie.Start
 at-start c = at-start-from-t6 (c .before)
 
-abbrev at-start-from-t25 : tie.After-t25 → tie.Start
-at-start-from-t25 c = at-start-from-t19 (c .before)
+abbrev at-start-from-t26 : tie.After-t26 → tie.Start
+at-start-from-t26 c = at-start-from-t20 (c .before)
 
 enum-known-account : tie.Need-enum-known-account
 enum-known-account c = search needs
@@ -34,7 +34,7 @@ returns c =
 
 returns-2 : tie.Need-returns-2
 returns-2 c =
-    let h = at-start-from-t25 c .args .header in
+    let h = at-start-from-t26 c .args .header in
     sharing-in h _ ∙ ap (withAccount h) (sym (c .before .before .before .account2 .given .1))
 
 pub put-account-spec : {M : Type 1} → statement M

@@ -1,8 +1,8 @@
--- `write_row` meets its contract: eight words, then the body. Assumes nothing.
+-- `write_row` meets its contract: eight words, then the body, then the source. Assumes nothing.
 use borrow.Author.Needs.{needs}
 use native.Mathlib.Omega.{arith}
 use denote.Ref.{now}
-use Rattle.row_write.proofs.Laying.{slot-words}
+use Rattle.row_write.proofs.Laying.{slot-long, slot-words}
 use Rattle.row_write.proofs.Proposal.{counts}
 use Rattle.row_write.proofs.write_row.Statement.{statement}
 use Rattle.row_write.proofs.write_row.Tie as tie
@@ -50,17 +50,31 @@ part-write-body-end c = search needs
 write-body-requires : tie.Need-write-body-requires
 write-body-requires c κs = search needs
 
+source-word-requires : tie.Need-source-word-requires
+source-word-requires c κs = search needs
+
+slice-write-slot : tie.Need-slice-write-slot
+slice-write-slot c = search needs
+
 same-length : tie.Need-same-length
-same-length c = search needs
+same-length c =
+    let g = c .before .before .before in
+    let h = at-write-head g in
+    let t = at-start h in
+    let a = t .args in
+    slot-long (now (a .slot)) (h .write-head .last .0) (g .write-body .last .0) (now (a .p)) (a .form) (a .hits) (a .born)
+    (c .source-word .result) (a .source) (t .pre .0) (t .pre .1 .0) (t .pre .1 .1) (h .write-head .ensures) (g .write-body .ensures)
+    (c .source-word .ensures)
 
 returns : tie.Need-returns
 returns c =
-    let g = c .before .before in
+    let g = c .before .before .before in
     let h = at-write-head g in
     let t = at-start h in
     let a = t .args in
     slot-words (now (a .slot)) (h .write-head .last .0) (g .write-body .last .0) (now (a .p)) (a .form) (a .hits) (a .born)
-    (t .pre .0) (t .pre .1 .0) (t .pre .1 .1) (h .write-head .ensures) (g .write-body .ensures)
+    (c .source-word .result) (a .source) (t .pre .0) (t .pre .1 .0) (t .pre .1 .1) (h .write-head .ensures) (g .write-body .ensures)
+    (c .source-word .ensures)
 
 pub write-row-spec : {M : Type 1} → statement M
 write-row-spec =
@@ -76,5 +90,7 @@ write-row-spec =
     part-write-body-start
     part-write-body-end
     write-body-requires
+    source-word-requires
+    slice-write-slot
     same-length
     returns)

@@ -3,9 +3,10 @@ use borrow.Author.Needs.{needs}
 use native.Mathlib.Omega.{arith}
 use mathlib.Core.Path.{sym, _∙_}
 use Prim.Native.Nat.{_-_}
-use lib.ListN.{length, take, drop}
+use lib.ListN.{take, drop}
 use denote.Ref.{now}
 use Rattle.lists.proofs.Puts.{put-whole}
+use Rattle.model.specs.Records.{bodyAt, sourceAt}
 use Rattle.row_write.proofs.Laying.{scalar-long, scalar-words}
 use Rattle.row_write.proofs.Proposal.{counts}
 use Rattle.row_write.proofs.write_scalar.Statement.{statement}
@@ -25,7 +26,7 @@ part-copy-start : tie.Need-part-copy-start
 part-copy-start c = let k = counts (c .before .before .pre .1 .0) in omega arith
 
 part-copy-end : tie.Need-part-copy-end
-part-copy-end c = search needs
+part-copy-end c = let k = counts (c .before .before .pre .1 .0) in omega arith
 
 copy-requires : tie.Need-copy-requires
 copy-requires c κs = let t = c .before .before .before .before in omega (arith, t .pre .0, scalar-long (now (t .args .p)) (t .pre .1 .0))
@@ -39,7 +40,7 @@ returns c =
     let t = at-start copy in
     let ws = now (t .args .p) in
     copy .copy .ensures
-    ∙ put-whole (take (length ws - 8) (drop 8 ws)) (now (t .args .body)) (t .pre .0 ∙ sym (scalar-long ws (t .pre .1 .0)))
+    ∙ put-whole (take (sourceAt - bodyAt) (drop bodyAt ws)) (now (t .args .body)) (t .pre .0 ∙ sym (scalar-long ws (t .pre .1 .0)))
     ∙ scalar-words ws (t .pre .1 .0) (t .pre .1 .1)
 
 pub write-scalar-spec : {M : Type 1} → statement M

@@ -15,8 +15,11 @@ at-mark-of-from-t7 c = c .before .before .before .before
 abbrev at-mark-of-from-t162 : tie.After-t162 → tie.After-mark-of
 at-mark-of-from-t162 c = at-mark-of-from-t7 (c .before .before .before .before)
 
-abbrev at-mark-of : tie.After-t70 → tie.After-mark-of
-at-mark-of c = at-mark-of-from-t162 (c .before .before .before .before)
+abbrev at-mark-of-from-t132 : tie.After-t132 → tie.After-mark-of
+at-mark-of-from-t132 c = at-mark-of-from-t162 (c .before)
+
+abbrev at-mark-of : tie.After-t73 → tie.After-mark-of
+at-mark-of c = at-mark-of-from-t132 (c .before .before .before .before)
 
 returns : tie.Need-returns
 unfolding limitsIn
@@ -32,4 +35,4 @@ header-of-spec =
     (λ c. search needs) (λ c. search needs) (λ c. search needs) (λ c. search needs) (λ c κs. search needs) (λ c. search needs)
     (λ c. search needs) (λ c. search needs) (λ c κs. search needs) (λ c. search needs) (λ c. search needs) (λ c. search needs)
     (λ c. search needs) (λ c. search needs) (λ c. search needs) (λ c. search needs) (λ c. search needs) (λ c. search needs)
-    (λ c. search needs) (λ c. search needs) (λ c. search needs) returns)
+    (λ c. search needs) (λ c. search needs) (λ c. search needs) (λ c. search needs) returns)

@@ -40,7 +40,8 @@ returns c =
     let first = c .before .before in
     let s = first .before .before .before in (
       omega (arith, first .one-if .ensures .1, c .one-if2 .ensures .1),
-      codes-sure (s .args .slot .now) (s .pre .0) (s .pre .1 .0) _ _ (s .args .atom) _ _ (first .one-if .ensures .0)
+      codes-sure (s .args .slot .now) (s .pre .0) (s .pre .1 .0) _ _ (s .args .atom) _ _ (omega arith) (omega (arith, s .pre .1 .1))
+          (first .one-if .ensures .0)
           (c .one-if2 .ensures .0),
     )
 

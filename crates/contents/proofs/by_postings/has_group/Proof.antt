@@ -1,4 +1,5 @@
 -- `contents::by_postings::has_group`. A group with the atom at a place of the body is one of the row's. Assumes nothing.
+use native.Mathlib.Omega.{arith}
 use borrow.Author.Needs.{needs}
 use Rattle.contents.proofs.Near.{groups-sure}
 use Rattle.contents.proofs.by_postings.has_group.Statement.{statement}
@@ -85,7 +86,8 @@ returns c =
     let first = c .before .before .before .before in
     let s = at-start first in
     groups-sure (s .args .slot .now) (s .pre .0) (s .pre .1 .0) _ _ (s .args .atom)
-    (first .group-mark .result) (c .group-mark2 .result) (first .group-mark .ensures) (c .group-mark2 .ensures)
+    (first .group-mark .result) (c .group-mark2 .result) (omega arith) (omega (arith, s .pre .1 .1)) (first .group-mark .ensures)
+    (c .group-mark2 .ensures)
 
 pub has-group-spec : {M : Type 1} → statement M
 has-group-spec =

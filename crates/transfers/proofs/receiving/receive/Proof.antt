@@ -8,7 +8,7 @@ use Rattle.meter.specs.Meter.{andThen, pay, pay-suc}
 use Rattle.model.specs.Records.{literals}
 use Rattle.model.specs.Slots.{rowIn}
 use Rattle.contents.specs.Lent.{lent}
-use Rattle.transfers.specs.Receiving.{receivedEnd}
+use Rattle.transfers.specs.Receiving.{receivedEnd, sourceOf}
 use Rattle.transfers.proofs.Reading.{end-declined, end-stopped}
 use Rattle.transfers.proofs.receiving.receive.Statement.{statement}
 use Rattle.transfers.proofs.receiving.receive.Tie as tie
@@ -58,14 +58,16 @@ returns c =
     let k = at-pay r in
     let a = top k .args in
     r .receive-literals .ensures
-    ∙ ap (receivedEnd (lent (a .header) (now (a .slots)) (now (a .postings))) (rowIn (now (a .row))) (a .outputs) (a .hits))
+    ∙ ap (receivedEnd (lent (a .header) (now (a .slots)) (now (a .postings))) (sourceOf (now (a .row))) (rowIn (now (a .row)))
+    (a .outputs) (a .hits))
     (sym (rest k (r .before .before .before .before .account .given .1)))
 
 returns-2 : tie.Need-returns-2
 returns-2 c =
     let k = c .before .before .before in
     let t = top k in
-    end-declined (t .args .header) (now (t .args .slots)) (now (t .args .postings)) (t .pre .0) (rowIn (now (t .args .row)))
+    end-declined (t .args .header) (now (t .args .slots)) (now (t .args .postings)) (t .pre .0) (sourceOf (now (t .args .row)))
+    (rowIn (now (t .args .row)))
     (t .args .outputs) (t .args .hits) _ _
     (sym (rest k (c .before .account2 .given .1)))
 
@@ -73,7 +75,8 @@ returns-3 : tie.Need-returns-3
 returns-3 c =
     let k = c .before .before .before in
     let t = top k in
-    end-stopped (t .args .header) (now (t .args .slots)) (now (t .args .postings)) (t .pre .0) (rowIn (now (t .args .row)))
+    end-stopped (t .args .header) (now (t .args .slots)) (now (t .args .postings)) (t .pre .0) (sourceOf (now (t .args .row)))
+    (rowIn (now (t .args .row)))
     (t .args .outputs) (t .args .hits) _ _
     (sym (rest k (c .before .account3 .given .1)))
 

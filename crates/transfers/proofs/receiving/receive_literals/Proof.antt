@@ -18,6 +18,7 @@ use Rattle.slots.proofs.Storing.{laid-stored}
 use Rattle.meter.specs.Payment.{WhereYes}
 use Rattle.contents.specs.Lent.{lent}
 use Rattle.retain_compare.proofs.Answers.{told-yes, told-no, told-declined, told-stopped}
+use Rattle.transfers.specs.Receiving.{sourceOf}
 use Rattle.transfers.proofs.Reading.{end-declined, end-stopped, literals-proposed, literals-row, most-fits, literals-kept}
 use Rattle.transfers.proofs.receiving.receive_literals.Statement.{statement}
 use Rattle.transfers.proofs.receiving.receive_literals.Tie as tie
@@ -38,8 +39,11 @@ at-to-literals-from-shared-slice-known2 c = at-to-literals-from-enum-told (c .be
 abbrev k : tie.After-larger → tie.After-to-literals
 k c = at-to-literals-from-enum-told (c .before .before)
 
-abbrev at-larger : tie.After-retain → tie.After-larger
-at-larger c = c .before .before .before .before
+abbrev at-source-of : tie.After-retain → tie.After-source-of
+at-source-of c = c .before .before .before .before
+
+abbrev at-larger : tie.After-source-of → tie.After-larger
+at-larger c = c .before .before
 
 abbrev at-retain-from-slice-known4 : tie.After-slice-known4 → tie.After-retain
 at-retain-from-slice-known4 c = c .before .before .before .before
@@ -87,12 +91,20 @@ shared-slice-read-larger c =
 larger-requires : tie.Need-larger-requires
 larger-requires c κs = search needs
 
+shared-slice-read-source-of : tie.Need-shared-slice-read-source-of
+shared-slice-read-source-of c =
+    let t = top (k (c .before)) in
+    omega (arith, laid-stored (t .args .header .limits .atoms) (now (t .args .row)) (t .pre .1 .0) .long)
+
+source-of-requires : tie.Need-source-of-requires
+source-of-requires c κs = search needs
+
 slice-aggregate-retain : tie.Need-slice-aggregate-retain
 slice-aggregate-retain c = search needs
 
 retain-requires : tie.Need-retain-requires
 retain-requires c κs =
-    let l = c .before .before .before in
+    let l = at-larger (c .before .before .before) in
     let a = t l .args in
     let n : ℕ = a .header .limits .atoms in
     let s = t l .pre .1 .0 in
@@ -118,7 +130,8 @@ same-length-2 c = search needs
 returns : tie.Need-returns
 returns c =
     let r = at-retain c in
-    let l = at-larger r in
+    let source = at-source-of r in
+    let l = at-larger source in
     let to-literals = k l in
     let start = top to-literals in
     let a = start .args in
@@ -126,13 +139,14 @@ returns c =
     ∙ literals-kept (a .header .limits .atoms) (now (a .row)) (start .pre .1 .0) (P l) (laid-out l) (a .outputs) (l .larger .result)
     (l .larger .ensures)
     (lent (a .header) (now (a .slots)) (now (a .postings))) (a .hits)
-    (sym (told-yes true (run to-literals) (to-literals .to-literals .ensures .0) (yes l) .1))
+    (sym (told-yes true (run to-literals) (to-literals .to-literals .ensures .0) (yes l) .1)) (source .source-of .ensures)
 
 returns-2 : tie.Need-returns-2
 returns-2 c =
     let k = c .before .before .before .before in
     let t = top k in
-    end-stopped (t .args .header) (now (t .args .slots)) (now (t .args .postings)) (t .pre .0) (rowIn (now (t .args .row)))
+    end-stopped (t .args .header) (now (t .args .slots)) (now (t .args .postings)) (t .pre .0) (sourceOf (now (t .args .row)))
+    (rowIn (now (t .args .row)))
     (t .args .outputs) (t .args .hits) _ _
     (sym (told-stopped true (run k) (k .to-literals .ensures .0) (c .enum-told2 .given .1)))
 
@@ -140,7 +154,8 @@ returns-3 : tie.Need-returns-3
 returns-3 c =
     let k = c .before .before .before .before in
     let t = top k in
-    end-declined (t .args .header) (now (t .args .slots)) (now (t .args .postings)) (t .pre .0) (rowIn (now (t .args .row)))
+    end-declined (t .args .header) (now (t .args .slots)) (now (t .args .postings)) (t .pre .0) (sourceOf (now (t .args .row)))
+    (rowIn (now (t .args .row)))
     (t .args .outputs) (t .args .hits) _ _
     (sym (told-declined true (run k) (k .to-literals .ensures .0) (c .enum-told3 .given .1)))
 
@@ -158,6 +173,8 @@ receive-literals-spec =
     enum-told
     shared-slice-read-larger
     larger-requires
+    shared-slice-read-source-of
+    source-of-requires
     slice-aggregate-retain
     retain-requires
     enum-told-2

@@ -13,7 +13,7 @@ use Rattle.model.specs.Operations.{transferRefusal}
 use Rattle.contents.specs.Lent.{lent, refusedBy}
 use Rattle.contents.specs.Accepted.{Accepted}
 use Rattle.contents.proofs.Accepting.{accepted, refusedBy-some}
-use Rattle.contents.proofs.Lending.{stands-lent}
+use Rattle.contents.proofs.Lending.{accepted-lent}
 use Rattle.retain_keep.proofs.Standing.{accepted-stood}
 use Rattle.transfers.specs.Ends.{transferEnd}
 use Rattle.transfers.proofs.Ending.{tier-accepted, store-accepted, atoms-same, giving, seed-refused, seed-done}
@@ -116,7 +116,7 @@ returns-2 c =
     seed-done (a .tier) (a .store) (now (a .tier-slots)) (now (a .tier-postings)) (now (a .store-slots)) (now (a .store-postings)) (a .work)
     (a .tier .limits .atoms) (a .store .rows) (k .mark-for .result) (k .mark-for .ensures) (r .seed-rows .result) (r .seed-rows .last .1 .0)
     (r .seed-rows .last .1 .1 .0) (r .seed-rows .ensures)
-    (none-is e) (stands-lent (a .store) (now (a .store-slots)) (now (a .store-postings)) (store-taken t (none-is e) .stands))
+    (none-is e) (accepted-lent (a .store) (now (a .store-slots)) (now (a .store-postings)) (store-taken t (none-is e)))
     (c .seeded .ensures)
 
 pub seed-spec : {M : Type 1} → statement M

@@ -9,7 +9,8 @@ use super::{
     deliver_rows,
 };
 use crate::regions::{
-    Cursor, Deduced, Fields, Literal, Metered, Record, Retention, Shape, Theory, Tier, Work,
+    Cursor, Deduced, Fields, Literal, Metered, Origin, Record, Retention, Shape, Theory, Tier,
+    Work,
 };
 
 impl Literals {
@@ -22,6 +23,24 @@ impl Literals {
         assert_eq!(literals.conditions.capacity(), conditions.len());
         assert_eq!(literals.outputs.capacity(), outputs.len());
         literals
+    }
+}
+
+impl From<Origin> for Source {
+    fn from(origin: Origin) -> Self {
+        match origin {
+            Origin::Founded => Self::Founded,
+            Origin::Tip => Self::Tip,
+        }
+    }
+}
+
+impl From<Source> for Origin {
+    fn from(source: Source) -> Self {
+        match source {
+            Source::Founded => Self::Founded,
+            Source::Tip => Self::Tip,
+        }
     }
 }
 
@@ -155,13 +174,14 @@ impl Tier {
             remaining: ledger.remaining,
             sharing: ledger.sharing,
             evicted: ledger.evicted,
+            founded: ledger.founded,
             stale: ledger.stale,
             full: ledger.full,
             mark: ledger.seeded_from,
         }
     }
 
-    /// Sets every field but the number of rows. Postings can be made stale, never the other way.
+    /// Sets every field but the numbers of rows and of Founded rows. Postings can be made stale, never the other way.
     pub fn set_fields(&mut self, fields: Fields) {
         let ledger = &mut self.ledger;
         ledger.born = fields.born;
@@ -192,6 +212,10 @@ impl Tier {
         }
     }
 
+    pub fn origin(&self, position: usize) -> Origin {
+        self.ledger.rows[position].source.into()
+    }
+
     pub fn set_record(&mut self, position: usize, record: Record) {
         let entry = &mut self.ledger.rows[position];
         entry.hits = record.hits;
@@ -217,6 +241,7 @@ impl Tier {
         &mut self,
         conditions: &[Literal],
         outputs: &[Literal],
+        origin: Origin,
         work: &mut Work<'_>,
     ) -> Metered<Retention> {
         let ledger = &mut self.ledger;
@@ -224,7 +249,7 @@ impl Tier {
         let mut remaining = ledger.remaining;
         let proposed = Proposed {
             literals: Literals::exact(conditions, outputs),
-            source: Source::Founded,
+            source: origin.into(),
             hits: 0,
             maximum_outputs: ledger.limits().founded_outputs,
         };
