@@ -1,5 +1,7 @@
 // The ledger for C: one function for each public operation, over lent words alone. None asks anything of its caller.
 // Each gives back 0, or the number of a refusal, and then no lent word is written. include/ledger.h says what the words are.
+#![tactic(auto)]
+
 ghost use Rattle.std.specs.Prelude.{◌≡◌, [], ◌∷◌};
 ghost use Rattle.wire.specs.Replies.{left};
 ghost use Rattle.boundary.specs.Calls.{make_call, begin_call, hit_call, deduce_call, output_call, decide_call};

@@ -8,6 +8,8 @@
 // Beside slots and postings are lent, as `first` and `second`: conditions and outputs (`offer`), atoms and rows found (`candidates`), the
 // store's slots and postings (`seed`, `deliver`), held and cut (the others); as `third` and `fourth` the scratch of `close`, for rows and
 // for atoms.
+#![tactic(auto)]
+
 use boundary::{
     ledger_begin, ledger_candidates, ledger_close, ledger_decide, ledger_deduce, ledger_deliver,
     ledger_hit, ledger_make, ledger_next_output, ledger_offer, ledger_seed,

@@ -1,4 +1,6 @@
 // Closing: rounds of candidates, deductions and decisions. It asks nothing of its caller.
+#![tactic(auto)]
+
 ghost use Rattle.std.specs.Prelude.{◌≡◌};
 ghost use Rattle.model.specs.Operations.{close};
 ghost use Rattle.contents.specs.Lent.{lent};

@@ -1,4 +1,6 @@
 // One row read in a closing: its deduction, what is decided by it, its hit, and the output that it names.
+#![tactic(auto)]
+
 ghost use Rattle.std.specs.Prelude.{◌≡◌, suc, ◌<◌, T, length};
 ghost use Rattle.words.specs.Region.{region, is_region};
 ghost use Rattle.model.specs.declared.Header.{Header};

@@ -1,4 +1,6 @@
 // The rounds of a closing.
+#![tactic(auto)]
+
 ghost use Rattle.std.specs.Prelude.{◌≡◌, [], suc, ◌≤◌, ◌<◌, length, take};
 ghost use Rattle.lists.specs.Counts.{Each};
 ghost use Rattle.words.specs.Region.{region};

@@ -1,5 +1,7 @@
 // Damaged copies of good ledgers: what each function for C refuses them by. The input is good ledgers with all that a call is lent and
 // their damaged copies, the output a line a copy; tests/damaged/make.py writes both from document 01 and says how they are laid out.
+#![tactic(auto)]
+
 ghost use Rattle.std.specs.Prelude.{◌≡◌, ◌+◌, ◌≤◌, length};
 
 use calls::WORDS;

@@ -6,6 +6,8 @@
 // sharing one, and the meter's charged and limit. The words `answer` are the answer's number, its value, the reads left and
 // the meter's charged. A truth value is a word: 0 for false. With `times` over 1 a call is made so many times, each with the account
 // and the meter that the last left; within the call, so that what is measured is the leaf function and not the layout of its rows.
+#![tactic(auto)]
+
 ghost use Rattle.std.specs.Prelude.{◌≡◌, true, [], ◌∷◌, ◌≤◌, length};
 ghost use Rattle.meter.specs.Meter.{pay, judged};
 ghost use Rattle.words.specs.Region.{max_atoms, region, has, mark};

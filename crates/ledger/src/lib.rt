@@ -1,5 +1,7 @@
 // The ledger: everything there is to call, and every type that a call takes or gives. Each operation's contract is one equation over its
 // definition in the crate model (specs/Operations.antt) and asks nothing of the caller.
+#![tactic(auto)]
+
 pub use close::close;
 pub use meter::{Account, Capture, Meter, Sharing};
 pub use model::{

@@ -1,4 +1,6 @@
 // Offer: a row given to a ledger, paid from its capture account. It asks nothing of its caller.
+#![tactic(auto)]
+
 ghost use Rattle.std.specs.Prelude.{◌≡◌, true, ◌<◌, ◌≤◌};
 ghost use Rattle.model.specs.Records.{max_outputs, is_row, limits_ok};
 ghost use Rattle.model.specs.Slots.{row_in};

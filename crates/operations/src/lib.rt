@@ -1,4 +1,6 @@
 // The operations that take no row into a ledger: make, hit, deduce, next output, begin, decide. None asks anything of its caller.
+#![tactic(auto)]
+
 ghost use Rattle.std.specs.Prelude.{◌≡◌};
 ghost use Rattle.model.specs.Records.{fresh};
 ghost use Rattle.model.specs.Operations.{make, hit, deduce, next_output, begin, decide};

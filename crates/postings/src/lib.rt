@@ -1,4 +1,6 @@
 // The postings of a ledger's rows: their rebuilding, and the search for the rows that have an atom given.
+#![tactic(auto)]
+
 mod filling;
 mod searching;
 

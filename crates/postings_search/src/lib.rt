@@ -1,4 +1,6 @@
 // The operation Candidates: the rows of a lent ledger that are to be looked at. It asks nothing of its caller.
+#![tactic(auto)]
+
 ghost use Rattle.std.specs.Prelude.{◌≡◌};
 ghost use Rattle.model.specs.Operations.{candidates};
 ghost use Rattle.contents.specs.Lent.{lent};

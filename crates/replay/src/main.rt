@@ -3,6 +3,8 @@
 // A line of the input: the name of a function, a word that says what the call is about, then seven lists: the words of the call, as crate
 // `calls` numbers them; slots; postings; and the four further slices. A list is its length and then its words, a run of zeros as 0 and how
 // many there are. A line of the output: the first two words again, the refusal or 0, and the seven lists after the call.
+#![tactic(auto)]
+
 ghost use Rattle.std.specs.Prelude.{◌≡◌, ◌≤◌, length};
 
 use calls::WORDS;

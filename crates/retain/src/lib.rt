@@ -1,4 +1,6 @@
 // A row retained by a tier: its place, the rows that it replaces or evicts, and the ledger settled after it.
+#![tactic(auto)]
+
 ghost use Rattle.std.specs.Prelude.{◌≡◌, true, ℕ, ◌*◌, ◌+◌, ◌≤◌, ◌<◌, length, take, drop};
 ghost use Rattle.lists.specs.Lists.{zeroed};
 ghost use Rattle.words.specs.Region.{has, max_atoms};

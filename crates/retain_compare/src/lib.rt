@@ -1,4 +1,6 @@
 // A proposal beside the rows of a tier: the rows that it joins or dominates, or a row that subsumes it.
+#![tactic(auto)]
+
 ghost use Rattle.std.specs.Prelude.{◌≡◌, true, false, ℕ, ◌*◌, ◌≤◌, ◌/◌, ◌<◌, length};
 ghost use Rattle.words.specs.Region.{has, max_atoms};
 ghost use Rattle.meter.specs.Meter.{pay, judged};

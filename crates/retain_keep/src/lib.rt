@@ -1,4 +1,6 @@
 // What a retention leaves: a ledger that is accepted again, and its header with the account that was paid from. The laws stand in proofs/.
+#![tactic(auto)]
+
 ghost use Rattle.std.specs.Prelude.{◌≡◌};
 ghost use Rattle.model.specs.Records.{with_account};
 

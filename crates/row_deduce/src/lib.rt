@@ -1,4 +1,6 @@
 // What a row says of a region: its deduction, and its outputs one by one.
+#![tactic(auto)]
+
 ghost use Rattle.std.specs.Prelude.{◌≡◌, true, false, [], ◌+◌, ◌-◌, ◌*◌, ◌<◌, ◌≤◌, length};
 ghost use Rattle.std.specs.Int.Bits.{bit_or};
 ghost use Rattle.words.specs.Literal.{code_bits, codes_wide, words_wide, opposite};

@@ -1,4 +1,6 @@
 // The union of a stored row's outputs with those of a proposal of equal conditions.
+#![tactic(auto)]
+
 ghost use Rattle.std.specs.Prelude.{◌≡◌, true, suc, ◌+◌, ◌≤◌, min, leb, length};
 ghost use Rattle.lists.specs.Lists.{same};
 ghost use Rattle.meter.specs.Meter.{pay, judged};

@@ -1,4 +1,6 @@
 // Rows on their way to a slot: the test of an offered row, and a row laid out as a proposal.
+#![tactic(auto)]
+
 ghost use Rattle.std.specs.Prelude.{◌≡◌, ◌&&◌, true, ◌<◌, ◌≤◌, length};
 ghost use Rattle.lists.specs.Lists.{put};
 ghost use Rattle.meter.specs.Meter.{pay, judged};

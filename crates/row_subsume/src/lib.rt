@@ -1,4 +1,6 @@
 // Questions about rows that are paid for read by read: inclusion and subsumption.
+#![tactic(auto)]
+
 ghost use Rattle.std.specs.Prelude.{◌≡◌};
 ghost use Rattle.meter.specs.Meter.{pay, judged};
 ghost use Rattle.model.specs.Rows.{includes as includes_of, includes_reads, subsumes as subsumes_of, subsumes_reads};

@@ -1,4 +1,6 @@
 // A row on its way into a slot: the form that it takes there, what that costs, and its words.
+#![tactic(auto)]
+
 ghost use Rattle.std.specs.Prelude.{◌≡◌, true, false, ◌+◌, ◌-◌, ◌*◌, ◌≤◌, length};
 ghost use Rattle.lists.specs.Lists.{pad, zeroed, below};
 ghost use Rattle.words.specs.Region.{max_atoms};

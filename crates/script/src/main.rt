@@ -1,5 +1,7 @@
 // The program `script`: calls of the ledger on standard input, a line each, and an answer line for each on standard output.
 // docs/SCRIPT.md has the language.
+#![tactic(auto)]
+
 mod dispatch;
 mod feed;
 

@@ -1,4 +1,6 @@
 // The answer lines of the script language: their parts, rows by their items, and the lines of `dump`.
+#![tactic(auto)]
+
 mod decoding;
 mod lines;
 mod rows;

@@ -1,5 +1,7 @@
 // The script language: the calls, lists, regions and named points of a line, and where the words of a ledger lie in the program's arrays.
 // docs/SCRIPT.md has the language.
+#![tactic(auto)]
+
 pub mod arguments;
 pub mod calls;
 pub mod literals;

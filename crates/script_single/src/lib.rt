@@ -1,5 +1,7 @@
 // The calls of the script language on a single ledger, each through the function that C calls.
 // A call is given the line and the ledger's words, and answers the place after the answer line, or that the line is no call.
+#![tactic(auto)]
+
 mod acting;
 mod searching;
 

@@ -1,4 +1,6 @@
 // The check of one slot: whether its words are those of a row. It reads the words where they lie, and lays out no row.
+#![tactic(auto)]
+
 ghost use Rattle.std.specs.Prelude.{◌≡◌, ◌+◌, ◌*◌, ◌^◌, ◌≤◌, ◌<◌, ltb, length, get_or};
 ghost use Rattle.std.specs.Int.Count.{ones};
 ghost use Rattle.words.specs.Region.{max_atoms};

@@ -1,5 +1,7 @@
 // Text in and out: the words, numbers and lists of a line, and a buffer of bytes that is written to standard output in large pieces.
 // None asks anything of its caller but that a part lies within its slice.
+#![tactic(auto)]
+
 mod reading;
 mod writing;
 

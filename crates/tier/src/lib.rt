@@ -1,4 +1,6 @@
 // The slots of a tier as one buffer: the numbers of a row changed in place, the victim, hits halved, places closed up.
+#![tactic(auto)]
+
 ghost use Rattle.std.specs.Prelude.{◌≡◌, ◌++◌, ◌+◌, ◌-◌, ◌*◌, ◌<◌, ◌≤◌, length, take, drop, replicate};
 ghost use Rattle.words.specs.Region.{has, max_atoms};
 ghost use Rattle.model.specs.Records.{slot_words, founded_rows};

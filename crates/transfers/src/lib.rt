@@ -1,4 +1,6 @@
 // Transfers: a tier seeded from a store, and a tier's rows delivered to a store.
+#![tactic(auto)]
+
 mod delivering;
 mod receiving;
 mod refusing;

@@ -1,5 +1,7 @@
 // The words that cross the C boundary: the header, the limits, the meter, the cursor, and the number and value of each answer.
 // Words are read whatever they are, and none asks anything of its caller.
+#![tactic(auto)]
+
 ghost use Rattle.std.specs.Prelude.{◌≡◌};
 ghost use Rattle.wire.specs.Words.{limits_in, mark_words, mark_in, header_words, header_in, meter_words, meter_in, cursor_words};
 ghost use Rattle.wire.specs.Words.{cursor_in};

@@ -1,0 +1,28 @@
+use native.Mathlib.Omega.{arith}
+use mathlib.Core.Path.{sym, ap, ◌∙◌}
+use mathlib.Core.List.{List}
+use Prim.Native.Nat.{ℕ, ◌+◌, ◌<◌}
+use lib.ListN.{length, get_or, drop, drop_of_length-le}
+use Rattle.lists.specs.Lists.{put}
+use Rattle.lists.proofs.Puts.{put-none, put-more}
+use Rattle.lists.proofs.Concats.{drop-next}
+use borrow.Author.Rules.{rules}
+use Rattle.lists.proofs.slices.copy.Goals as goal
+
+pub loop-i-preserved : goal.loop-i-preserved
+loop-i-preserved c =
+    let src = c.args.src.now in
+    let h : c.loop-i.i < length src = c.loop-i-test.true in
+    let e = drop-next src c.loop-i.i h in (
+      search rules,
+      search rules,
+      put-more c.loop-i.i (get_or src c.loop-i.i 0) (drop (c.loop-i.i + 1) src) c.loop-i.dst (omega arith)
+          ∙ ap (λ (k : List ℕ). put c.loop-i.i k c.loop-i.dst) (sym e) ∙ c.loop-i.invariant.2,
+    )
+
+pub returns : goal.returns
+returns c =
+    let l = c.loop-i in
+    let src = c.args.src.now in
+    sym (put-none l.i l.dst)
+    ∙ ap (λ (k : List ℕ). put l.i k l.dst) (sym (drop_of_length-le src c.loop-i-test.false)) ∙ l.invariant.2
