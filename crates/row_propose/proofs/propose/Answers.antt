@@ -7,5 +7,5 @@ pub returns : goal.returns
 returns c =
     let f = c.copy in
     let g = c.copy-2 in
-    two-parts c.blank.last.0 f.last.1.0 c.args.conditions.now c.args.outputs.now _
+    two-parts c.blank.new.p f.new.dst c.args.conditions.now c.args.outputs.now _
     c.requires.fact_2 c.requires.fact_3 c.blank.ensures refl f.ensures refl g.ensures

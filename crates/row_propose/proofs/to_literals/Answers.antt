@@ -17,7 +17,7 @@ use Rattle.slots.specs.Cursor.{Sound, list_of}
 use Rattle.row_propose.specs.Parts.{blank_of}
 use Rattle.meter.specs.Payment.{WhereYes}
 use Rattle.meter.proofs.Payments.{on_yes, not_yes, where-map, where-not}
-use Rattle.row_propose.proofs.Parts.{mid-long, second_fits, two-parts, literals-both}
+use Rattle.row_propose.proofs.Parts.{mid-long, others, second_fits, two-parts, literals-both}
 use Rattle.row_propose.proofs.to_literals.Goals.{After-conditions, After-copy_side-first}
 use Rattle.row_propose.proofs.to_literals.Goals as goal
 
@@ -55,7 +55,7 @@ module _ (c : After-copy_side-first) where
   second = judged true (pay (length (R (goal.at.After-copy_side-first c).After-conditions).outputs) i.account i.meter)
 
   abbrev x : List ℕ
-  x = c.copy_side-first.new.side.1.0
+  x = c.copy_side-first.new.out
 
   abbrev at : ℕ
   at = body_at + get_or (S (goal.at.After-copy_side-first c).After-conditions) conditions_at 0
@@ -90,7 +90,7 @@ copy_side-first-requires c =
 pub returns-in_default : goal.returns-in_default
 returns-in_default c =
     let at_after_copy_side_first = (goal.at.returns-in_default c).After-copy_side-first in
-    (not_yes (i at_after_copy_side_first).verdict (i at_after_copy_side_first) (second at_after_copy_side_first) c.in_default.keys2 ∙ both at_after_copy_side_first, where-not (i at_after_copy_side_first).verdict _ c.in_default.keys2)
+    (not_yes (i at_after_copy_side_first).verdict (i at_after_copy_side_first) (second at_after_copy_side_first) (others _ c.in_default.not-Yes) ∙ both at_after_copy_side_first, where-not (i at_after_copy_side_first).verdict _ (others _ c.in_default.not-Yes))
 
 pub copy_side-requires : goal.copy_side-requires
 copy_side-requires c =
