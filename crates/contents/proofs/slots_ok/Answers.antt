@@ -33,7 +33,6 @@ returns-then-not-is_slot c =
     ∙ l.invariant.1)
 
 -- the slot at hand passes
-
 good : (c : Else-not-is_slot) → let a = c.args in
     slot_ok a.atoms a.born (slot_at a.slots.now c.loop-p.p) ≡ true
 good c =
@@ -61,7 +60,6 @@ loop-p-preserved c =
     )
 
 -- the rows met are all
-
 all-met : (c : After-loop-p) → let a = c.args in
     c.loop-p.count ≡ founded_rows (entries_in a.rows a.slots.now)
 all-met c =

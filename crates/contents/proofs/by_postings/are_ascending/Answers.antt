@@ -1,4 +1,3 @@
--- the word met, and how often in a row
 use mathlib.Core.Path.{sym, ap, ◌∙◌}
 use mathlib.Core.List.{List}
 use Prim.Native.Nat.{ℕ}
@@ -16,6 +15,7 @@ use Rattle.contents.proofs.by_postings.are_ascending.Goals.{After-next-run, At-l
 use borrow.Author.Rules.{rules}
 use Rattle.contents.proofs.by_postings.are_ascending.Goals as goal
 
+-- the word met, and how often in a row
 abbrev met : After-next-run → ℕ
 met c = get_or c.args.words.now c.loop-walk.walk.at 0
 

@@ -1,4 +1,4 @@
--- the word met, and how often in a row
+-- `contents::by_postings::are_ascending`. The words met so far ascend, and none more often than it is posted. Assumes nothing.
 use mathlib.Core.Path.{◌≡◌}
 use Prim.Native.Nat.{◌-◌}
 use lib.ListN.{length}
@@ -8,7 +8,6 @@ use Rattle.slots.specs.Layout.{rows_in}
 use Rattle.contents.specs.Marked.{Marked, Walked}
 use Rattle.contents.proofs.by_postings.are_ascending.Given as goal
 
--- `contents::by_postings::are_ascending`. The words met so far ascend, and none more often than it is posted. Assumes nothing.
 abbrev pub invariant-loop-walk : goal.invariant-loop-walk
 invariant-loop-walk l =
     (length l.places ≡ max_rows) × Marked l.rows l.slots l.places

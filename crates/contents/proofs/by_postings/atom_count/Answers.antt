@@ -12,8 +12,8 @@ overflow_cast-count c =
     let w = c.args.words.now in
     let l = c.loop-at in
     let b = ones-le 64 (bit_or (get_or w (l.at + 1) 0) (get_or w (l.at + 2) 0))
-    (or_lt 64 (get_or w (l.at + 1) 0) (get_or w (l.at + 2) 0) (c.shared_slice_known-in-loop-at-1.given (l.at + 1)).fits
-    (c.shared_slice_known-in-loop-at-1.given (l.at + 2)).fits) in
+    (or_lt 64 (get_or w (l.at + 1) 0) (get_or w (l.at + 2) 0) (omega arith)
+    (omega arith)) in
     search rules
 
 pub overflow_add-count : goal.overflow_add-count
@@ -21,8 +21,8 @@ overflow_add-count c =
     let w = c.args.words.now in
     let l = c.loop-at in
     let b = ones-le 64 (bit_or (get_or w (l.at + 1) 0) (get_or w (l.at + 2) 0))
-    (or_lt 64 (get_or w (l.at + 1) 0) (get_or w (l.at + 2) 0) (c.shared_slice_known-in-loop-at-1.given (l.at + 1)).fits
-    (c.shared_slice_known-in-loop-at-1.given (l.at + 2)).fits) in
+    (or_lt 64 (get_or w (l.at + 1) 0) (get_or w (l.at + 2) 0) (omega arith)
+    (omega arith)) in
     search rules
 
 pub loop-at-preserved : goal.loop-at-preserved
@@ -30,8 +30,8 @@ loop-at-preserved c =
     let w = c.args.words.now in
     let l = c.loop-at in
     let b = ones-le 64 (bit_or (get_or w (l.at + 1) 0) (get_or w (l.at + 2) 0))
-    (or_lt 64 (get_or w (l.at + 1) 0) (get_or w (l.at + 2) 0) (c.shared_slice_known-in-loop-at-1.given (l.at + 1)).fits
-    (c.shared_slice_known-in-loop-at-1.given (l.at + 2)).fits) in
+    (or_lt 64 (get_or w (l.at + 1) 0) (get_or w (l.at + 2) 0) (omega arith)
+    (omega arith)) in
     let n = atoms-next w l.at c.loop-at-test.true in
     (search rules, omega arith, omega arith)
 

@@ -1,3 +1,5 @@
+-- `contents::by_postings::codes_have`. The loop: a mark so far, or the atom among the codes left, exactly if it is among all.
+-- Assumes nothing.
 use mathlib.Core.Path.{◌≡◌}
 use mathlib.Core.Bool.{◌||◌}
 use Prim.Native.Nat.{◌-◌, ◌≤◌}
@@ -6,10 +8,8 @@ use lib.ListN.{length, drop}
 use Rattle.contents.specs.Lent.{has_atom, top}
 use Rattle.contents.proofs.by_postings.codes_have.Given as goal
 
--- Assumes nothing.
 abbrev pub invariant-loop-i : goal.invariant-loop-i
 invariant-loop-i l = (l.i ≤ length l.codes) × ((leb top l.bits || has_atom l.atom (drop l.i l.codes)) ≡ has_atom l.atom (drop l.initial.i l.codes))
 
--- `contents::by_postings::codes_have`. The loop: a mark so far, or the atom among the codes left, exactly if it is among all.
 abbrev pub decreases-loop-i : goal.decreases-loop-i
 decreases-loop-i l = length l.codes - l.i

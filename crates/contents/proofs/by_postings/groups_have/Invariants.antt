@@ -1,3 +1,4 @@
+-- `contents::by_postings::groups_have`. The loop: a mark so far, or the atom in the groups left, exactly if it is in all. Assumes nothing.
 use mathlib.Core.Path.{◌≡◌}
 use mathlib.Core.Bool.{◌||◌, not}
 use Prim.Native.Nat.{◌-◌, ◌≤◌}
@@ -7,7 +8,6 @@ use Rattle.model.specs.Slots.{ungroup}
 use Rattle.contents.specs.Lent.{has_atom}
 use Rattle.contents.proofs.by_postings.groups_have.Given as goal
 
--- `contents::by_postings::groups_have`. The loop: a mark so far, or the atom in the groups left, exactly if it is in all. Assumes nothing.
 abbrev pub invariant-loop-at : goal.invariant-loop-at
 invariant-loop-at l =
     (l.at ≤ length l.words) × ((not (eqb l.bits 0) || has_atom l.atom (ungroup (drop l.at l.words))) ≡ has_atom l.atom (ungroup (drop l.initial.at l.words)))

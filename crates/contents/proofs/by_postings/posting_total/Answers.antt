@@ -1,4 +1,3 @@
--- the postings of the row that was counted
 use mathlib.Core.Path.{◌≡◌}
 use Prim.Native.Nat.{◌+◌, ◌≤◌}
 use native.Mathlib.Omega.{arith}
@@ -11,6 +10,7 @@ use Rattle.contents.proofs.by_postings.posting_total.Goals.{After-posting_count-
 use borrow.Author.Rules.{rules}
 use Rattle.contents.proofs.by_postings.posting_total.Goals as goal
 
+-- the postings of the row that was counted
 step : (c : After-posting_count-count) → let a = c.args in
     let p = c.loop-p.p in let n = c.posting_count-count.result in
     (n ≤ posting_words)

@@ -1,4 +1,4 @@
--- the postings of the row that was counted
+-- `contents::by_postings::posting_total`. The loop: what is counted, and the postings of the rows left, make the whole. Assumes nothing.
 use mathlib.Core.Path.{◌≡◌}
 use Prim.Native.Nat.{◌+◌, ◌-◌, ◌*◌, ◌≤◌}
 use lib.ListN.{length}
@@ -8,7 +8,6 @@ use Rattle.slots.specs.Layout.{rows_in}
 use Rattle.slots.proofs.Rows.{rows_from}
 use Rattle.contents.proofs.by_postings.posting_total.Given as goal
 
--- `contents::by_postings::posting_total`. The loop: what is counted, and the postings of the rows left, make the whole. Assumes nothing.
 abbrev pub invariant-loop-p : goal.invariant-loop-p
 invariant-loop-p l =
     (l.p ≤ l.rows) × (l.count ≤ posting_words * l.p)

@@ -2,8 +2,6 @@
 use mathlib.Core.Bool.{false≢true}
 use Rattle.contents.proofs.by_postings.sees.Goals as goal
 
--- back to the place that was read
-
 pub returns-then-place-ge-NOWHERE : goal.returns-then-place-ge-NOWHERE
 returns-then-place-ge-NOWHERE c = record {
   bound = λ t. absurd (false≢true t);

@@ -1,5 +1,4 @@
 -- `contents::by_postings::sees_group`. By the place the row is packed; what is stored is again such a place. Assumes nothing.
--- the row's slot, as the code lends it
 use mathlib.Core.Path.{◌≡◌}
 use mathlib.Core.Bool.{false≢true}
 use mathlib.Core.List.{List}
@@ -18,13 +17,13 @@ use Rattle.contents.proofs.by_postings.sees_group.Goals.{Start}
 use borrow.Author.Rules.{rules}
 use Rattle.contents.proofs.by_postings.sees_group.Goals as goal
 
+-- the row's slot, as the code lends it
 abbrev lent : Start → List ℕ
 lent s =
     take ((slot_words * (s.args.posting % max_rows) + slot_words) - slot_words * (s.args.posting % max_rows))
     (drop (slot_words * (s.args.posting % max_rows)) s.args.slots.now)
 
 -- what the place says of the row
-
 ends : (s : Start) → slot_words * (s.args.posting % max_rows) + slot_words ≤ length s.args.slots.now
 ends s =
     lent-end s.args.rows s.args.slots.now s.args.places.now s.requires.fact_1 s.requires.fact_2 s.requires.fact_3

@@ -1,3 +1,4 @@
+-- `contents::by_postings::walk_on`. Each word above the last one and posted at least once is met once. Assumes nothing.
 use mathlib.Core.Path.{◌≡◌}
 use Prim.Native.Nat.{◌-◌, ◌≤◌}
 use lib.ListN.{length}
@@ -6,7 +7,6 @@ use Rattle.slots.specs.Layout.{rows_in}
 use Rattle.contents.specs.Marked.{Marked, Walked}
 use Rattle.contents.proofs.by_postings.walk_on.Given as goal
 
--- `contents::by_postings::walk_on`. Each word above the last one and posted at least once is met once. Assumes nothing.
 abbrev pub invariant-loop-at : goal.invariant-loop-at
 invariant-loop-at l =
     (length l.places ≡ length l.initial.places) × Marked l.rows l.slots l.places × (l.initial.at ≤ l.at) × Walked l.words (postings_of (rows_in l.rows l.slots)) l.at l.word l.often

@@ -39,7 +39,7 @@ find_new-n-requires c =
     let b : get_or c.args.codes.now c.loop-i.i 0
     < codes_wide code_bits = each_at (λ v. v < codes_wide code_bits) c.args.codes.now c.loop-i.i c.requires.fact_4
     c.loop-i-test.true in
-    search rules  -- FIXME record ['fact_1', 'fact_2', 'fact_3', 'fact_4']
+    search rules
 
 pub returns-then-n : goal.returns-then-n
 returns-then-n c = λ f. absurd (f refl)
@@ -53,7 +53,6 @@ overflow_add-count c =
 pub loop-i-preserved : goal.loop-i-preserved
 loop-i-preserved c =
     let a = c.args in
-    let k = c.shared_slice_known-in-loop-i-1.given c.loop-i.i in
     let w = c.find_new-n.ensures c.if-n.false in (
       search rules,
       search rules,
@@ -62,7 +61,7 @@ loop-i-preserved c =
       omega (arith, w.0, later-at c.loop-i.last a.codes.now c.loop-i.i c.loop-i-test.true, c.loop-i.invariant.4),
       codes-step a.codes.now c.loop-i.i c.loop-i-test.true a.words.now a.places.now c.loop-i.places _ a.position
           c.loop-i.last 18446744073709551615
-          (omega (arith, k)) c.loop-i.invariant.2 c.loop-i.invariant.5 w.1,
+          (omega arith) c.loop-i.invariant.2 c.loop-i.invariant.5 w.1,
     )
 
 pub returns : goal.returns

@@ -1,5 +1,4 @@
 -- `contents::by_rows::find_row`. By the form of the slot, its conditions and then its outputs. Assumes nothing.
--- the number that is returned
 use mathlib.Core.Path.{◌≡◌, refl}
 use Prim.Native.Nat.{◌+◌}
 use native.Mathlib.Omega.{arith}
@@ -12,6 +11,7 @@ use Rattle.contents.proofs.by_rows.find_row.Goals.{Else-n}
 use Rattle.contents.proofs.by_rows.find_row.Goals.{After-atom_count}
 use Rattle.contents.proofs.by_rows.find_row.Goals as goal
 
+-- the number that is returned
 counted-scalar : (c : Else-n)
     → let ws =
     c.args.slot.now in

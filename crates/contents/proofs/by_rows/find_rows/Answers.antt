@@ -1,4 +1,3 @@
--- the row whose postings were found
 use mathlib.Core.Path.{◌≡◌, refl}
 use Prim.Native.Nat.{◌+◌, ◌≤◌}
 use native.Mathlib.Omega.{arith}
@@ -12,6 +11,7 @@ use Rattle.contents.proofs.by_rows.find_rows.Goals.{Else-n}
 use borrow.Author.Rules.{rules}
 use Rattle.contents.proofs.by_rows.find_rows.Goals as goal
 
+-- the row whose postings were found
 step : (c : Else-n) → let a = c.args in let p = c.loop-p.p in let n = c.find_row-n.result in
     (n ≤ posting_words)
     × (length (postings_from p (rows_from a.rows a.slots.now p))

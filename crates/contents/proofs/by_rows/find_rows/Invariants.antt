@@ -1,4 +1,5 @@
--- the row whose postings were found
+-- `contents::by_rows::find_rows`. The loop: every posting of the first `p` rows stands before the place of its atom, and those counted and
+-- those of the rows left are all. Assumes nothing.
 use mathlib.Core.Path.{◌≡◌}
 use Prim.Native.Nat.{ℕ, ◌+◌, ◌-◌, ◌*◌, ◌%◌, ◌≤◌, ◌<◌}
 use lib.ListN.{length}
@@ -10,13 +11,11 @@ use Rattle.slots.proofs.Rows.{rows_from}
 use Rattle.contents.specs.Placed.{placed}
 use Rattle.contents.proofs.by_rows.find_rows.Given as goal
 
--- those of the rows left are all. Assumes nothing.
 abbrev pub invariant-loop-p : goal.invariant-loop-p
 invariant-loop-p l =
     (l.p ≤ l.rows) × (length l.places ≡ length l.initial.places) × (l.count ≤ posting_words * l.p)
     × (l.count + length (postings_from l.p (rows_from l.rows l.slots l.p)) ≡ length (postings_of (rows_in l.rows l.slots)))
     × ((v : ℕ) → v % max_rows < l.p → times v (postings_of (rows_in l.rows l.slots)) ≤ placed l.words l.places v)
 
--- `contents::by_rows::find_rows`. The loop: every posting of the first `p` rows stands before the place of its atom, and those counted and
 abbrev pub decreases-loop-p : goal.decreases-loop-p
 decreases-loop-p l = l.rows - l.p

@@ -1,14 +1,8 @@
 -- `contents::by_rows::finds`. The posting stands there, or the answer is no. Assumes nothing.
 use mathlib.Core.Path.{refl}
 use mathlib.Core.Bool.{false≢true}
-use Prim.Native.Nat.{◌%◌}
-use Rattle.model.specs.Records.{max_rows}
 use Rattle.contents.proofs.Places.{filed-one}
-use borrow.Author.Rules.{rules}
 use Rattle.contents.proofs.by_rows.finds.Goals as goal
-
-pub overflow_cast-i : goal.overflow_cast-i
-overflow_cast-i c = let h = c.slice_known-1.given (c.args.atom % max_rows) in search rules
 
 pub returns-then-words-i : goal.returns-then-words-i
 returns-then-words-i c = λ e. absurd (false≢true e)

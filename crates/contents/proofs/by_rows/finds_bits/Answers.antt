@@ -31,7 +31,7 @@ finds-requires c =
     let n = c.loop-left.left in
     let t : count_trailing_zeros 64 n < 64 = tz-lt 64 n c.loop-left.invariant.1 (omega (arith, c.loop-left-test.true)) in
     let x = c.requires.fact_4 in
-    search rules  -- FIXME record ['fact_1', 'fact_2', 'fact_3', 'fact_4']
+    search rules
 
 pub returns-then-not-finds : goal.returns-then-not-finds
 returns-then-not-finds c = λ e. absurd (false≢true e)

@@ -1,3 +1,4 @@
+-- `contents::by_rows::finds_bits`. The loop: every bit but those left was met. Assumes nothing.
 use mathlib.Core.Path.{◌≡◌}
 use Prim.Native.Nat.{◌-◌, ◌<◌}
 use lib.ListN.{length}
@@ -5,7 +6,6 @@ use Rattle.contents.specs.Lent.{one_if}
 use Rattle.contents.specs.Placed.{Grown, has_bit}
 use Rattle.contents.proofs.by_rows.finds_bits.Given as goal
 
--- `contents::by_rows::finds_bits`. The loop: every bit but those left was met. Assumes nothing.
 abbrev pub invariant-loop-left : goal.invariant-loop-left
 invariant-loop-left l =
     (length l.places ≡ length l.initial.places) × (l.left < 18446744073709551616)

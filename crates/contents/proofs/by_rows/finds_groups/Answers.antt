@@ -1,6 +1,6 @@
 use mathlib.Core.Path.{refl}
 use mathlib.Core.Bool.{false≢true}
-use Prim.Native.Nat.{◌+◌, ◌-◌}
+use Prim.Native.Nat.{◌-◌}
 use native.Mathlib.Omega.{arith}
 use lib.ListN.{drop}
 use Rattle.model.specs.Slots.{ungroup}
@@ -26,13 +26,12 @@ returns-then-not-finds_bits c = λ e. absurd (false≢true e)
 
 pub loop-at-preserved : goal.loop-at-preserved
 loop-at-preserved c =
-    let a = c.args in
-    let k = c.shared_slice_known-in-loop-at-3-1.given in (
+    let a = c.args in (
       search rules,
       search rules,
       groups-step a.words.now a.places.now c.loop-at.places a.position a.groups.now c.loop-at.at _
           c.loop-at-test.true
-          (k (c.loop-at.at + 1)).fits (k (c.loop-at.at + 2)).fits c.loop-at.invariant.2
+          (omega arith) (omega arith) c.loop-at.invariant.2
           (c.finds_bits.ensures (c.if-not-finds_bits.false)),
     )
 

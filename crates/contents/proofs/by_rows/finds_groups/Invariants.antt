@@ -1,3 +1,4 @@
+-- `contents::by_rows::finds_groups`. The loop: the atoms of every group but those left were met. Assumes nothing.
 use mathlib.Core.Path.{◌≡◌}
 use Prim.Native.Nat.{◌-◌, ◌≤◌}
 use lib.ListN.{length, drop}
@@ -6,7 +7,6 @@ use Rattle.contents.specs.Lent.{has_atom, one_if}
 use Rattle.contents.specs.Placed.{Grown}
 use Rattle.contents.proofs.by_rows.finds_groups.Given as goal
 
--- `contents::by_rows::finds_groups`. The loop: the atoms of every group but those left were met. Assumes nothing.
 abbrev pub invariant-loop-at : goal.invariant-loop-at
 invariant-loop-at l =
     (l.at ≤ length l.groups) × (length l.places ≡ length l.initial.places)
