@@ -12,10 +12,10 @@ use Rattle.model.specs.declared.Literal.{Literal}
 use Rattle.row_deduce.specs.declared.OutputState.{OutputState}
 use Rattle.row_deduce.specs.Walks.{literal, outputs_read, ended, output_end, concluded}
 use Rattle.row_deduce.proofs.Walks.{contradicted-under}
-use Rattle.row_deduce.proofs.concluded.Goals.{In-Contradicted, In-Contradicted-2}
+use Rattle.row_deduce.proofs.concluded.Goals.{In-Contradicted}
 use Rattle.row_deduce.proofs.concluded.Goals as goal
 
-module _ (c : In-Contradicted-2) where
+module _ (c : In-Contradicted) where
   abbrev output : ℕ
   output = c.in-Contradicted.output
 
@@ -29,7 +29,7 @@ module _ (c : In-Contradicted-2) where
 pub overflow_cast-named : goal.overflow_cast-named
 overflow_cast-named c =
     let most = c.requires.fact_1.holds.stored.atoms in
-    omega (arith, output-lt (goal.at.overflow_cast-named c).In-Contradicted-2, most)
+    omega (arith, output-lt (goal.at.overflow_cast-named c).In-Contradicted, most)
 
 pub returns-in-Stopped : goal.returns-in-Stopped
 returns-in-Stopped c =

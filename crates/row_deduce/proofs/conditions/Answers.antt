@@ -46,8 +46,11 @@ conditions-side-requires c = (let l = (laid (goal.at.conditions-side-requires c)
 pub packed_conditions-requires : goal.packed_conditions-requires
 packed_conditions-requires c =
     let a = c.args in
-    subst (λ (x : Side). Readable a.slot.now x a.held.now a.cut.now × OneSigned a.slot.now x) (sym c.conditions-side.ensures)
-    (conditions-readable a.slot.now a.held.now a.cut.now c.requires (form (goal.at.packed_conditions-requires c).After-conditions-side ∙ c.if-side.true))  -- FIXME record ['fact_1', 'fact_2']
+    let both = subst (λ (x : Side). Readable a.slot.now x a.held.now a.cut.now × OneSigned a.slot.now x) (sym c.conditions-side.ensures)
+    (conditions-readable a.slot.now a.held.now a.cut.now c.requires (form (goal.at.packed_conditions-requires c).After-conditions-side ∙ c.if-side.true)) in record {
+      fact_1 = both.0;
+      fact_2 = both.1;
+    }
 
 pub scalar_conditions-requires : goal.scalar_conditions-requires
 scalar_conditions-requires c = record {

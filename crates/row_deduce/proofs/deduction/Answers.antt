@@ -22,7 +22,7 @@ use Rattle.row_deduce.specs.declared.ConditionState.{ConditionState}
 use Rattle.row_deduce.specs.declared.ConditionState.TheVariants as condition
 use Rattle.row_deduce.specs.Walks.{conditions_read, read_conditions}
 use Rattle.row_deduce.proofs.Walks.{deduced-stopped, deduced-halted, deduced-idle, deduced-force, deduced-open, undecided-under}
-use Rattle.row_deduce.proofs.deduction.Goals.{After-conditions-found, In-Holds-1, In-Idle-1, In-Stopped-state-1, In-Undecided-1}
+use Rattle.row_deduce.proofs.deduction.Goals.{After-conditions-found}
 use Rattle.row_deduce.proofs.deduction.Goals as goal
 
 module _ (c : After-conditions-found) where
@@ -50,7 +50,7 @@ module _ (c : After-conditions-found) where
 
 pub concluded-requires : goal.concluded-requires
 concluded-requires c =
-    let at_in_undecided_1 = (goal.at.concluded-requires c).In-Undecided-1 in
+    let at_in_undecided_1 = (goal.at.concluded-requires c).After-conditions-found in
     let code = c.in-Undecided.code in
     let under : code < 2 * c.requires.holds.atoms
     = undecided-under (r at_in_undecided_1) (2 * c.requires.holds.atoms) (row at_in_undecided_1) (first at_in_undecided_1) code c.conditions-found.result.meter
@@ -69,25 +69,25 @@ returns-in-Stopped c =
 
 pub returns-in-Stopped-state : goal.returns-in-Stopped-state
 returns-in-Stopped-state c =
-    let at_in_stopped_state_1 = (goal.at.returns-in-Stopped-state c).In-Stopped-state-1 in
+    let at_in_stopped_state_1 = (goal.at.returns-in-Stopped-state c).After-conditions-found in
     c.ended-in-Stopped-state.ensures ∙ deduced-halted (r at_in_stopped_state_1) (row at_in_stopped_state_1) c.args.work (first at_in_stopped_state_1) (made at_in_stopped_state_1) (rise at_in_stopped_state_1)
     (seen at_in_stopped_state_1 condition.Stopped c.in-Stopped-state.is)
 
 pub returns-in-Idle : goal.returns-in-Idle
 returns-in-Idle c =
-    let at_in_idle_1 = (goal.at.returns-in-Idle c).In-Idle-1 in
+    let at_in_idle_1 = (goal.at.returns-in-Idle c).After-conditions-found in
     c.ended-in-Idle.ensures ∙ deduced-idle (r at_in_idle_1) (row at_in_idle_1) c.args.work (first at_in_idle_1) (made at_in_idle_1) (rise at_in_idle_1)
     (seen at_in_idle_1 condition.Idle c.in-Idle.is)
 
 pub returns-in-Holds : goal.returns-in-Holds
 returns-in-Holds c =
-    let at_in_holds_1 = (goal.at.returns-in-Holds c).In-Holds-1 in
+    let at_in_holds_1 = (goal.at.returns-in-Holds c).After-conditions-found in
     c.ended-in-Holds.ensures ∙ deduced-force (r at_in_holds_1) (row at_in_holds_1) c.args.work (first at_in_holds_1) (made at_in_holds_1) (rise at_in_holds_1)
     (seen at_in_holds_1 condition.Holds c.in-Holds.is)
 
 pub returns-in-Undecided : goal.returns-in-Undecided
 returns-in-Undecided c =
-    let at_in_undecided_1 = (goal.at.returns-in-Undecided c).In-Undecided-1 in
+    let at_in_undecided_1 = (goal.at.returns-in-Undecided c).After-conditions-found in
     let code = c.in-Undecided.code in
     c.concluded.ensures
     ∙ deduced-open (r at_in_undecided_1) (row at_in_undecided_1) c.args.work (first at_in_undecided_1) (made at_in_undecided_1) (rise at_in_undecided_1) code c.conditions-found.result.meter

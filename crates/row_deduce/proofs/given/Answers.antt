@@ -28,5 +28,5 @@ returns-in-Ticked c =
     c.published-in-Ticked.ensures
     ∙ given-ticked a.cursor a.work c.take-p.result.code c.take-p.result.present c.take-p.result.absent c.take-p.ensures
     a.before
-    c.struct_known-1.given.1.0.fits c.struct_known-1.given.1.1.0.fits
+    (omega arith) (omega arith)
     (sym c.in-Ticked.is ∙ c.tick.ensures)

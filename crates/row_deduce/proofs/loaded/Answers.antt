@@ -38,9 +38,9 @@ returns c =
     let g = c.group_at-k.result in
     loaded-is (region a.held.now a.cut.now) a.slot.now a.side a.next g c.requires.fact_1.readable.packed
     c.group_at-k.ensures
-    (subst (λ (x : Group). x.present < 2 ^ 64) (sym c.group_at-k.ensures) (c.shared_slice_known-1.given _).fits)
-    (subst (λ (x : Group). x.absent < 2 ^ 64) (sym c.group_at-k.ensures) (c.shared_slice_known-1.given _).fits)
+    (subst (λ (x : Group). x.present < 2 ^ 64) (sym c.group_at-k.ensures) (c.type_inv.slot _).fits)
+    (subst (λ (x : Group). x.absent < 2 ^ 64) (sym c.group_at-k.ensures) (c.type_inv.slot _).fits)
     (subst (λ (x : Group). 0 < bit_or x.absent x.present) (sym c.group_at-k.ensures)
     (c.requires.fact_1.some a.next c.requires.fact_2))
-    (c.shared_slice_known-2-1.given g.index).fits (c.shared_slice_known-3-1.given g.index).fits
+    (c.type_inv.held g.index).fits (c.type_inv.cut g.index).fits
     (c.requires.fact_1.apart g.index)

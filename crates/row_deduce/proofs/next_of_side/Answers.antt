@@ -37,24 +37,23 @@ pub packed_next-requires : goal.packed_next-requires
 packed_next-requires c =
     let at_start = (goal.at.packed_next-requires c).Start in
     let a = c.args in
-    let p = form at_start ∙ c.if-side.true in (
-      subst (λ (x : Side). Publishable a.slot.now x a.held.now a.cut.now) (sym c.requires.fact_3)
-          (outputs-publishable a.slot.now a.held.now a.cut.now c.requires.fact_1 p),
-      (subst (λ (x : Side). a.cursor.next ≤ x.count) (sym c.requires.fact_3) (within at_start p), c.requires.fact_2.word (packs at_start p)),
-    )  -- FIXME record ['fact_1', 'fact_2', 'fact_3']
+    let p = form at_start ∙ c.if-side.true in record {
+      fact_1 = subst (λ (x : Side). Publishable a.slot.now x a.held.now a.cut.now) (sym c.requires.fact_3)
+          (outputs-publishable a.slot.now a.held.now a.cut.now c.requires.fact_1 p);
+      fact_2 = subst (λ (x : Side). a.cursor.next ≤ x.count) (sym c.requires.fact_3) (within at_start p);
+      fact_3 = c.requires.fact_2.word (packs at_start p);
+    }
 
 pub scalar_next-requires : goal.scalar_next-requires
 scalar_next-requires c =
     let at_start = (goal.at.scalar_next-requires c).Start in
     let a = c.args in
-    let p = form at_start ∙ c.if-side.false in (
-      c.if-side.false,
-      (
-        subst (λ (x : Side). x.base + x.count ≤ length a.slot.now) (sym c.requires.fact_3) ((laid at_start).second.single p),
-        subst (SmallCodes a.slot.now) (sym c.requires.fact_3)
-            (output-small c.requires.fact_1.holds.atoms a.slot.now c.requires.fact_1.holds.stored p),
-      ),
-    )  -- FIXME record ['fact_1', 'fact_2', 'fact_3']
+    let p = form at_start ∙ c.if-side.false in record {
+      fact_1 = c.if-side.false;
+      fact_2 = subst (λ (x : Side). x.base + x.count ≤ length a.slot.now) (sym c.requires.fact_3) ((laid at_start).second.single p);
+      fact_3 = subst (SmallCodes a.slot.now) (sym c.requires.fact_3)
+          (output-small c.requires.fact_1.holds.atoms a.slot.now c.requires.fact_1.holds.stored p);
+    }
 
 pub returns-then-side : goal.returns-then-side
 returns-then-side c =

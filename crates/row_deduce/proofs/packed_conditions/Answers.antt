@@ -1,6 +1,7 @@
 -- where the tick is made
-use mathlib.Core.Path.{◌≡◌, sym, ◌∙◌, subst}
-use mathlib.Core.Logic.{⊎_elim}
+use borrow.Author.Tests.{eq-eqb, ne_eqb}
+use mathlib.Core.Bool.{not}
+use mathlib.Core.Path.{◌≡◌, sym, ap, ◌∙◌, subst}
 use Prim.Native.Nat.{◌^◌, ◌<◌}
 use lib.Bits.{bit_and}
 use Rattle.words.specs.Region.{Region, region}
@@ -12,7 +13,7 @@ use Rattle.row_deduce.specs.declared.Group.{Group}
 use Rattle.row_deduce.specs.Chunks.{chunk_at, chunks_of}
 use Rattle.row_deduce.proofs.Turns.{at-start, at_next, at_open, at_all, turn_stopped}
 use Rattle.row_deduce.proofs.Packed.{Fitting, packed-holds, packed-opens, packed-second, packed-clash, packed-two}
-use Rattle.row_deduce.proofs.packed_conditions.Goals.{After-group_at-k, In-Ticked, Start, else-unknown-ne0, then-unknown-ne0}
+use Rattle.row_deduce.proofs.packed_conditions.Goals.{After-group_at-k, In-Ticked, Start, else-unknown-ne0, then-unknown-ne0+else-opened+else-unknown-h-ne0+else-unknown-ne0-2, then-opened-via-then-opened, then-opened-via-else-opened+then-unknown-h-ne0, then-opened-via-else-opened+else-unknown-h-ne0+then-unknown-ne0-2}
 use Rattle.row_deduce.proofs.packed_conditions.Goals as goal
 
 module _ (c : In-Ticked) where
@@ -37,20 +38,20 @@ module _ (c : After-group_at-k) where
   index-lt : c.group_at-k.result.index < length s.args.held.now
   index-lt =
       subst (λ (k : Group). k.index < length s.args.held.now) (sym c.group_at-k.ensures)
-      (s.pre.0.index c.loop-g.g (more (goal.at.After-group_at-k c).In-Ticked))
+      (s.requires.fact_1.index c.loop-g.g (more (goal.at.After-group_at-k c).In-Ticked))
 
   fitting : Fitting (r (goal.at.After-group_at-k c).In-Ticked) s.args.slot.now s.args.side c.loop-g.g c.group_at-k.result
   fitting = record {
-    packed = s.pre.0.packed;
+    packed = s.requires.fact_1.packed;
     is = c.group_at-k.ensures;
     present = subst (λ (k : Group). k.present < 2 ^ 64) (sym c.group_at-k.ensures)
-        (c.shared_slice_known-1.given _).fits;
+        (c.type_inv.slot _).fits;
     absent = subst (λ (k : Group). k.absent < 2 ^ 64) (sym c.group_at-k.ensures)
-        (c.shared_slice_known-1.given _).fits;
-    held = (c.shared_slice_known-2-1.given c.group_at-k.result.index).fits;
-    cut = (c.shared_slice_known-3-1.given c.group_at-k.result.index).fits;
+        (c.type_inv.slot _).fits;
+    held = (c.type_inv.held c.group_at-k.result.index).fits;
+    cut = (c.type_inv.cut c.group_at-k.result.index).fits;
     apart = subst (λ (k : Group). bit_and k.present k.absent ≡ 0) (sym c.group_at-k.ensures)
-        (s.pre.1 c.loop-g.g (more (goal.at.After-group_at-k c).In-Ticked));
+        (s.requires.fact_2 c.loop-g.g (more (goal.at.After-group_at-k c).In-Ticked));
   }
 
 pub loop-g-init : goal.loop-g-init
@@ -68,7 +69,7 @@ returns-in-Stopped c =
     (sym c.in-Stopped.is ∙ c.tick.ensures)
 
 pub group_at-k-requires : goal.group_at-k-requires
-group_at-k-requires c = ((start c).requires.0.whole, more c)
+group_at-k-requires c = ((start c).requires.fact_1.whole, more c)
 
 pub offset_bounds-held-index : goal.offset_bounds-held-index
 offset_bounds-held-index c = omega (arith, index-lt c)
@@ -82,7 +83,7 @@ offset_bounds-cut-index c = omega (arith, index-lt (goal.at.offset_bounds-cut-in
 pub bounds-cut-index : goal.bounds-cut-index
 bounds-cut-index c =
     let at_after_group_at_k = (goal.at.bounds-cut-index c).After-group_at-k in
-    omega (arith, index-lt at_after_group_at_k, (s at_after_group_at_k).pre.0.same)
+    omega (arith, index-lt at_after_group_at_k, (s at_after_group_at_k).requires.fact_1.same)
 
 pub returns-then-opened : goal.returns-then-opened
 returns-then-opened c =
@@ -90,15 +91,14 @@ returns-then-opened c =
     let at_in_ticked = (goal.at.returns-then-opened c).In-Ticked in
     let a = c.args in
     let b = c.loop-g in
-    ⊎_ELIM
-    (λ w. packed-second (r at_in_ticked) a.slot.now a.side a.work b.opened b.code b.g b.meter b.invariant.1
-    (more at_in_ticked) c.group_at-k.result (fitting at_after_group_at_k) _ (made at_in_ticked) c.if-unknown-ne0.true w.true)
-    (⊎_elim
-    (λ w. packed-clash (r at_in_ticked) a.slot.now a.side a.work b.opened b.code b.g b.meter b.invariant.1
-    (more at_in_ticked) c.group_at-k.result (fitting at_after_group_at_k) _ (made at_in_ticked) w.1.true)
-    (λ w. packed-two (r at_in_ticked) a.slot.now a.side a.work b.opened b.code b.g b.meter b.invariant.1
-    (more at_in_ticked) c.group_at-k.result (fitting at_after_group_at_k) _ (made at_in_ticked) c.if-unknown-ne0.true w.2.true))
-    c.then-opened.branch
+    elim c.then-opened.branch [
+      | then-opened-via-then-opened w ↦ packed-second (r at_in_ticked) a.slot.now a.side a.work b.opened b.code b.g b.meter b.invariant.1
+          (more at_in_ticked) c.group_at-k.result (fitting at_after_group_at_k) _ (made at_in_ticked) c.if-unknown-ne0.true w.if-opened.true
+      | then-opened-via-else-opened+then-unknown-h-ne0 w ↦ packed-clash (r at_in_ticked) a.slot.now a.side a.work b.opened b.code b.g b.meter b.invariant.1
+          (more at_in_ticked) c.group_at-k.result (fitting at_after_group_at_k) _ (made at_in_ticked) (ap not (ne_eqb _ 0 w.if-unknown-h-ne0.true))
+      | then-opened-via-else-opened+else-unknown-h-ne0+then-unknown-ne0-2 w ↦ packed-two (r at_in_ticked) a.slot.now a.side a.work b.opened b.code b.g b.meter b.invariant.1
+          (more at_in_ticked) c.group_at-k.result (fitting at_after_group_at_k) _ (made at_in_ticked) c.if-unknown-ne0.true (ap not (ne_eqb _ 0 w.if-unknown-ne0-2.true))
+    ]
 
 pub undecided-code-requires : goal.undecided-code-requires
 undecided-code-requires c = record {
@@ -118,10 +118,10 @@ loop-g-preserved c =
     let b = c.loop-g in (
       omega (arith, more at_in_ticked),
       elim c.if-unknown-ne0.branch [
-        | then-unknown-ne0 w ↦ rw (w.5, w.6, w.4.ensures)
+        | then-unknown-ne0+else-opened+else-unknown-h-ne0+else-unknown-ne0-2 w ↦ rw (w.opened-is, w.code-is, w.undecided-code.ensures)
             (packed-opens (r at_in_ticked) a.slot.now a.side a.work b.opened b.code b.g b.meter b.invariant.1
-            (more at_in_ticked) c.group_at-k.result (fitting at_after_group_at_k) _ (made at_in_ticked) w.if-unknown-ne0.true w.FIXME-is.left w.2.left w.3.left)
-        | else-unknown-ne0 w ↦ rw (w.FIXME-is, w.2)
+            (more at_in_ticked) c.group_at-k.result (fitting at_after_group_at_k) _ (made at_in_ticked) w.if-unknown-ne0.true w.if-opened.false (ap not (eq-eqb _ 0 w.if-unknown-h-ne0.false)) (ap not (eq-eqb _ 0 w.if-unknown-ne0-2.false)))
+        | else-unknown-ne0 w ↦ rw (w.opened-is, w.code-is)
             (packed-holds (r at_in_ticked) a.slot.now a.side a.work b.opened b.code b.g b.meter b.invariant.1
             (more at_in_ticked) c.group_at-k.result (fitting at_after_group_at_k) _ (made at_in_ticked) w.if-unknown-ne0.false)
       ],

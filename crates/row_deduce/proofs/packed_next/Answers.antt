@@ -20,8 +20,8 @@ index-lt l g h =
     let p = l.requires.fact_1 in
     let a = l.args in
     let e : index_of (chunk_at a.slot.now a.side g) ≡ get_or a.slot.now (a.side.base + group_length * g) 0
-    = chunk-index a.slot.now a.side g p.readable.packed (l.shared_slice_known-1.given _).fits
-    (l.shared_slice_known-1.given _).fits (p.some g h) in
+    = chunk-index a.slot.now a.side g p.readable.packed (l.type_inv.slot _).fits
+    (l.type_inv.slot _).fits (p.some g h) in
     omega (arith, p.readable.index g h, p.readable.few)
 
 pub loop-k-init : goal.loop-k-init
@@ -75,5 +75,5 @@ returns c =
     c.given.ensures
     ∙ ap (next_end a.work) (load_given (region a.held.now a.cut.now) a.slot.now a.side a.cursor a.work c.loop-k.k
     c.loop-k.meter c.loop-k.invariant
-    c.struct_known-1.given.1.1.0.fits c.struct_known-1.given.1.1.1.0.fits
+    (omega arith) (omega arith)
     (let f = c.loop-k-test.false in omega arith))

@@ -34,7 +34,7 @@ module _ (c : After-group_at-k) where
   index-lt : c.group_at-k.result.index < length s.args.held.now
   index-lt =
       subst (λ (k : Group). k.index < length s.args.held.now) (sym c.group_at-k.ensures)
-      (s.pre.index c.loop-g.g (more (goal.at.After-group_at-k c).In-Ticked))
+      (s.requires.index c.loop-g.g (more (goal.at.After-group_at-k c).In-Ticked))
 
 pub loop-g-init : goal.loop-g-init
 loop-g-init c =
@@ -64,12 +64,12 @@ offset_bounds-cut-index c = omega (arith, index-lt (goal.at.offset_bounds-cut-in
 pub bounds-cut-index : goal.bounds-cut-index
 bounds-cut-index c =
     let at_after_group_at_k = (goal.at.bounds-cut-index c).After-group_at-k in
-    omega (arith, index-lt at_after_group_at_k, (s at_after_group_at_k).pre.same)
+    omega (arith, index-lt at_after_group_at_k, (s at_after_group_at_k).requires.same)
 
 pub take-p-requires : goal.take-p-requires
 take-p-requires c =
     let at_after_group_at_k = (goal.at.take-p-requires c).After-group_at-k in
-    let few = (s at_after_group_at_k).pre.few in
+    let few = (s at_after_group_at_k).requires.few in
     let f = c.if-absent-present-ne0.true in record {
       fact_1 = omega (arith, index-lt at_after_group_at_k, few);
       fact_2 = omega (arith, f);

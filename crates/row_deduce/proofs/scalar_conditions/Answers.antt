@@ -1,5 +1,4 @@
 -- where the tick is made
-use borrow.Author.Tests.{not-true, not-false}
 use mathlib.Core.Path.{◌≡◌, sym, ◌∙◌}
 use Prim.Native.Nat.{◌<◌}
 use native.Mathlib.Omega.{arith}
@@ -9,7 +8,7 @@ use Rattle.meter.specs.Meter.{tick_of}
 use Rattle.row_deduce.specs.Chunks.{chunk_at, chunks_of}
 use Rattle.row_deduce.proofs.Turns.{at-start, at_next, at_open, at_all, turn_stopped}
 use Rattle.row_deduce.proofs.Scalar.{scalar-holds, scalar-second, scalar-clash, scalar-opens}
-use Rattle.row_deduce.proofs.scalar_conditions.Goals.{In-Ticked, Start, else-not-holds, then-not-holds}
+use Rattle.row_deduce.proofs.scalar_conditions.Goals.{In-Ticked, Start, else-not-holds, then-not-holds+else-opened+else-contradicts, then-opened-via-then-opened, then-opened-via-else-opened+then-contradicts}
 use Rattle.row_deduce.proofs.scalar_conditions.Goals as goal
 
 module _ (c : In-Ticked) where
@@ -46,13 +45,13 @@ returns-then-opened c =
     let at_in_ticked = (goal.at.returns-then-opened c).In-Ticked in
     let a = (start at_in_ticked).args in
     let b = c.loop-g in
-    let e = sym c.holds.ensures ∙ not-true c.holds.result c.if-not-holds.true in
-    ⊎_ELIM
-    (λ w. scalar-second (r at_in_ticked) a.slot.now a.side a.work b.opened b.code b.g b.meter b.invariant.1 (more at_in_ticked)
-    (start at_in_ticked).requires.0 _ (made at_in_ticked) e w.true)
-    (λ w. scalar-clash (r at_in_ticked) a.slot.now a.side a.work b.opened b.code b.g b.meter b.invariant.1 (more at_in_ticked)
-    (start at_in_ticked).requires.0 _ (made at_in_ticked) e (sym w.1.ensures ∙ w.2.true))
-    c.then-opened.branch
+    let e = sym c.holds.ensures ∙ c.if-not-holds.true in
+    elim c.then-opened.branch [
+      | then-opened-via-then-opened w ↦ scalar-second (r at_in_ticked) a.slot.now a.side a.work b.opened b.code b.g b.meter b.invariant.1 (more at_in_ticked)
+          (start at_in_ticked).requires.fact_1 _ (made at_in_ticked) e w.if-opened.true
+      | then-opened-via-else-opened+then-contradicts w ↦ scalar-clash (r at_in_ticked) a.slot.now a.side a.work b.opened b.code b.g b.meter b.invariant.1 (more at_in_ticked)
+          (start at_in_ticked).requires.fact_1 _ (made at_in_ticked) e (sym w.contradicts.ensures ∙ w.if-contradicts.true)
+    ]
 
 pub loop-g-preserved : goal.loop-g-preserved
 loop-g-preserved c =
@@ -61,13 +60,13 @@ loop-g-preserved c =
     let b = c.loop-g in (
       omega (arith, more at_in_ticked),
       elim c.if-not-holds.branch [
-        | then-not-holds w ↦ rw (w.4, w.5)
+        | then-not-holds+else-opened+else-contradicts w ↦ rw (w.opened-is, w.code-is)
             (scalar-opens (r at_in_ticked) a.slot.now a.side a.work b.opened b.code b.g b.meter b.invariant.1 (more at_in_ticked)
-            (start at_in_ticked).requires.0 _ (made at_in_ticked) (sym c.holds.ensures ∙ not-true c.holds.result w.if-not-holds.true) w.FIXME-is.left
-            (sym w.2.ensures ∙ w.3.left))
-        | else-not-holds w ↦ rw (w.FIXME-is, w.2)
+            (start at_in_ticked).requires.fact_1 _ (made at_in_ticked) (sym c.holds.ensures ∙ w.if-not-holds.true) w.if-opened.false
+            (sym w.contradicts.ensures ∙ w.if-contradicts.false))
+        | else-not-holds w ↦ rw (w.opened-is, w.code-is)
             (scalar-holds (r at_in_ticked) a.slot.now a.side a.work b.opened b.code b.g b.meter b.invariant.1 (more at_in_ticked)
-            (start at_in_ticked).requires.0 _ (made at_in_ticked) (sym c.holds.ensures ∙ not-false c.holds.result w.if-not-holds.false))
+            (start at_in_ticked).requires.fact_1 _ (made at_in_ticked) (sym c.holds.ensures ∙ w.if-not-holds.false))
       ],
     )
 

@@ -42,7 +42,7 @@ returns-then-contradicts c =
     let a = (start at_in_ticked).args in
     let b = c.loop-g in
     pass-hit (r at_in_ticked) a.slot.now a.side a.work b.g b.meter b.invariant.1 (more at_in_ticked) (made at_in_ticked)
-    (code-hit (r at_in_ticked) a.slot.now a.side b.g (start at_in_ticked).requires.0 (sym c.contradicts.ensures ∙ c.if-contradicts.true))
+    (code-hit (r at_in_ticked) a.slot.now a.side b.g (start at_in_ticked).requires.fact_1 (sym c.contradicts.ensures ∙ c.if-contradicts.true))
 
 pub loop-g-preserved : goal.loop-g-preserved
 loop-g-preserved c =
@@ -51,7 +51,7 @@ loop-g-preserved c =
     let b = c.loop-g in (
       omega (arith, more at_in_ticked),
       pass_on (r at_in_ticked) a.slot.now a.side a.work b.g b.meter b.invariant.1 (more at_in_ticked) (made at_in_ticked)
-          (code-miss (r at_in_ticked) a.slot.now a.side b.g (start at_in_ticked).requires.0 (sym c.contradicts.ensures ∙ c.if-contradicts.false)),
+          (code-miss (r at_in_ticked) a.slot.now a.side b.g (start at_in_ticked).requires.fact_1 (sym c.contradicts.ensures ∙ c.if-contradicts.false)),
     )
 
 pub returns : goal.returns
