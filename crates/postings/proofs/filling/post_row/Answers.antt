@@ -19,7 +19,7 @@ module _ (c : After-post_side-first) where
   -- the postings after the conditions
 
   abbrev after : List ℕ
-  after = c.post_side-first.new.side.1.1.0
+  after = c.post_side-first.new.postings
 
   first : posted c.post_side-first.result after
       ≡ walk put (side_postings c.args.position (list_of c.args.slot.now (condition_side c.args.slot.now)))
@@ -58,7 +58,7 @@ post_side-first-requires c =
 pub post_side-requires : goal.post_side-requires
 post_side-requires c =
     let at_after_post_side_first = (goal.at.post_side-requires c).After-post_side-first in
-    rw (c.outputs-outputs.ensures, c.post_side-first.auto.side.1.1.0)
+    rw (c.outputs-outputs.ensures, c.post_side-first.auto.postings)
     (second-side c.requires (posted c.post_side-first.result (after at_after_post_side_first)) c.args.postings.now c.args.work (first at_after_post_side_first))
 
 pub returns-in-Ticked : goal.returns-in-Ticked

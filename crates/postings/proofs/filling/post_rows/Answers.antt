@@ -21,7 +21,7 @@ module _ (c : After-post_row-row) where
   -- the postings after this row
 
   abbrev after : List ℕ
-  after = c.post_row-row.new.position.1.0
+  after = c.post_row-row.new.postings
 
   row : posted c.post_row-row.result after
       ≡ walk put (row_postings p (row_in (slot_at c.args.slots.now p))) (filled_to c.loop-position.next c.loop-position.postings)
@@ -69,7 +69,7 @@ loop-position-preserved c =
       omega (arith, c.loop-position-test.true),
       row_next c.requires (p at_after_post_row_row) c.loop-position.next c.loop-position.postings c.loop-position.meter (posted c.post_row-row.result (after at_after_post_row_row))
           c.loop-position-test.true c.loop-position.invariant.1 (row at_after_post_row_row),
-      c.post_row-row.kept.1.1.0 ∙ c.loop-position.invariant.2,
+      c.post_row-row.auto.postings ∙ c.loop-position.invariant.2,
       ended at_after_post_row_row c.in-Ticked.is,
     )
 

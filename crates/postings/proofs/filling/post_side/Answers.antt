@@ -38,7 +38,7 @@ module _ (c : In-Literal) where
   placed = subst (PlacedStep c.args.side) c.in-Literal.is c.next.ensures.1
 
   room : Room code_bits (code ∷ past) c.loop-next.next (length c.args.postings.now)
-  room = rw taken FIXME-place-At-loop c.loop-next.invariant.2
+  room = rw taken at c.loop-next.invariant.2
 
   fits : code / 2 * max_rows + c.args.position < 2 ^ 64
   fits = posting-fits code_bits (omega arith) code c.args.position (room-head room).0 c.requires.place
@@ -49,7 +49,7 @@ module _ (c : In-Literal) where
       walk put (left_postings a.position c.loop-next.last (code ∷ past)) (filled_to c.loop-next.next c.loop-next.postings)
       c.loop-next.meter
       ≡ walk put (side_postings a.position (list_of a.slot.now a.side)) (filled_to a.at a.postings.now) a.work
-  turn = rw taken FIXME-place-At-loop (whole FIXME-place-At-loop)
+  turn = rw taken at (whole (goal.at.In-Literal c).At-loop-next)
 
 pub loop-next-init : goal.loop-next-init
 loop-next-init c =

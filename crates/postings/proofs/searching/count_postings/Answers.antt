@@ -19,7 +19,7 @@ use Rattle.postings.proofs.searching.count_postings.Goals.{After-zero_first-outp
 use Rattle.postings.proofs.searching.count_postings.Goals as goal
 
 laid : (c : Start) → Laid (slot_at c.args.slots.now 0)
-laid c = laid-stored c.args.header.limits.atoms (slot_at c.args.slots.now 0) (c.requires.fact_1.held.over.stored 0 c.requires.fact_2.1)
+laid c = laid-stored c.args.header.limits.atoms (slot_at c.args.slots.now 0) (c.requires.fact_1.held.over.stored 0 c.requires.fact_3)
 
 module _ (c : After-zero_first-outputs) where
   abbrev ps : List ℕ
@@ -34,16 +34,16 @@ module _ (c : After-zero_first-outputs) where
       (c.zero_first-conditions.ensures
       ∙ ap (λ (s : Side). zero_first (map atom (list_of w s))) c.conditions.ensures)
       (c.zero_first-outputs.ensures ∙ ap (λ (s : Side). zero_first (map atom (list_of w s))) c.outputs.ensures)
-      ∙ here-zeros c.requires.fact_1 c.requires.fact_2.1
+      ∙ here-zeros c.requires.fact_1 c.requires.fact_3
 
   ends : EndsAt c.args.postings.now (c.zero_first-conditions.result + c.zero_first-outputs.result) (length ps)
   ends =
       let t = c.requires in
       record {
         order = omega (arith, zeros, times-le 0 ps);
-        within = omega (arith, here-short t.0, postings-long t.0);
-        some = λ k h l. posted-some t.0 t.1.0 k (omega (arith, zeros)) l;
-        none = posted-none t.0 t.1.0;
+        within = omega (arith, here-short t.fact_1, postings-long t.fact_1);
+        some = λ k h l. posted-some t.fact_1 t.fact_2 k (omega (arith, zeros)) l;
+        none = posted-none t.fact_1 t.fact_2;
       }
 
 pub zero_first-conditions-requires : goal.zero_first-conditions-requires

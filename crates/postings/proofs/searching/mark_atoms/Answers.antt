@@ -16,7 +16,7 @@ module _ (c : After-mark_atom) where
   -- the answer after this atom
 
   abbrev after : List ℕ
-  after = c.mark_atom.new.from.1.1.0
+  after = c.mark_atom.new.answer
 
   -- the whole, by how this atom ended
 
@@ -51,7 +51,7 @@ returns-in-Stopped c = turn (goal.at.returns-in-Stopped c).After-mark_atom c.in-
 pub loop-i-preserved : goal.loop-i-preserved
 loop-i-preserved c = (
   omega (arith, c.loop-i-test.true),
-  c.mark_atom.kept.1.1.1.0 ∙ c.loop-i.invariant.1,
+  c.mark_atom.auto.answer ∙ c.loop-i.invariant.1,
   turn (goal.at.loop-i-preserved c).After-mark_atom c.in-Ticked.is,
 )
 
