@@ -10,7 +10,7 @@ use std::rt::Stdin;
 use text::{find, flush, put, put_field};
 
 // Whether the beginning of the present line was given up, because it did not fit: nothing, a call's, a comment's.
-#[derive(Drop)]
+#[derive(Clone, Copy)]
 pub enum Lost {
     Nothing,
     Call,

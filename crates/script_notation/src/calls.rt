@@ -2,7 +2,7 @@
 ghost use Rattle.std.specs.Prelude.{◌≤◌, length};
 
 // A call, and a word that is none.
-#[derive(Drop)]
+#[derive(Clone, Copy)]
 pub enum Call {
     Make,
     Decide,
