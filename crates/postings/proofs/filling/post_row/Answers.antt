@@ -17,9 +17,8 @@ use Rattle.postings.proofs.filling.post_row.Goals as goal
 
 module _ (c : After-post_side-first) where
   -- the postings after the conditions
-
   abbrev after : List ℕ
-  after = c.post_side-first.new.side.1.1.0
+  after = c.post_side-first.new.postings
 
   first : posted c.post_side-first.result after
       ≡ walk put (side_postings c.args.position (list_of c.args.slot.now (condition_side c.args.slot.now)))
@@ -34,7 +33,6 @@ conditions-conditions-requires c = omega (arith, (row_laid c.requires).long)
 
 module _ (c : After-post_side-first) where
   -- the row, by how its conditions ended
-
   ended : {t : Tick} → c.post_side-first.result.end ≡ t → let a = c.args in
       walk put (row_postings a.position (row_in a.slot.now)) (filled_to a.at a.postings.now) a.work
       ≡ onward t (filled_to c.post_side-first.result.next (after c))
@@ -58,7 +56,7 @@ post_side-first-requires c =
 pub post_side-requires : goal.post_side-requires
 post_side-requires c =
     let at_after_post_side_first = (goal.at.post_side-requires c).After-post_side-first in
-    rw (c.outputs-outputs.ensures, c.post_side-first.auto.side.1.1.0)
+    rw (c.outputs-outputs.ensures, c.post_side-first.auto.postings)
     (second-side c.requires (posted c.post_side-first.result (after at_after_post_side_first)) c.args.postings.now c.args.work (first at_after_post_side_first))
 
 pub returns-in-Ticked : goal.returns-in-Ticked

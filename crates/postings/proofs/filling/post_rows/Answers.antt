@@ -1,3 +1,4 @@
+-- `post_rows`. Each row is posted after those before it. Assumes nothing.
 use mathlib.Core.Path.{◌≡◌, refl, sym, ap, ◌∙◌}
 use mathlib.Core.List.{List}
 use Prim.Native.Nat.{ℕ, ◌+◌}
@@ -19,9 +20,8 @@ module _ (c : After-post_row-row) where
   p = c.loop-position.position
 
   -- the postings after this row
-
   abbrev after : List ℕ
-  after = c.post_row-row.new.position.1.0
+  after = c.post_row-row.new.postings
 
   row : posted c.post_row-row.result after
       ≡ walk put (row_postings p (row_in (slot_at c.args.slots.now p))) (filled_to c.loop-position.next c.loop-position.postings)
@@ -32,7 +32,6 @@ module _ (c : After-post_row-row) where
       (slot-code c.args.slots.now p)
 
   -- the whole, by how this row ended
-
   ended : {t : Tick} → c.post_row-row.result.end ≡ t →
       onward t (filled_to c.post_row-row.result.next after)
       (walk put (postings_from (p + 1) (rows_from c.args.rows c.args.slots.now (p + 1))))
@@ -69,7 +68,7 @@ loop-position-preserved c =
       omega (arith, c.loop-position-test.true),
       row_next c.requires (p at_after_post_row_row) c.loop-position.next c.loop-position.postings c.loop-position.meter (posted c.post_row-row.result (after at_after_post_row_row))
           c.loop-position-test.true c.loop-position.invariant.1 (row at_after_post_row_row),
-      c.post_row-row.kept.1.1.0 ∙ c.loop-position.invariant.2,
+      c.post_row-row.auto.postings ∙ c.loop-position.invariant.2,
       ended at_after_post_row_row c.in-Ticked.is,
     )
 

@@ -1,4 +1,4 @@
--- what is left at the loop's test, from there, is the whole
+-- `post_side`. A literal of an atom seen is passed, another ticked and posted. Assumes nothing.
 use mathlib.Core.Path.{◌≡◌, refl, sym, ap, ◌∙◌, subst}
 use mathlib.Core.List.{List, [], ◌∷◌}
 use Prim.Native.Nat.{ℕ, ◌+◌, ◌*◌, ◌/◌, ◌^◌, ◌<◌}
@@ -12,10 +12,10 @@ use Rattle.postings.specs.Steps.{walk}
 use Rattle.postings.specs.Filling.{put, filled_to, side_postings, left_postings}
 use Rattle.postings.proofs.Walking.{walk_none}
 use Rattle.postings.proofs.Fills.{posting-fits, Room, room-head, room-skip, room-post, left-start, left-none, left-skip, left_step}
-use Rattle.postings.proofs.filling.post_side.Goals.{At-loop-next}
 use Rattle.postings.proofs.filling.post_side.Goals.{At-loop-next, In-Literal}
 use Rattle.postings.proofs.filling.post_side.Goals as goal
 
+-- what is left at the loop's test, from there, is the whole
 whole : (c : At-loop-next) → let a = c.args in
     walk put (left_postings a.position c.loop-next.last (rest a.slot.now a.side c.loop-next.cursor))
     (filled_to c.loop-next.next c.loop-next.postings) c.loop-next.meter
@@ -38,18 +38,17 @@ module _ (c : In-Literal) where
   placed = subst (PlacedStep c.args.side) c.in-Literal.is c.next.ensures.1
 
   room : Room code_bits (code ∷ past) c.loop-next.next (length c.args.postings.now)
-  room = rw taken FIXME-place-At-loop c.loop-next.invariant.2
+  room = rw taken at c.loop-next.invariant.2
 
   fits : code / 2 * max_rows + c.args.position < 2 ^ 64
   fits = posting-fits code_bits (omega arith) code c.args.position (room-head room).0 c.requires.place
 
   -- the literal and what is past it are the whole
-
   turn : let a = c.args in
       walk put (left_postings a.position c.loop-next.last (code ∷ past)) (filled_to c.loop-next.next c.loop-next.postings)
       c.loop-next.meter
       ≡ walk put (side_postings a.position (list_of a.slot.now a.side)) (filled_to a.at a.postings.now) a.work
-  turn = rw taken FIXME-place-At-loop (whole FIXME-place-At-loop)
+  turn = rw taken at (whole (goal.at.In-Literal c).At-loop-next)
 
 pub loop-next-init : goal.loop-next-init
 loop-next-init c =

@@ -20,7 +20,7 @@ module _ (c : After-post_rows-filled) where
   rs = rows_in c.args.header.rows c.args.slots.now
 
   abbrev end : Walk Filled
-  end = posted c.post_rows-filled.result c.post_rows-filled.new.rows.1.0
+  end = posted c.post_rows-filled.result c.post_rows-filled.new.postings
 
   filling : end ≡ walk put (postings_of rs) (filled_to 0 c.args.postings.now) c.args.work
   filling = c.post_rows-filled.ensures
@@ -29,28 +29,28 @@ module _ (c : After-post_rows-filled) where
   short = omega (arith, here-short c.requires, postings-long c.requires)
 
   long : length end.state.words ≡ length c.args.postings.now
-  long = c.post_rows-filled.auto.rows.1.0
+  long = c.post_rows-filled.auto.postings
 
 module _ (c : In-Ticked) where
-  count : c.post_rows-filled.result.next ≡ length (postings_of (rs FIXME-place-After-post-rows))
+  count : c.post_rows-filled.result.next ≡ length (postings_of (rs (goal.at.In-Ticked c).After-post_rows-filled))
   count =
-      filling-count (rs FIXME-place-After-post-rows) c.args.postings.now c.args.work (end FIXME-place-After-post-rows) c.in-Ticked.m
-      (filling FIXME-place-After-post-rows) c.in-Ticked.is
+      filling-count (rs (goal.at.In-Ticked c).After-post_rows-filled) c.args.postings.now c.args.work (end (goal.at.In-Ticked c).After-post_rows-filled) c.in-Ticked.m
+      (filling (goal.at.In-Ticked c).After-post_rows-filled) c.in-Ticked.is
 
-  front : take c.post_rows-filled.result.next (end FIXME-place-After-post-rows).state.words ≡ postings_of (rs FIXME-place-After-post-rows)
+  front : take c.post_rows-filled.result.next (end (goal.at.In-Ticked c).After-post_rows-filled).state.words ≡ postings_of (rs (goal.at.In-Ticked c).After-post_rows-filled)
   front =
-      filling-front (rs FIXME-place-After-post-rows) c.args.postings.now c.args.work (end FIXME-place-After-post-rows) c.in-Ticked.m
-      (filling FIXME-place-After-post-rows) c.in-Ticked.is (short FIXME-place-After-post-rows)
+      filling-front (rs (goal.at.In-Ticked c).After-post_rows-filled) c.args.postings.now c.args.work (end (goal.at.In-Ticked c).After-post_rows-filled) c.in-Ticked.m
+      (filling (goal.at.In-Ticked c).After-post_rows-filled) c.in-Ticked.is (short (goal.at.In-Ticked c).After-post_rows-filled)
 
 module _ (c : After-sort) where
   abbrev sorted : List ℕ
   sorted = c.sort.new.a
 
   sorted-long : length sorted ≡ length c.args.postings.now
-  sorted-long = c.sort.auto.a ∙ long FIXME-place-After-post-rows
+  sorted-long = c.sort.auto.a ∙ long (goal.at.After-sort c).After-post_rows-filled
 
   fits : c.post_rows-filled.result.next ≤ length sorted
-  fits = omega (arith, count FIXME-place-After-known-told, short FIXME-place-After-post-rows, sorted-long)
+  fits = omega (arith, count (goal.at.After-sort c).In-Ticked, short (goal.at.After-sort c).After-post_rows-filled, sorted-long)
 
 pub post_rows-filled-requires : goal.post_rows-filled-requires
 post_rows-filled-requires c =
@@ -72,17 +72,15 @@ returns-in-Ticked c =
     let at_after_sort = (goal.at.returns-in-Ticked c).After-sort in
     let at_after_post_rows_filled = (goal.at.returns-in-Ticked c).After-post_rows-filled in
     let a = c.args in
-    let d = c.end-1.given in
-    ap (λ (w : List ℕ). walked (Ticked d.0.0) (filled_to (end at_after_post_rows_filled).state.next w)) c.zero_from.ensures
-    ∙ refiled-whole (rs at_after_post_rows_filled) a.postings.now a.work (end at_after_post_rows_filled) d.0.0
-    a.header.limits.tier_rows (sorted at_after_sort) (filling at_after_post_rows_filled) d.1 (short at_after_post_rows_filled)
+    ap (λ (w : List ℕ). walked (Ticked c.in-Ticked.m) (filled_to (end at_after_post_rows_filled).state.next w)) c.zero_from.ensures
+    ∙ refiled-whole (rs at_after_post_rows_filled) a.postings.now a.work (end at_after_post_rows_filled) c.in-Ticked.m
+    a.header.limits.tier_rows (sorted at_after_sort) (filling at_after_post_rows_filled) c.in-Ticked.is (short at_after_post_rows_filled)
     (sorted-long at_after_sort ∙ postings-long c.requires) c.sort.ensures
 
 pub returns-in-Stopped : goal.returns-in-Stopped
 returns-in-Stopped c =
     let at_after_post_rows_filled = (goal.at.returns-in-Stopped c).After-post_rows-filled in
     let a = c.args in
-    let d = c.end-in-Stopped-1.given in
-    ap (λ (w : List ℕ). walked (Stopped d.0.0) (filled_to 0 w)) c.zero_from-in-Stopped.ensures
-    ∙ refiled-stopped (rs at_after_post_rows_filled) a.postings.now a.work (end at_after_post_rows_filled) d.0.0 a.header.limits.tier_rows (end at_after_post_rows_filled).state.words
-    (filling at_after_post_rows_filled) d.1 (long at_after_post_rows_filled ∙ postings-long c.requires)
+    ap (λ (w : List ℕ). walked (Stopped c.in-Stopped.m) (filled_to 0 w)) c.zero_from-in-Stopped.ensures
+    ∙ refiled-stopped (rs at_after_post_rows_filled) a.postings.now a.work (end at_after_post_rows_filled) c.in-Stopped.m a.header.limits.tier_rows (end at_after_post_rows_filled).state.words
+    (filling at_after_post_rows_filled) c.in-Stopped.is (long at_after_post_rows_filled ∙ postings-long c.requires)

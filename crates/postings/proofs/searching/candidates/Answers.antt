@@ -18,7 +18,7 @@ use Rattle.postings.specs.Searching.{ready_ticks, SearchEnd, search_end}
 use Rattle.postings.proofs.Filing.{Ready, refiled-ready, refiled-unready, unready-stale}
 use Rattle.postings.proofs.Standing.{here-short, part-code, here-searchable, postings-long}
 use Rattle.postings.proofs.Answers.{scans, scan-few, scan-full, scan-not, end-scan, end-search, end-stopped, searched-header}
-use Rattle.postings.proofs.searching.candidates.Goals.{After-ready_postings-ready, In-Ticked, In-Ticked-2}
+use Rattle.postings.proofs.searching.candidates.Goals.{After-ready_postings-ready, In-Ticked, then-header-le-SCAN_ROWS-via-then-header-le-SCAN_ROWS, then-header-le-SCAN_ROWS-via-else-header-le-SCAN_ROWS+then-header}
 use Rattle.postings.proofs.searching.candidates.Goals as goal
 
 module _ (c : After-ready_postings-ready) where
@@ -26,9 +26,8 @@ module _ (c : After-ready_postings-ready) where
   rs = rows_in c.args.header.rows c.args.slots.now
 
   -- the postings made ready
-
   abbrev buffer : List ℕ
-  buffer = c.ready_postings-ready.new.slots.1.0
+  buffer = c.ready_postings-ready.new.postings
 
   abbrev made : Walk Filled
   made = posted c.ready_postings-ready.result buffer
@@ -40,30 +39,33 @@ module _ (c : In-Ticked) where
   abbrev m : Meter
   m = c.in-Ticked.m
 
-  ready : Ready c.args.header.limits.tier_rows (rs FIXME-place-After-ready-postings) (made FIXME-place-After-ready-postings) m
-      (ready_ticks c.args.header.stale (length (postings_of (rs FIXME-place-After-ready-postings))) c.args.work)
+  ready : Ready c.args.header.limits.tier_rows (rs (goal.at.In-Ticked c).After-ready_postings-ready) (made (goal.at.In-Ticked c).After-ready_postings-ready) m
+      (ready_ticks c.args.header.stale (length (postings_of (rs (goal.at.In-Ticked c).After-ready_postings-ready))) c.args.work)
   ready =
-      refiled-ready c.args.header.limits.tier_rows (rs FIXME-place-After-ready-postings) (made FIXME-place-After-ready-postings) m
-      (ready_ticks c.args.header.stale (length (postings_of (rs FIXME-place-After-ready-postings))) c.args.work)
+      refiled-ready c.args.header.limits.tier_rows (rs (goal.at.In-Ticked c).After-ready_postings-ready) (made (goal.at.In-Ticked c).After-ready_postings-ready) m
+      (ready_ticks c.args.header.stale (length (postings_of (rs (goal.at.In-Ticked c).After-ready_postings-ready))) c.args.work)
       c.ready_postings-ready.ensures
       c.in-Ticked.is
 
-  part : take (c.ready_postings-ready.result.next - 0) (buffer FIXME-place-After-ready-postings) ≡ sort_of (postings_of (rs FIXME-place-After-ready-postings))
+  part : take (c.ready_postings-ready.result.next - 0) (buffer (goal.at.In-Ticked c).After-ready_postings-ready) ≡ sort_of (postings_of (rs (goal.at.In-Ticked c).After-ready_postings-ready))
   part =
-      part-code c.args.header.limits.tier_rows (rs FIXME-place-After-ready-postings) (buffer FIXME-place-After-ready-postings) c.ready_postings-ready.result.next
+      part-code c.args.header.limits.tier_rows (rs (goal.at.In-Ticked c).After-ready_postings-ready) (buffer (goal.at.In-Ticked c).After-ready_postings-ready) c.ready_postings-ready.result.next
       ready.count
       ready.words
 
-  fits : c.ready_postings-ready.result.next ≤ length (buffer FIXME-place-After-ready-postings)
+  fits : c.ready_postings-ready.result.next ≤ length (buffer (goal.at.In-Ticked c).After-ready_postings-ready)
   fits =
-      omega (arith, ready.count, here-short c.requires.fact_1, c.ready_postings-ready.kept.1.1.0, postings-long c.requires.fact_1)
+      omega (arith, ready.count, here-short c.requires.fact_1, c.ready_postings-ready.auto.postings, postings-long c.requires.fact_1)
 
 pub returns-then-header-le-SCAN_ROWS : goal.returns-then-header-le-SCAN_ROWS
 unfolding with_full
 returns-then-header-le-SCAN_ROWS c =
     let a = c.args in
     let yes : scans a.header ≡ true =
-    ⊎_ELIM (λ w. scan-few a.header w.true) (λ w. scan-full a.header w.1.true) c.then-header-le-SCAN_ROWS.came in record {
+    elim c.then-header-le-SCAN_ROWS.branch [
+      | then-header-le-SCAN_ROWS-via-then-header-le-SCAN_ROWS w ↦ scan-few a.header w.if-header-le-SCAN_ROWS.true
+      | then-header-le-SCAN_ROWS-via-else-header-le-SCAN_ROWS+then-header w ↦ scan-full a.header w.if-header.true
+    ] in record {
       found = ap {B =
           SearchEnd}
           (λ (xs : List ℕ). record {
@@ -72,17 +74,17 @@ returns-then-header-le-SCAN_ROWS c =
             meter = a.work;
             found = xs;
           })
-          c.up_to_lem.ensures
+          c.up_to.ensures
           ∙ end-scan a.header a.slots.now a.postings.now a.atoms.now a.work (length a.answer.now) yes;
       filing = c.requires.fact_1.filing;
     }
 
 pub slice_bounds-search-end : goal.slice_bounds-search-end
-slice_bounds-search-end c = fits (goal.at.slice_bounds-search-end c).In-Ticked-2
+slice_bounds-search-end c = fits (goal.at.slice_bounds-search-end c).In-Ticked
 
 pub search-requires : goal.search-requires
 search-requires c =
-    rw (part (goal.at.search-requires c).In-Ticked-2) (here-searchable c.requires.fact_1 (length c.args.answer.now) c.requires.fact_2)
+    rw (part (goal.at.search-requires c).In-Ticked) (here-searchable c.requires.fact_1 (length c.args.answer.now) c.requires.fact_2)
 
 pub returns-in-Ticked : goal.returns-in-Ticked
 unfolding with_stale
@@ -104,14 +106,13 @@ pub returns-in-Stopped : goal.returns-in-Stopped
 returns-in-Stopped c =
     let at_after_ready_postings_ready = (goal.at.returns-in-Stopped c).After-ready_postings-ready in
     let a = c.args in
-    let d = c.end-in-Stopped-1.given in
     let tier = a.header.limits.tier_rows in
     let t = ready_ticks a.header.stale (length (postings_of (rs at_after_ready_postings_ready))) a.work in
-    let u = refiled-unready tier (rs at_after_ready_postings_ready) (made at_after_ready_postings_ready) d.0.0 t c.ready_postings-ready.ensures d.1 in record {
-      found = ap {B = SearchEnd} (λ (xs : List ℕ). record { answer = answer.Stopped; header = a.header; meter = d.0.0; found = xs })
+    let u = refiled-unready tier (rs at_after_ready_postings_ready) (made at_after_ready_postings_ready) c.in-Stopped.m t c.ready_postings-ready.ensures c.in-Stopped.is in record {
+      found = ap {B = SearchEnd} (λ (xs : List ℕ). record { answer = answer.Stopped; header = a.header; meter = c.in-Stopped.m; found = xs })
           c.fill_zero.ensures
-          ∙ end-stopped a.header a.slots.now a.postings.now a.atoms.now a.work d.0.0 a.answer.now (no-scan at_after_ready_postings_ready)
+          ∙ end-stopped a.header a.slots.now a.postings.now a.atoms.now a.work c.in-Stopped.m a.answer.now (no-scan at_after_ready_postings_ready)
           u.0;
       filing = u.1 ∙ ap (λ (s : Bool). filed tier s (rs at_after_ready_postings_ready))
-          (sym (unready-stale a.header.stale (length (postings_of (rs at_after_ready_postings_ready))) a.work d.0.0 u.0));
+          (sym (unready-stale a.header.stale (length (postings_of (rs at_after_ready_postings_ready))) a.work c.in-Stopped.m u.0));
     }

@@ -1,3 +1,4 @@
+-- `count_postings`. The zeros are counted off row 0, and the end is found by halves. Assumes nothing.
 use mathlib.Core.Path.{◌≡◌, ap, ap₂, ◌∙◌}
 use mathlib.Core.List.{List, map}
 use Prim.Native.Nat.{ℕ, ◌+◌, ◌-◌, ◌/◌}
@@ -14,19 +15,17 @@ use Rattle.slots.proofs.Storing.{laid-stored}
 use Rattle.postings.specs.Searching.{zero_first}
 use Rattle.postings.proofs.Ends.{EndsAt, seen_start, seen-zero, seen-some, seen_end}
 use Rattle.postings.proofs.Standing.{here-zeros, here-short, postings-long, posted-some, posted-none}
-use Rattle.postings.proofs.searching.count_postings.Goals.{Start}
 use Rattle.postings.proofs.searching.count_postings.Goals.{After-zero_first-outputs, Start}
 use Rattle.postings.proofs.searching.count_postings.Goals as goal
 
 laid : (c : Start) → Laid (slot_at c.args.slots.now 0)
-laid c = laid-stored c.args.header.limits.atoms (slot_at c.args.slots.now 0) (c.requires.fact_1.held.over.stored 0 c.requires.fact_2.1)
+laid c = laid-stored c.args.header.limits.atoms (slot_at c.args.slots.now 0) (c.requires.fact_1.held.over.stored 0 c.requires.fact_3)
 
 module _ (c : After-zero_first-outputs) where
   abbrev ps : List ℕ
   ps = postings_of (rows_in c.args.header.rows c.args.slots.now)
 
   -- the postings that are 0
-
   zeros : c.zero_first-conditions.result + c.zero_first-outputs.result ≡ times 0 ps
   zeros =
       let w = slot_at c.args.slots.now 0 in
@@ -34,16 +33,16 @@ module _ (c : After-zero_first-outputs) where
       (c.zero_first-conditions.ensures
       ∙ ap (λ (s : Side). zero_first (map atom (list_of w s))) c.conditions.ensures)
       (c.zero_first-outputs.ensures ∙ ap (λ (s : Side). zero_first (map atom (list_of w s))) c.outputs.ensures)
-      ∙ here-zeros c.requires.fact_1 c.requires.fact_2.1
+      ∙ here-zeros c.requires.fact_1 c.requires.fact_3
 
   ends : EndsAt c.args.postings.now (c.zero_first-conditions.result + c.zero_first-outputs.result) (length ps)
   ends =
       let t = c.requires in
       record {
         order = omega (arith, zeros, times-le 0 ps);
-        within = omega (arith, here-short t.0, postings-long t.0);
-        some = λ k h l. posted-some t.0 t.1.0 k (omega (arith, zeros)) l;
-        none = posted-none t.0 t.1.0;
+        within = omega (arith, here-short t.fact_1, postings-long t.fact_1);
+        some = λ k h l. posted-some t.fact_1 t.fact_2 k (omega (arith, zeros)) l;
+        none = posted-none t.fact_1 t.fact_2;
       }
 
 pub zero_first-conditions-requires : goal.zero_first-conditions-requires

@@ -15,7 +15,7 @@ use Rattle.postings.proofs.searching.search.Goals as goal
 
 module _ (c : After-mark_atoms) where
   abbrev marks : List ℕ
-  marks = c.mark_atoms.new.atoms.1.0
+  marks = c.mark_atoms.new.answer
 
   zeros : c.fill_zero.new.dst ≡ zeroed c.args.answer.now
   zeros = c.fill_zero.ensures
@@ -28,7 +28,7 @@ module _ (c : After-mark_atoms) where
       ∙ ap (λ (z : List ℕ). walk look (looks_all c.args.postings.now c.args.atoms.now) z c.args.work) zeros
 
   long : length marks ≡ length c.args.answer.now
-  long = c.mark_atoms.auto.atoms.1.0 ∙ ap length zeros ∙ length-zeroed c.args.answer.now
+  long = c.mark_atoms.auto.answer ∙ ap length zeros ∙ length-zeroed c.args.answer.now
 
 pub mark_atoms-requires : goal.mark_atoms-requires
 mark_atoms-requires c =
@@ -38,19 +38,17 @@ pub returns-in-Ticked : goal.returns-in-Ticked
 returns-in-Ticked c =
     let at_after_mark_atoms = (goal.at.returns-in-Ticked c).After-mark_atoms in
     let a = c.args in
-    let m = c.m-1.given in
     let g = c.gather-count.ensures in
-    ap₂ {C = SearchEnd} (λ (k : ℕ) (xs : List ℕ). record { answer = answer.Count k; header = a.header; meter = m.0.0; found = xs })
-    g.0 g.1
-    ∙ search-whole a.header a.postings.now a.atoms.now a.answer.now a.work (marks at_after_mark_atoms) m.0.0 c.requires
-    (marking at_after_mark_atoms m.1)
+    ap₂ {C = SearchEnd} (λ (k : ℕ) (xs : List ℕ). record { answer = answer.Count k; header = a.header; meter = c.in-Ticked.m; found = xs })
+    g.value g.out_after
+    ∙ search-whole a.header a.postings.now a.atoms.now a.answer.now a.work (marks at_after_mark_atoms) c.in-Ticked.m c.requires
+    (marking at_after_mark_atoms c.in-Ticked.is)
 
 pub returns-in-Stopped : goal.returns-in-Stopped
 returns-in-Stopped c =
     let at_after_mark_atoms = (goal.at.returns-in-Stopped c).After-mark_atoms in
     let a = c.args in
-    let m = c.m-in-Stopped-1.given in
-    ap {B = SearchEnd} (λ (xs : List ℕ). record { answer = answer.Stopped; header = a.header; meter = m.0.0; found = xs })
+    ap {B = SearchEnd} (λ (xs : List ℕ). record { answer = answer.Stopped; header = a.header; meter = c.in-Stopped.m; found = xs })
     c.fill_zero-in-Stopped.ensures
-    ∙ search-stopped a.header a.postings.now a.atoms.now a.answer.now a.work (marks at_after_mark_atoms) m.0.0 (long at_after_mark_atoms)
-    (marking at_after_mark_atoms m.1)
+    ∙ search-stopped a.header a.postings.now a.atoms.now a.answer.now a.work (marks at_after_mark_atoms) c.in-Stopped.m (long at_after_mark_atoms)
+    (marking at_after_mark_atoms c.in-Stopped.is)
