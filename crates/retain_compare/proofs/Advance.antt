@@ -24,7 +24,6 @@ use Rattle.model.specs.Rows.{subsumes}
 use Rattle.model.specs.Slots.{row_in}
 use Rattle.model.specs.Union.{joins}
 use Rattle.model.specs.Retention.{Examined, Pass, found, passed, noted, first_pass, first_reads}
-use Rattle.slots.specs.Layout.{proposal}
 use Rattle.slots.proofs.Storing.{row-proposal}
 use Rattle.row_propose.specs.Proposed.{Proposed}
 use Rattle.slots.proofs.Holding.{no-entry}
