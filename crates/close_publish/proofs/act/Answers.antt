@@ -93,7 +93,6 @@ hit-requires c =
     search rules
 
 -- the slots at the end: with the hit that was earned, or as they were
-
 module _ (c : Joined-read) where
   hits : Hits c.follow-read.result.earned c.args.position c.args.slots.now c.if-read.slots
   hits = elim c.if-read.branch [

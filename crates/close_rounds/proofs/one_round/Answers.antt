@@ -1,5 +1,4 @@
 -- `close_rounds::one_round`. The search, then the rows that it found, then the notes in order. Assumes nothing.
--- what a round leaves, however it ended
 use mathlib.Core.Path.{◌≡◌, ◌∙◌, subst}
 use native.Mathlib.Omega.{arith}
 use lib.ListN.{take}
@@ -15,6 +14,7 @@ use Rattle.close_rounds.proofs.one_round.Goals.{After-round-read}
 use borrow.Author.Rules.{rules}
 use Rattle.close_rounds.proofs.one_round.Goals as goal
 
+-- what a round leaves, however it ended
 module _ (c : After-round-read) where
   turn : ended_as c.round-read.result.ended.flow
       (state_in c.candidates-found.result.header c.round-read.new.slots c.round-read.new.held
