@@ -27,19 +27,19 @@ module _ (t : Start) where
   -- the borns are words
 
   tier-born : t.args.tier.born ≤ max_word
-  tier-born = omega (arith, t.good.0.1.1.1.0)
+  tier-born = omega arith
 
   store-born : t.args.store.born ≤ max_word
-  store-born = omega (arith, t.good.1.1.1.0.1.1.1.0)
+  store-born = omega arith
 
   module _ (e : transfer_refusal T S ≡ none) where
-    tier-stood : Stood t.args.tier t.args.tier-slots.now t.args.tier-postings.now (ledger_in T)
+    tier-stood : Stood t.args.tier t.args.tier_slots.now t.args.tier_postings.now (ledger_in T)
     tier-stood =
-        accepted-stood t.args.tier t.args.tier-slots.now t.args.tier-postings.now true [] (tier-accepted T S e) tier-born
+        accepted-stood t.args.tier t.args.tier_slots.now t.args.tier_postings.now true [] (tier-accepted T S e) tier-born
 
-    store-stood : Stood t.args.store t.args.store-slots.now t.args.store-postings.now (ledger_in S)
+    store-stood : Stood t.args.store t.args.store_slots.now t.args.store_postings.now (ledger_in S)
     store-stood =
-        accepted-stood t.args.store t.args.store-slots.now t.args.store-postings.now true [] (store-accepted T S e)
+        accepted-stood t.args.store t.args.store_slots.now t.args.store_postings.now true [] (store-accepted T S e)
         store-born
 
 -- neither is refused
@@ -51,9 +51,9 @@ module _ (c : Else-n-ne0) where
 pub returns-then-n-ne0 : goal.returns-then-n-ne0
 returns-then-n-ne0 c =
     let a = c.args in
-    ap (λ r. transfer_end r a.tier-slots.now a.tier-postings.now a.store-slots.now a.store-postings.now)
+    ap (λ r. transfer_end r a.tier_slots.now a.tier_postings.now a.store_slots.now a.store_postings.now)
     c.untransferred.ensures
-    ∙ deliver-refused a.tier a.store a.tier-slots.now a.tier-postings.now a.store-slots.now a.store-postings.now
+    ∙ deliver-refused a.tier a.store a.tier_slots.now a.tier_postings.now a.store_slots.now a.store_postings.now
     a.work _
     (sym c.refusal-n.ensures ∙ refused_by-some _ c.if-n-ne0.true)
 
@@ -63,8 +63,8 @@ deliver_rows-transfer-requires c =
     let a = c.args in
     let z = none_is (goal.at.deliver_rows-transfer-requires c).Else-n-ne0 in record {
       fact_1 = record {
-        postings = a.tier-postings.now;
-        stood = stood-now a.tier a.tier-slots.now a.tier-postings.now (tier-stood at_start z);
+        postings = a.tier_postings.now;
+        stood = stood-now a.tier a.tier_slots.now a.tier_postings.now (tier-stood at_start z);
       };
       fact_2 = store-stood at_start z;
       fact_3 = atoms-same (T at_start) (S at_start) z;
@@ -74,8 +74,8 @@ pub returns : goal.returns
 returns c =
     let at_else_n_ne0 = (goal.at.returns c).Else-n-ne0 in
     let a = c.args in
-    deliver-done a.tier a.store a.tier-slots.now a.tier-postings.now a.store-slots.now a.store-postings.now
+    deliver-done a.tier a.store a.tier_slots.now a.tier_postings.now a.store_slots.now a.store_postings.now
     a.work
-    a.tier.limits.atoms a.tier.rows c.deliver_rows-transfer.result c.deliver_rows-transfer.last.1.0 c.deliver_rows-transfer.last.1.1.1.0
-    c.deliver_rows-transfer.last.1.1.1.1.0 c.deliver_rows-transfer.ensures
-    (stood-now a.tier a.tier-slots.now a.tier-postings.now (tier-stood (goal.at.returns c).Start (none_is at_else_n_ne0))) (none_is at_else_n_ne0) c.delivered.ensures
+    a.tier.limits.atoms a.tier.rows c.deliver_rows-transfer.result c.deliver_rows-transfer.new.tier_slots c.deliver_rows-transfer.new.store_slots
+    c.deliver_rows-transfer.new.store_postings c.deliver_rows-transfer.ensures
+    (stood-now a.tier a.tier_slots.now a.tier_postings.now (tier-stood (goal.at.returns c).Start (none_is at_else_n_ne0))) (none_is at_else_n_ne0) c.delivered.ensures

@@ -27,10 +27,10 @@ module _ (c : After-tick_past-next) where
   N = c.tick_past-next.result
 
 pub returns-in_default : goal.returns-in_default
-returns-in_default c =
+returns-in_default c n m v h =
     let at_start = (goal.at.returns-in_default c).Start in
     row-halted c.args.transfer (N (goal.at.returns-in_default c).After-tick_past-next) c.tick_past-next.ensures n m (S at_start) (Q at_start) v h c.args.limits (G at_start)
-    c.args.position c.in_default.keys2
+    c.args.position c.in_default.not-Whole
 
 pub passes_over-requires : goal.passes_over-requires
 passes_over-requires c =
@@ -38,11 +38,11 @@ passes_over-requires c =
     laid-stored n _ (subst (Stored n) (sym (slot-code (G (goal.at.passes_over-requires c).Start) c.args.position)) c.requires.fact_1.stored)
 
 pub returns-then-passes_over : goal.returns-then-passes_over
-returns-then-passes_over c =
+returns-then-passes_over c n m v h =
     let at_start = (goal.at.returns-then-passes_over c).Start in
     row-passed c.args.transfer (N (goal.at.returns-then-passes_over c).After-tick_past-next) c.tick_past-next.ensures n m (S at_start) (Q at_start) v h c.args.limits (G at_start)
     c.args.position
-    c.in-Whole.is (sym c.Passes-over.ensures ∙ c.if-passes_over.true)
+    c.in-Whole.is (sym c.passes_over.ensures ∙ c.if-passes_over.true)
 
 pub hand_over-requires : goal.hand_over-requires
 hand_over-requires c =
@@ -54,10 +54,10 @@ hand_over-requires c =
     }
 
 pub returns : goal.returns
-returns c =
+returns c n m v h =
     let at_start = (goal.at.returns c).Start in
     row-handed c.args.transfer (N (goal.at.returns c).After-tick_past-next) c.tick_past-next.ensures n m (S at_start) (Q at_start) v h c.args.limits (G at_start)
     c.args.position
     c.in-Whole.is
-    (sym c.Passes-over.ensures ∙ c.if-passes_over.false)
+    (sym c.passes_over.ensures ∙ c.if-passes_over.false)
     c.hand_over.ensures

@@ -38,7 +38,6 @@ module _ (l : At-loop-i) where
   inv = l.loop-i.invariant.4
 
   -- the tier as it is now
-
   stands : Stood h l.loop-i.tier_slots l.requires.fact_1.postings (record { header = h; entries = inv.done ++ drop l.loop-i.i es })
   stands = inv.keeps h l.requires.fact_1.postings h l.requires.fact_1.stood
 
@@ -46,7 +45,6 @@ module _ (l : At-loop-i) where
   next = entry_in (slot_at l.loop-i.tier_slots l.loop-i.i)
 
   -- what the loop leaves, of the transfer from its start
-
   closing : (c : ℕ) (p : TransferState) (ws ps xs : List ℕ) → Delivered h.limits.atoms c p ws ps G xs es (deliver_rows h.limits es v₀)
       →
       Delivered h.limits.atoms c p ws ps G xs es
@@ -59,16 +57,14 @@ module _ (l : At-loop-i) where
       l.start-transfer.ensures k
 
   -- a row is left
+  module _ (r : l.loop-i.i < h.rows) where
+    some : l.loop-i.i < length es
+    some = subst (λ (n : ℕ). l.loop-i.i < n) (sym (entries-length h.rows G)) r
 
-  module _ (r : l.loop.i < h.rows) where
-    some : l.loop.i < length es
-    some = subst (λ (n : ℕ). l.loop.i < n) (sym (entries-length h.rows G)) r
-
-    at_next : drop l.loop.i es ≡ next ∷ drop (l.loop.i + 1) es
-    at_next = tier-entry h l.loop.tier-slots (t l).pre.0.postings h inv.done es l.loop.i inv.long stands some
+    at_next : drop l.loop-i.i es ≡ next ∷ drop (l.loop-i.i + 1) es
+    at_next = tier-entry h l.loop-i.tier_slots l.requires.fact_1.postings h inv.done es l.loop-i.i inv.long stands some
 
 -- a row is read
-
 module _ (c : After-deliver_row-transfer) where
   abbrev R : TransferState
   R = c.deliver_row-transfer.result
@@ -77,10 +73,10 @@ module _ (c : After-deliver_row-transfer) where
   W = c.deliver_row-transfer.new.store_slots
 
   abbrev P : List ℕ
-  P = c.deliver_row-transfer.new.store_slots
+  P = c.deliver_row-transfer.new.store_postings
 
   abbrev X : List ℕ
-  X = c.deliver_row-transfer.new.store_slots
+  X = c.deliver_row-transfer.new.tier_slots
 
   under : c.loop-i.i < (h (goal.at.After-deliver_row-transfer c).At-loop-i).rows
   under = c.loop-i-test.true
@@ -117,15 +113,15 @@ deliver_row-transfer-requires c =
 
 pub shape_of-tier_slots-in_default : goal.shape_of-tier_slots-in_default
 shape_of-tier_slots-in_default c =
-    c.deliver_row-transfer.kept.1.1.1.0 ∙ c.loop-i.invariant.1
+    c.deliver_row-transfer.auto.tier_slots ∙ c.loop-i.invariant.1
 
 pub shape_of-store_slots-in_default : goal.shape_of-store_slots-in_default
 shape_of-store_slots-in_default c =
-    c.deliver_row-transfer.kept.1.0 ∙ c.loop-i.invariant.2
+    c.deliver_row-transfer.auto.store_slots ∙ c.loop-i.invariant.2
 
 pub shape_of-store_postings-in_default : goal.shape_of-store_postings-in_default
 shape_of-store_postings-in_default c =
-    c.deliver_row-transfer.kept.1.1.0 ∙ c.loop-i.invariant.3
+    c.deliver_row-transfer.auto.store_postings ∙ c.loop-i.invariant.3
 
 pub returns-in_default : goal.returns-in_default
 returns-in_default c =
@@ -134,7 +130,7 @@ returns-in_default c =
     closing at_at_loop_i (h at_at_loop_i).rows (R at_after_deliver_row_transfer) (W at_after_deliver_row_transfer) (P at_after_deliver_row_transfer) (X at_after_deliver_row_transfer)
     (delivering-stop (h at_at_loop_i).limits (es at_at_loop_i) (v₀ at_at_loop_i) (h at_at_loop_i).limits.atoms c.loop-i.i c.loop-i.transfer
     c.loop-i.store_slots c.loop-i.store_postings (G at_at_loop_i) c.loop-i.tier_slots (inv at_at_loop_i)
-    (next at_at_loop_i) (at_next at_at_loop_i (under at_after_deliver_row_transfer)) (R at_after_deliver_row_transfer) (W at_after_deliver_row_transfer) (P at_after_deliver_row_transfer) (X at_after_deliver_row_transfer) (read at_after_deliver_row_transfer) c.in_default.keys2 (h at_at_loop_i).rows (under at_after_deliver_row_transfer))
+    (next at_at_loop_i) (at_next at_at_loop_i (under at_after_deliver_row_transfer)) (R at_after_deliver_row_transfer) (W at_after_deliver_row_transfer) (P at_after_deliver_row_transfer) (X at_after_deliver_row_transfer) (read at_after_deliver_row_transfer) c.in_default.not-Whole (h at_at_loop_i).rows (under at_after_deliver_row_transfer))
 
 pub overflow_add-i : goal.overflow_add-i
 overflow_add-i c =
@@ -154,9 +150,9 @@ loop-i-preserved c =
     let at_after_deliver_row_transfer = (goal.at.loop-i-preserved c).After-deliver_row-transfer in
     let u = under at_after_deliver_row_transfer in (
       omega arith,
-      c.deliver_row-transfer.kept.1.1.1.0 ∙ c.loop-i.invariant.1,
-      c.deliver_row-transfer.kept.1.0 ∙ c.loop-i.invariant.2,
-      c.deliver_row-transfer.kept.1.1.0 ∙ c.loop-i.invariant.3,
+      c.deliver_row-transfer.auto.tier_slots ∙ c.loop-i.invariant.1,
+      c.deliver_row-transfer.auto.store_slots ∙ c.loop-i.invariant.2,
+      c.deliver_row-transfer.auto.store_postings ∙ c.loop-i.invariant.3,
       delivering-turn (h at_at_loop_i).limits (es at_at_loop_i) (v₀ at_at_loop_i) (h at_at_loop_i).limits.atoms c.loop-i.i c.loop-i.transfer
           c.loop-i.store_slots c.loop-i.store_postings (G at_at_loop_i) c.loop-i.tier_slots (inv at_at_loop_i)
           (next at_at_loop_i) (at_next at_at_loop_i (under at_after_deliver_row_transfer)) (R at_after_deliver_row_transfer) (W at_after_deliver_row_transfer) (P at_after_deliver_row_transfer) (X at_after_deliver_row_transfer) (read at_after_deliver_row_transfer) c.in-Whole.is,

@@ -29,7 +29,7 @@ module _ (c : After-receive-kept) where
   W = c.receive-kept.new.slots
 
   abbrev P : List ℕ
-  P = c.receive-kept.new.slots
+  P = c.receive-kept.new.postings
 
 pub receive-kept-requires : goal.receive-kept-requires
 receive-kept-requires c =
@@ -64,7 +64,7 @@ overflow_add-added c =
     omega (arith, s.carried.added, s.carried.few, s.room)
 
 pub returns-in-Stopped : goal.returns-in-Stopped
-returns-in-Stopped c =
+returns-in-Stopped c n m v h =
     let at_after_receive_kept = (goal.at.returns-in-Stopped c).After-receive-kept in
     let at_start = (goal.at.returns-in-Stopped c).Start in
     hand-stopped n m c.args.transfer (S at_start) (Q at_start) v h (G at_start) c.args.position c.args.limits
@@ -73,7 +73,7 @@ returns-in-Stopped c =
     c.in-Stopped.is c.passed.ensures
 
 pub returns-in-Declined : goal.returns-in-Declined
-returns-in-Declined c =
+returns-in-Declined c n m v h =
     let at_after_receive_kept = (goal.at.returns-in-Declined c).After-receive-kept in
     let at_start = (goal.at.returns-in-Declined c).Start in
     hand-declined n m c.args.transfer (S at_start) (Q at_start) v h (G at_start) c.args.position c.args.limits
@@ -81,7 +81,7 @@ returns-in-Declined c =
     c.in-Declined.is c.passed-in-Declined.ensures
 
 pub returns-in-Subsumed : goal.returns-in-Subsumed
-returns-in-Subsumed c =
+returns-in-Subsumed c n m v h =
     let at_after_receive_kept = (goal.at.returns-in-Subsumed c).After-receive-kept in
     let at_start = (goal.at.returns-in-Subsumed c).Start in
     hand-subsumed n m c.args.transfer (S at_start) (Q at_start) v h (G at_start) c.args.position c.args.limits
@@ -90,7 +90,7 @@ returns-in-Subsumed c =
     c.add_hits.ensures c.share_out.ensures
 
 pub returns-in-Added : goal.returns-in-Added
-returns-in-Added c =
+returns-in-Added c n m v h =
     let at_after_receive_kept = (goal.at.returns-in-Added c).After-receive-kept in
     let at_start = (goal.at.returns-in-Added c).Start in
     hand-added n m c.args.transfer (S at_start) (Q at_start) v h (G at_start) c.args.position c.args.limits
