@@ -21,7 +21,7 @@ DECLARED = re.compile(r"\s*(?:(?:abbrev|opaque|unfoldable|pub)\s+)*(?:(?:record|
 
 # Lemmas that would get a definition's name, and a word of the library that today has another.
 LEMMAS = {"hits_at": "hits_at_lem", "kept_by": "kept_by_lem", "row_fits": "row_fits_lem", "rows_in": "rows_in_lem"}
-LIBRARY = {"getD": "get_or", "vecLen": "vec_len"}
+LIBRARY = {"getD": "get_or", "vecLen": "vec_len", "not_T": "not_T"}
 
 
 def snake(part):

@@ -28,7 +28,7 @@ const START: OutputCursor = OutputCursor {
 };
 
 // How far a closing came: it goes on, a decision was false, or a tick was not made.
-#[derive(Drop)]
+#[derive(Clone, Copy)]
 pub enum Flow {
     Continues,
     Conflict,
@@ -36,14 +36,14 @@ pub enum Flow {
 }
 
 // How a closing goes on, with the meter as it stands.
-#[derive(Drop)]
+#[derive(Clone, Copy)]
 pub struct Ended {
     pub flow: Flow,
     pub meter: Meter,
 }
 
 // The same after a row or a round, the contradicted output of the last Require that the closing acted on, and how many atoms are noted.
-#[derive(Drop)]
+#[derive(Clone, Copy)]
 pub struct Acted {
     pub ended: Ended,
     pub contradicted: Contradicted,
@@ -51,7 +51,7 @@ pub struct Acted {
 }
 
 // How the reading of a row ended, whether it earned a hit, by an atom decided or a Conflict, and how many atoms are noted.
-#[derive(Drop)]
+#[derive(Clone, Copy)]
 struct Reading {
     ended: Ended,
     earned: bool,

@@ -21,7 +21,7 @@ use model::{CandidatesAnswer, Contradicted, Header};
 use postings::candidates;
 
 // How a round ended, with the header and the meter after it, the output named last, and how many atoms were decided in it.
-#[derive(Drop)]
+#[derive(Clone, Copy)]
 pub struct RoundEnd {
     pub flow: Flow,
     pub header: Header,

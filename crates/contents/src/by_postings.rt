@@ -343,7 +343,7 @@ fn sees(slots: &[u64], rows: usize, places: &mut [u16], posting: u64) -> bool
 }
 
 // How far a walk along the postings has come, the last word met and how often it was met in a row.
-#[derive(Drop)]
+#[derive(Clone, Copy)]
 struct Walk {
     at: usize,
     word: u64,

@@ -3,7 +3,7 @@ ghost use Rattle.std.specs.Prelude.{◌≡◌, ◌<◌};
 ghost use Rattle.lists.specs.Runs.{run_after};
 
 // The last word met, and how often it was met in a row.
-#[derive(Drop)]
+#[derive(Clone, Copy)]
 pub struct Run {
     pub word: u64,
     pub times: u64,

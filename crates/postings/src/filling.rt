@@ -17,7 +17,7 @@ use slots::{Side, Step};
 use words::MAX_WORD;
 
 // How a filling ended, and the place after the last posting that it wrote.
-#[derive(Drop)]
+#[derive(Clone, Copy)]
 pub struct Posted {
     pub end: Tick,
     pub next: usize,

@@ -31,7 +31,7 @@ const LAST_ATOM: u64 = MAX_WORD / MAX_ROWS;
 const NEAR: usize = 8;
 
 // The answer of a search, with the header and the meter after it.
-#[derive(Drop)]
+#[derive(Clone, Copy)]
 pub struct Searched {
     pub answer: CandidatesAnswer,
     pub header: Header,

@@ -29,7 +29,7 @@ use words::{Found, WORD_BITS};
 
 // Where a proposal goes that no row subsumes: after all rows, into the first place that it replaces, into a victim's place, or nowhere,
 // because the floor protects the rows.
-#[derive(Drop)]
+#[derive(Clone, Copy)]
 pub enum Room {
     After,
     First(usize),
@@ -221,7 +221,7 @@ fn evictions(room: Room, evicted: u64) -> u64
 }
 
 // The form of a row, and how the reads before it is placed end.
-#[derive(Drop)]
+#[derive(Clone, Copy)]
 pub struct PaidForm {
     pub read: Read,
     pub form: Form,
@@ -260,7 +260,7 @@ fn pay_place(room: Room, rows: u64, p: &[u64], account: Account, work: Meter) ->
 }
 
 // What a retention comes to: a read not paid or the rows protected, a row at a position that subsumes the proposal, or its own position.
-#[derive(Drop)]
+#[derive(Clone, Copy)]
 pub enum Retained {
     Stopped,
     Declined,
@@ -269,7 +269,7 @@ pub enum Retained {
 }
 
 // A retention, with the header, the account and the meter after it.
-#[derive(Drop)]
+#[derive(Clone, Copy)]
 pub struct Retention {
     pub answer: Retained,
     pub header: Header,

@@ -21,7 +21,7 @@ use model::SLOT_WORDS;
 
 // How a proposal compares with every row of a tier: it may take the place of the rows marked, or a row at a position subsumes it, or a read
 // was not paid.
-#[derive(Drop)]
+#[derive(Clone, Copy)]
 pub enum Compared {
     Replaces,
     Subsumed(u64),
@@ -30,7 +30,7 @@ pub enum Compared {
 }
 
 // A comparison, with the account and the meter after its reads.
-#[derive(Drop)]
+#[derive(Clone, Copy)]
 pub struct Comparison {
     pub compared: Compared,
     pub account: Account,

@@ -24,7 +24,7 @@ use slots::Side;
 use words::WORD_BITS;
 
 // How the conditions of a row stand: all hold, one is undecided and the others hold, or nothing follows.
-#[derive(Drop)]
+#[derive(Clone, Copy)]
 pub enum ConditionState {
     Stopped,
     Idle,
@@ -33,28 +33,28 @@ pub enum ConditionState {
 }
 
 // The state of the conditions, with the meter after its ticks.
-#[derive(Drop)]
+#[derive(Clone, Copy)]
 pub struct ConditionsRead {
     pub state: ConditionState,
     pub meter: Meter,
 }
 
 // Whether an output of a row is contradicted, and the least that is.
-#[derive(Drop)]
+#[derive(Clone, Copy)]
 pub enum OutputState {
     Stopped,
     Clear,
     Contradicted(u64),
 }
 
-#[derive(Drop)]
+#[derive(Clone, Copy)]
 pub struct OutputsRead {
     pub state: OutputState,
     pub meter: Meter,
 }
 
 // A deduction, with the meter after it and the ticks made. Stopped: the ticks were not all made, and nothing was deduced.
-#[derive(Drop)]
+#[derive(Clone, Copy)]
 pub struct Deduced {
     pub deduction: Deduction,
     pub stopped: bool,
@@ -63,7 +63,7 @@ pub struct Deduced {
 }
 
 // The words of a group: its place among the words of a region, and its bits of each sign.
-#[derive(Drop)]
+#[derive(Clone, Copy)]
 struct Group {
     index: usize,
     present: u64,

@@ -18,7 +18,7 @@ use model::{BODY_AT, CONDITIONS_AT, MAX_OUTPUTS, OUTPUTS_AT};
 use slots::{Cursor, Side, Step};
 
 // The least literal of a side and a list, with the cursor and the position past it, or the end of both.
-#[derive(Drop)]
+#[derive(Clone, Copy)]
 pub enum Merged {
     Literal(u64, Cursor, usize),
     End,
@@ -88,7 +88,7 @@ fn same_literals(a: &[u64], sa: Side, b: &[u64], sb: Side, account: Account, wor
 }
 
 // An answer, and the number that was counted where it is Yes.
-#[derive(Drop)]
+#[derive(Clone, Copy)]
 pub struct Counted {
     pub judged: Judged,
     pub count: usize,

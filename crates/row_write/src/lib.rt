@@ -21,14 +21,14 @@ use model::{
 use words::{WORD_BITS, locate};
 
 // How a row stands in its slot: all its groups, and those of its conditions. Both 0: scalar.
-#[derive(Drop)]
+#[derive(Clone, Copy)]
 pub struct Form {
     pub total: u64,
     pub first: u64,
 }
 
 // The answer of `prepare`: Yes once its reads are paid, and the form.
-#[derive(Drop)]
+#[derive(Clone, Copy)]
 pub struct Prepared {
     pub judged: Judged,
     pub form: Form,

@@ -15,7 +15,7 @@ use model::{
 use words::WORD_BITS;
 
 // One side of a slot: its form, the word where it begins, and how many codes or groups it has.
-#[derive(Drop)]
+#[derive(Clone, Copy)]
 pub struct Side {
     pub packed: bool,
     pub base: usize,
@@ -23,7 +23,7 @@ pub struct Side {
 }
 
 // How many codes or groups were begun, and what is left of the group that was begun last.
-#[derive(Drop)]
+#[derive(Clone, Copy)]
 pub struct Cursor {
     pub next: usize,
     pub word: u64,
@@ -32,14 +32,14 @@ pub struct Cursor {
 }
 
 // A literal and the cursor past it, or the end.
-#[derive(Drop)]
+#[derive(Clone, Copy)]
 pub enum Step {
     Literal(u64, Cursor),
     End,
 }
 
 // The first literal of a group, and the bits that are left of it.
-#[derive(Drop)]
+#[derive(Clone, Copy)]
 pub struct Pending {
     pub code: u64,
     pub present: u64,

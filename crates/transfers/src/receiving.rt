@@ -17,7 +17,7 @@ use retain::{Retained, Retention, retain};
 use row_propose::to_literals;
 
 // How far a transfer came: to the end, to a Declined row, to a tick that was not made.
-#[derive(Drop)]
+#[derive(Clone, Copy)]
 pub enum Progress {
     Whole,
     Declined,
@@ -25,7 +25,7 @@ pub enum Progress {
 }
 
 // A transfer under way: how far it came, the receiver's header, the tier's sharing account, the meter, and how many rows were Added.
-#[derive(Drop)]
+#[derive(Clone, Copy)]
 pub struct TransferState {
     pub progress: Progress,
     pub header: Header,

@@ -83,7 +83,7 @@ pub const HEAD_FOUNDED_AT: usize = 25;
 
 // An answer as numbers: `refusal` is the number of a refusal, or 0; then `case` and `value` say which answer it is, and `contradicted`
 // is the code of the output that it names, or 0.
-#[derive(Drop)]
+#[derive(Clone, Copy)]
 pub struct ReplyWords {
     pub refusal: u64,
     pub case: u64,

@@ -7,7 +7,7 @@ use Prim.Native.Nat.{ℕ, zero, suc, ◌<◌, zero-le}
 use native.Mathlib.Nat.{not-suc-le-zero, le_of_suc-le-suc}
 use native.Mathlib.Omega.{arith}
 use lib.ListN.{length, get_or, drop}
-use lib.Dec.{T, leb, nleb→lt, not_t}
+use lib.Dec.{T, leb, nleb→lt, not_T}
 use Rattle.lists.specs.Lists.{select, concat}
 use Rattle.words.specs.Region.{Region, holds}
 use Rattle.meter.specs.declared.Meter.{Meter}
@@ -189,7 +189,7 @@ next-gives q r k m a g = form (packed r)
     more true e = quiet-gives r end k m (λ z. z) g
     more false e =
         scalar-gives r k (tick_of m) (nleb→lt (length r.outputs) k.next
-        (not_t (leb (length r.outputs) k.next) (λ t. subst T e t))) g
+        (not_T (leb (length r.outputs) k.next) (λ t. subst T e t))) g
 
     form : (b : Bool)
         → Gives r (elim b as (λ z. Published) [

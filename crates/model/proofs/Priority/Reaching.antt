@@ -7,7 +7,7 @@ use Prim.Native.Nat.{ℕ, zero, suc, ◌+◌, ◌≤◌, ◌<◌}
 use native.Mathlib.Nat.{le_refl, le_trans, not-suc-le-zero, le_of_suc-le-suc}
 use native.Mathlib.Omega.{arith}
 use lib.ListN.{length, get_or, drop}
-use lib.Dec.{T, leb, leb→le, nleb→lt, not_t}
+use lib.Dec.{T, leb, leb→le, nleb→lt, not_T}
 use Rattle.lists.specs.Lists.{concat}
 use Rattle.lists.proofs.Bools.{T_of}
 use Rattle.lists.proofs.Selects.{select_short}
@@ -243,7 +243,7 @@ turn-scalar r q k m true f =
     end-left (scalar_rest r) q _ k m
     (λ y i. absurd (subst (In y) (drop-none r.outputs k.next (leb→le (length r.outputs) k.next (T_of f))) i))
 turn-scalar r q k m false f =
-    scalar-left q r k (tick_of m) (nleb→lt (length r.outputs) k.next (not_t (leb (length r.outputs) k.next) (λ t. subst T f t)))
+    scalar-left q r k (tick_of m) (nleb→lt (length r.outputs) k.next (not_T (leb (length r.outputs) k.next) (λ t. subst T f t)))
 
 pub resting : (r : Row) → Asc 0 r.outputs → Resting r
 unfolding next_output
