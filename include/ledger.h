@@ -1,5 +1,5 @@
 /*
- * The learned-row ledger of the oven panel, for C. Link target/staticlib/libboundary.a (made by `rt staticlib boundary`; x86-64).
+ * The learned-row ledger of the oven panel, for C. Link target/staticlib/libboundary.a (made by `tests/staticlib boundary`; x86-64).
  *
  * Every function works on words of 64 bits that the caller lends for the time of the call. It allocates nothing, keeps nothing between
  * calls, always returns, and asks nothing of the numbers and words: each is proved for every value of them. Of the pointers it asks what C

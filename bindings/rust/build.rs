@@ -1,4 +1,4 @@
-//! Says where the static library is: in `LEDGER_LIBRARY`, or where `rt staticlib boundary` writes it.
+//! Says where the static library is: in `LEDGER_LIBRARY`, or where `tests/staticlib boundary` writes it.
 
 use std::path::PathBuf;
 

@@ -5,7 +5,7 @@
 //! is changed. No method panics.
 //!
 //! ```text
-//! rt staticlib boundary
+//! tests/staticlib boundary
 //! rustc --edition 2024 --crate-type rlib --crate-name ledger -L target/staticlib bindings/rust/src/lib.rs
 //! rustc --edition 2024 --extern ledger=libledger.rlib program.rs
 //! ```

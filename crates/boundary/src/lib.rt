@@ -21,7 +21,6 @@ use wire::{
 };
 
 // Make: the fresh header, every slot and posting 0; refused by 1 or 2.
-#[unsafe(no_mangle)]
 pub extern "C" fn ledger_make(
     limits: &[u64; LIMITS_WORDS],
     number: u64,
@@ -45,7 +44,6 @@ pub extern "C" fn ledger_make(
 }
 
 // Begin: the header with full true; refused by 1, 2 or 3.
-#[unsafe(no_mangle)]
 pub extern "C" fn ledger_begin(
     head: &mut [u64; HEADER_WORDS],
     answer: &mut [u64; ANSWER_WORDS],
@@ -68,7 +66,6 @@ pub extern "C" fn ledger_begin(
 }
 
 // Hit: one hit more, not shared yet, for the row at a position; refused by 1, 2, 3 or 5.
-#[unsafe(no_mangle)]
 pub extern "C" fn ledger_hit(
     head: &mut [u64; HEADER_WORDS],
     answer: &mut [u64; ANSWER_WORDS],
@@ -92,7 +89,6 @@ pub extern "C" fn ledger_hit(
 }
 
 // Deduce: what the row at a position says of a region; refused by 1, 2, 3, 5 or 6.
-#[unsafe(no_mangle)]
 pub extern "C" fn ledger_deduce(
     head: &[u64; HEADER_WORDS],
     answer: &mut [u64; ANSWER_WORDS],
@@ -129,7 +125,6 @@ pub extern "C" fn ledger_deduce(
 }
 
 // Next output: the next output of the row at a position, and the cursor past it; refused by 1, 2, 3, 5, 6 or 8.
-#[unsafe(no_mangle)]
 pub extern "C" fn ledger_next_output(
     head: &[u64; HEADER_WORDS],
     answer: &mut [u64; ANSWER_WORDS],
@@ -169,7 +164,6 @@ pub extern "C" fn ledger_next_output(
 }
 
 // Decide: holds an atom of a region, or cuts it if `value` is 0; refused by 6.
-#[unsafe(no_mangle)]
 pub extern "C" fn ledger_decide(
     answer: &mut [u64; ANSWER_WORDS],
     atoms: u64,
@@ -192,7 +186,6 @@ pub extern "C" fn ledger_decide(
 }
 
 // Offer: a row given to the ledger; refused by 1, 2, 3 or 4.
-#[unsafe(no_mangle)]
 pub extern "C" fn ledger_offer(
     head: &mut [u64; HEADER_WORDS],
     answer: &mut [u64; ANSWER_WORDS],
@@ -230,7 +223,6 @@ pub extern "C" fn ledger_offer(
 }
 
 // Candidates: the rows to be looked at after atoms were decided, in `found`; refused by 1, 2 or 3.
-#[unsafe(no_mangle)]
 pub extern "C" fn ledger_candidates(
     head: &mut [u64; HEADER_WORDS],
     answer: &mut [u64; ANSWER_WORDS],
@@ -266,7 +258,6 @@ pub extern "C" fn ledger_candidates(
 }
 
 // Close: a region closed under the rows; both scratches end as zeros; refused by 1, 2, 3 or 6.
-#[unsafe(no_mangle)]
 pub extern "C" fn ledger_close(
     head: &mut [u64; HEADER_WORDS],
     answer: &mut [u64; ANSWER_WORDS],
@@ -309,7 +300,6 @@ pub extern "C" fn ledger_close(
 }
 
 // Seed: a tier takes the rows of a store; refused by the tier's 1, 2 or 3, the store's 1, 2 or 3, or 7.
-#[unsafe(no_mangle)]
 pub extern "C" fn ledger_seed(
     tier: &mut [u64; HEADER_WORDS],
     store: &mut [u64; HEADER_WORDS],
@@ -351,7 +341,6 @@ pub extern "C" fn ledger_seed(
 }
 
 // Deliver: a store takes the rows of a tier; refused as Seed is.
-#[unsafe(no_mangle)]
 pub extern "C" fn ledger_deliver(
     tier: &mut [u64; HEADER_WORDS],
     store: &mut [u64; HEADER_WORDS],

@@ -147,5 +147,5 @@ module _ (h : Header) (slots postings atoms : List ℕ) (m : Meter) where
 -- a search keeps its header
 pub searched-header : (h : Header) (ps atoms : List ℕ) (t : Tick) → (searched h ps atoms t).header ≡ h
 unfolding searched
-searched-header h ps atoms (Ticked m) = refl
-searched-header h ps atoms (Stopped m) = refl
+searched-header h _ _ (Ticked _) = refl
+searched-header h _ _ (Stopped _) = refl

@@ -1,7 +1,8 @@
 -- Words written part by part, and a proposal so written. Assumes nothing.
-use mathlib.Core.Path.{◌≡◌, sym, ◌∙◌, ap, ap₂}
+use mathlib.Core.Path.{◌≡◌, refl, sym, ◌∙◌, ap, ap₂}
+use mathlib.Core.Logic.{inl, inr}
 use mathlib.Core.Bool.{true}
-use mathlib.Core.List.{List, ◌∷◌, ◌++◌, append_assoc, append-nil}
+use mathlib.Core.List.{List, [], ◌∷◌, ◌++◌, append_assoc, append-nil}
 use Prim.Native.Nat.{ℕ, suc, ◌+◌, ◌-◌, ◌≤◌}
 use native.Mathlib.Omega.{arith}
 use lib.ListN.{length, take, drop, replicate, length-append, length-drop}
@@ -10,9 +11,14 @@ use borrow.Rule.Slice.PartMut.{put_mid, mid_of, Post-is}
 use Rattle.lists.specs.Lists.{pad, put}
 use Rattle.lists.proofs.Puts.{length-put}
 use Rattle.lists.proofs.Pads.{drop-zeros}
+use types.Run.{OneOf}
+use denote.Enum.Declared.{tag_of}
 use Rattle.meter.specs.declared.Meter.{Meter}
 use Rattle.meter.specs.declared.Account.{Account}
 use Rattle.meter.specs.declared.Judged.{Judged}
+use Rattle.meter.specs.declared.Verdict.{Verdict}
+use Rattle.meter.specs.declared.Verdict.TheVariants as verdict
+use Rattle.meter.specs.contracts.Verdict.{the_type}
 use Rattle.meter.specs.Meter.{pay, judged}
 use Rattle.model.specs.Records.{Row, literals, slot_words, max_conditions, max_outputs, body_at, body_words}
 use Rattle.slots.specs.Layout.{proposal, row_of}
@@ -99,3 +105,10 @@ pub literals-both : (r : Row) (a : Account) (m : Meter)
     on_yes i.verdict i (judged true (pay (length r.outputs) i.account i.meter)) ≡ judged true (pay (literals r) a m)
 unfolding literals
 literals-both r a m = ask-both true true (length r.conditions) (length r.outputs) a m
+
+-- a verdict other than yes is one of the three others
+pub others : (v : Verdict) → (v ≡ verdict.Yes → ⊥) → OneOf (1 ∷ 2 ∷ 3 ∷ []) (tag_of the_type v)
+others verdict.Yes h = absurd (h refl)
+others verdict.No h = inl refl
+others verdict.Declined h = inr (inl refl)
+others verdict.Stopped h = inr (inr refl)

@@ -37,9 +37,9 @@ loop-i-preserved c =
     let m = down-more a.atoms a.shift a.codes.now c.loop-i.i c.loop-i.invariant.0 l c.if-y-shift.false c.loop-i.invariant.2 in
     elim c.if-x-y.branch [
       | then-x-y w ↦ let t = down-other a.atoms a.shift a.codes.now c.loop-i.i c.loop-i.invariant.0 l w.if-x-y.true in
-          (omega arith, omega (arith, w.FIXME-is), m, omega (arith, w.FIXME-is, c.loop-i.invariant.3))
+          (omega arith, omega (arith, w.count-is), m, omega (arith, w.count-is, c.loop-i.invariant.3))
       | else-x-y w ↦ let t = down-same a.atoms a.shift a.codes.now c.loop-i.i c.loop-i.invariant.0 l w.if-x-y.false in
-          (omega arith, omega (arith, w.FIXME-is), m, omega (arith, w.FIXME-is, c.loop-i.invariant.3))
+          (omega arith, omega (arith, w.count-is), m, omega (arith, w.count-is, c.loop-i.invariant.3))
     ]
 
 pub returns : goal.returns

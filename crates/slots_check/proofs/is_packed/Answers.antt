@@ -5,7 +5,7 @@ use Rattle.slots_check.proofs.is_packed.Goals as goal
 
 pub returns-then-w-gt-MAX_GROUPS : goal.returns-then-w-gt-MAX_GROUPS
 returns-then-w-gt-MAX_GROUPS c =
-    packed-many c.args.atoms c.args.slot.now c.requires.fact_2.0 c.requires.fact_2.1 c.if-w-gt-MAX_GROUPS.true
+    packed-many c.args.atoms c.args.slot.now c.requires.fact_2 c.requires.fact_3 c.if-w-gt-MAX_GROUPS.true
 
 pub returns-then-w-g : goal.returns-then-w-g
 returns-then-w-g c =
@@ -19,17 +19,17 @@ returns-then-nc-no c =
 
 pub returns-then-group_codes-nc : goal.returns-then-group_codes-nc
 returns-then-group_codes-nc c =
-    packed-conditions c.args.atoms c.args.slot.now c.requires.fact_2.0 c.requires.fact_2.1 _ c.group_codes.ensures
+    packed-conditions c.args.atoms c.args.slot.now c.requires.fact_2 c.requires.fact_3 _ c.group_codes.ensures
     c.if-group_codes-nc.true
 
 pub returns-then-group_codes-no : goal.returns-then-group_codes-no
 returns-then-group_codes-no c =
-    packed-outputs c.args.atoms c.args.slot.now c.requires.fact_2.0 c.requires.fact_2.1
+    packed-outputs c.args.atoms c.args.slot.now c.requires.fact_2 c.requires.fact_3
     c.if-w-g.false _ c.group_codes-2.ensures c.if-group_codes-no.true
 
 pub returns : goal.returns
 returns c =
-    packed-rest c.args.atoms c.args.slot.now c.requires.fact_2.0 c.requires.fact_2.1
+    packed-rest c.args.atoms c.args.slot.now c.requires.fact_2 c.requires.fact_3
     c.if-w-g.false _
     c.if-nc-no.false
     (sym c.group_codes.ensures ∙ c.if-group_codes-nc.false)

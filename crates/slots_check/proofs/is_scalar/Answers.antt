@@ -32,24 +32,24 @@ few s =
     let x = length-take ((body_at + get_or ws conditions_at 0) - body_at) (drop body_at ws) in
     let y = length-take ((body_at + get_or ws conditions_at 0 + get_or ws outputs_at 0) - (body_at + get_or ws conditions_at 0))
     (drop (body_at + get_or ws conditions_at 0) ws) in
-    (omega (arith, s.requires.fact_2.0), omega (arith, s.requires.fact_2.1.0))
+    (omega (arith, s.requires.fact_2), omega (arith, s.requires.fact_3))
 
 -- what the number of groups says of them
 
-first : (c : Else-g-eq-NO_SIDE) → (climbs c.args.atoms 1 (conditions FIXME-place-Start) ≡ true) × (c.code_groups-g.result ≡ runs 7 (conditions FIXME-place-Start))
+first : (c : Else-g-eq-NO_SIDE) → (climbs c.args.atoms 1 (conditions (goal.at.Else-g-eq-NO_SIDE c).Start) ≡ true) × (c.code_groups-g.result ≡ runs 7 (conditions (goal.at.Else-g-eq-NO_SIDE c).Start))
 first c =
-    groups-pass c.args.atoms 1 (conditions FIXME-place-Start) c.code_groups-g.result c.code_groups-g.ensures
-    (omega (arith, (few FIXME-place-Start).0)) c.if-g-eq-NO_SIDE.false
+    groups-pass c.args.atoms 1 (conditions (goal.at.Else-g-eq-NO_SIDE c).Start) c.code_groups-g.result c.code_groups-g.ensures
+    (omega (arith, (few (goal.at.Else-g-eq-NO_SIDE c).Start).0)) c.if-g-eq-NO_SIDE.false
 
-second : (c : Else-h-eq-NO_SIDE) → (climbs c.args.atoms 0 (outputs FIXME-place-Start) ≡ true) × (c.code_groups-h.result ≡ runs 7 (outputs FIXME-place-Start))
+second : (c : Else-h-eq-NO_SIDE) → (climbs c.args.atoms 0 (outputs (goal.at.Else-h-eq-NO_SIDE c).Start) ≡ true) × (c.code_groups-h.result ≡ runs 7 (outputs (goal.at.Else-h-eq-NO_SIDE c).Start))
 second c =
-    groups-pass c.args.atoms 0 (outputs FIXME-place-Start) c.code_groups-h.result c.code_groups-h.ensures
-    (omega (arith, (few FIXME-place-Start).1)) c.if-h-eq-NO_SIDE.false
+    groups-pass c.args.atoms 0 (outputs (goal.at.Else-h-eq-NO_SIDE c).Start) c.code_groups-h.result c.code_groups-h.ensures
+    (omega (arith, (few (goal.at.Else-h-eq-NO_SIDE c).Start).1)) c.if-h-eq-NO_SIDE.false
 
 small : (c : Else-h-eq-NO_SIDE) → c.code_groups-g.result + c.code_groups-h.result ≤ max_conditions + max_outputs
 small c =
-    let f = few FIXME-place-Start in
-    omega (arith, (first FIXME-place-Else2).1, (second c).1, runs-le 7 (conditions FIXME-place-Start), runs-le 7 (outputs FIXME-place-Start))
+    let f = few (goal.at.Else-h-eq-NO_SIDE c).Start in
+    omega (arith, (first (goal.at.Else-h-eq-NO_SIDE c).Else-g-eq-NO_SIDE).1, (second c).1, runs-le 7 (conditions (goal.at.Else-h-eq-NO_SIDE c).Start), runs-le 7 (outputs (goal.at.Else-h-eq-NO_SIDE c).Start))
 
 pub returns-then-slot-ne0 : goal.returns-then-slot-ne0
 returns-then-slot-ne0 c = scalar-groups c.args.atoms c.args.slot.now c.if-slot-ne0.true

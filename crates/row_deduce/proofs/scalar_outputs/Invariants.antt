@@ -1,0 +1,13 @@
+-- where the tick is made
+use Prim.Native.Nat.{◌-◌, ◌≤◌}
+use Rattle.words.specs.Region.{region}
+use Rattle.row_deduce.proofs.Turns.{Passing}
+use Rattle.row_deduce.proofs.scalar_outputs.Given as goal
+
+-- `row_deduce::scalar_outputs`: the walk from here on is the walk from the start, code by code. Assumes nothing.
+abbrev pub invariant-loop-g : goal.invariant-loop-g
+invariant-loop-g l =
+    (l.g ≤ l.side.count) × Passing (region l.held l.cut) l.slot l.side l.initial.meter l.g l.meter
+
+abbrev pub decreases-loop-g : goal.decreases-loop-g
+decreases-loop-g l = l.side.count - l.g

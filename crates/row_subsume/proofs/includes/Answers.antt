@@ -1,0 +1,213 @@
+use native.Mathlib.Omega.{arith}
+use mathlib.Core.Path.{◌≡◌, refl, sym, ap, ap₂, ◌∙◌, subst}
+use mathlib.Core.Logic.{⊎_elim}
+use mathlib.Core.Bool.{Bool, true, false}
+use mathlib.Core.List.{List, [], ◌∷◌}
+use Prim.Native.Nat.{ℕ, ◌<◌}
+use lib.ListN.{length}
+use Rattle.meter.specs.declared.Judged.{Judged}
+use Rattle.meter.specs.declared.Account.{Account}
+use Rattle.meter.specs.declared.Meter.{Meter}
+use Rattle.meter.specs.Meter.{pay_one, pay, judged}
+use Rattle.slots.specs.Cursor.{rest, rest-start, given, Placed, PlacedStep, list_of}
+use Rattle.meter.specs.declared.Payment.TheVariants as Charge
+use Rattle.meter.specs.Payment.{payment_of}
+use Rattle.row_subsume.proofs.Including.{included, include-all, include-ended, include-none, include-less, include-equal}
+use Rattle.row_subsume.proofs.Including.{include-greater}
+use Rattle.row_subsume.proofs.includes.Goals.{Start}
+use Rattle.row_subsume.proofs.includes.Goals.{Then-w-c}
+use Rattle.row_subsume.proofs.includes.Goals.{After-next, At-loop-p, At-wanted, In-Literal, In-Literal-next, In_default, In_default-next, Start, Then-w-c}
+use Rattle.row_subsume.proofs.includes.Goals as goal
+
+module _ (c : At-wanted) where
+  abbrev A : List ℕ
+  A = c.args.a.now
+
+  abbrev B : List ℕ
+  B = c.args.b.now
+
+  abbrev left : List ℕ
+  left = rest A c.args.candidates c.wanted.have
+
+  -- what is left at the outer loop is the whole
+
+  whole : included left (rest B c.args.wanted c.wanted.want) c.wanted.account c.wanted.meter
+      ≡ included (list_of A c.args.candidates) (list_of B c.args.wanted) c.args.account c.args.work
+  whole =
+      c.wanted.invariant.2
+      ∙ ap₂ (λ (x y : List ℕ). included x y c.args.account c.args.work)
+      (ap (rest A c.args.candidates) c.start-have.ensures ∙ rest-start A c.args.candidates)
+      (ap (rest B c.args.wanted) c.start-want.ensures ∙ rest-start B c.args.wanted)
+
+-- the wanted literal w is taken up
+
+module _ (c : In-Literal) where
+  abbrev w : ℕ
+  w = c.in-Literal.w
+
+  abbrev ws : List ℕ
+  ws = rest (B (goal.at.In-Literal c).At-wanted) c.args.wanted c.in-Literal.k
+
+  taken-w : rest (B (goal.at.In-Literal c).At-wanted) c.args.wanted c.wanted.want ≡ w ∷ ws
+  taken-w =
+      sym c.next.ensures.0
+      ∙ ap (given (B (goal.at.In-Literal c).At-wanted) c.args.wanted) c.in-Literal.is
+
+  placed-w : Placed c.args.wanted c.in-Literal.k
+  placed-w =
+      subst (PlacedStep c.args.wanted) c.in-Literal.is c.next.ensures.1
+
+module _ (c : At-loop-p) where
+  abbrev cs : List ℕ
+  cs = rest (A (goal.at.At-loop-p c).At-wanted) c.args.candidates c.loop-p.have
+
+  -- the question as it stands at the inner loop, of the candidates l
+
+  abbrev asks : List ℕ → Judged
+  asks l = included l (w (goal.at.At-loop-p c).In-Literal ∷ ws (goal.at.At-loop-p c).In-Literal) c.loop-p.account c.loop-p.meter
+
+  -- what is left at the inner loop is what was left at the outer one
+
+  back : asks cs ≡ included (left (goal.at.At-loop-p c).At-wanted) (rest (B (goal.at.At-loop-p c).At-wanted) c.args.wanted c.wanted.want) c.wanted.account c.wanted.meter
+  back =
+      c.loop-p.invariant.1
+      ∙ ap (λ (l : List ℕ). included (left (goal.at.At-loop-p c).At-wanted) l c.wanted.account c.wanted.meter) (sym (taken-w (goal.at.At-loop-p c).In-Literal))
+
+-- the candidate k is met
+
+module _ (c : In-Literal-next) where
+  abbrev k : ℕ
+  k = c.in-Literal-next.c
+
+  abbrev more : List ℕ
+  more = rest (A (goal.at.In-Literal-next c).At-wanted) c.args.candidates c.in-Literal-next.h
+
+  taken-c : cs (goal.at.In-Literal-next c).At-loop-p ≡ k ∷ more
+  taken-c =
+      sym c.next-in-loop-p.ensures.0
+      ∙ ap (given (A (goal.at.In-Literal-next c).At-wanted) c.args.candidates) c.in-Literal-next.is
+
+  placed-c : Placed c.args.candidates c.in-Literal-next.h
+  placed-c =
+      subst (PlacedStep c.args.candidates) c.in-Literal-next.is c.next-in-loop-p.ensures.1
+
+  payment : Charge.Paid c.in-Paid.p
+      c.in-Paid.m
+      ≡ payment_of (pay_one c.loop-p.account c.loop-p.meter)
+  payment =
+      sym c.in-Paid.is ∙ c.pay_read.ensures
+
+-- ---- the ways out of both loops: what is answered after them is the whole question
+
+abbrev asked : Start → Judged
+asked s =
+    included (list_of s.args.a.now s.args.candidates) (list_of s.args.b.now s.args.wanted)
+    s.args.account s.args.work
+
+-- nothing is wanted any more
+
+module _ (c : In_default) where
+  all_found : judged true (pay 0 c.wanted.account c.wanted.meter) ≡ asked (goal.at.In_default c).Start
+  all_found =
+      let e : rest (B (goal.at.In_default c).At-wanted) c.args.wanted c.wanted.want ≡ []
+      = sym c.next.ensures.0 ∙ ap (given (B (goal.at.In_default c).At-wanted) c.args.wanted) c.in_default.is in
+      include-all (left (goal.at.In_default c).At-wanted) _ _
+      ∙ ap (λ (l : List ℕ). included (left (goal.at.In_default c).At-wanted) l c.wanted.account c.wanted.meter) (sym e) ∙ whole (goal.at.In_default c).At-wanted
+
+-- the candidates end
+
+module _ (c : In_default-next) where
+  none_left : judged false (pay 0 c.in-Paid.p c.in-Paid.m) ≡ asked (goal.at.In_default-next c).Start
+  none_left =
+      let e : cs (goal.at.In_default-next c).At-loop-p ≡ []
+      = sym c.next-in-loop-p.ensures.0
+      ∙ ap (given (A (goal.at.In_default-next c).At-wanted) c.args.candidates) c.in_default-next.is in
+      include-none (w (goal.at.In_default-next c).In-Literal) (ws (goal.at.In_default-next c).In-Literal) _ _ (sym c.in-Paid.is ∙ c.pay_read.ensures)
+      ∙ ap (asks (goal.at.In_default-next c).At-loop-p) (sym e) ∙ back (goal.at.In_default-next c).At-loop-p ∙ whole (goal.at.In_default-next c).At-wanted
+
+-- a candidate is greater
+
+passed : (c : Then-w-c)
+    → judged false (pay 0 c.in-Paid.p c.in-Paid.m) ≡ asked (goal.at.Then-w-c c).Start
+passed c =
+    include-greater (w (goal.at.Then-w-c c).In-Literal) (ws (goal.at.Then-w-c c).In-Literal) _ _ (payment (goal.at.Then-w-c c).In-Literal-next) (k (goal.at.Then-w-c c).In-Literal-next) (more (goal.at.Then-w-c c).In-Literal-next) c.if-w-c.true
+    ∙ ap (asks (goal.at.Then-w-c c).At-loop-p) (sym (taken-c (goal.at.Then-w-c c).In-Literal-next)) ∙ back (goal.at.Then-w-c c).At-loop-p ∙ whole (goal.at.Then-w-c c).At-wanted
+
+same-judged : {b d : Bool} {a e : Account} {m k : Meter} → b ≡ d → a ≡ e → m ≡ k → judged b (pay 0 a m) ≡ judged d (pay 0 e k)
+same-judged f g h = rw (f, g, h) refl
+
+pub wanted-init : goal.wanted-init
+wanted-init c =
+    let s : Placed c.args.candidates c.start-have.result =
+    rw c.start-have.ensures (omega arith, omega arith) in
+    let t : Placed c.args.wanted c.start-want.result =
+    rw c.start-want.ensures (omega arith, omega arith) in
+    (s, t, refl)
+
+pub returns-in-Ended : goal.returns-in-Ended
+returns-in-Ended c =
+    let at_at_loop_p = (goal.at.returns-in-Ended c).At-loop-p in
+    let at_in_literal = (goal.at.returns-in-Ended c).In-Literal in
+    include-ended (w at_in_literal) (ws at_in_literal) _ _ (cs at_at_loop_p) (sym c.in-Ended.is ∙ c.pay_read.ensures)
+    ∙ back at_at_loop_p ∙ whole (goal.at.returns-in-Ended c).At-wanted
+
+pub wanted-smaller : goal.wanted-smaller
+wanted-smaller c = omega (arith, ap length (taken-w (goal.at.wanted-smaller c).In-Literal))
+
+pub wanted-preserved : goal.wanted-preserved
+wanted-preserved c =
+    let at_at_loop_p = (goal.at.wanted-preserved c).At-loop-p in
+    let at_in_literal = (goal.at.wanted-preserved c).In-Literal in
+    let at_in_literal_next = (goal.at.wanted-preserved c).In-Literal-next in (
+      placed-c at_in_literal_next,
+      placed-w at_in_literal,
+      include-equal (w at_in_literal) (ws at_in_literal) _ _ (payment at_in_literal_next) (k at_in_literal_next) (more at_in_literal_next) c.if-c-w.true
+          ∙ ap (asks at_at_loop_p) (sym (taken-c at_in_literal_next)) ∙ back at_at_loop_p ∙ c.wanted.invariant.2,
+    )
+
+pub loop-p-smaller : goal.loop-p-smaller
+loop-p-smaller c = omega (arith, ap length (taken-c (goal.at.loop-p-smaller c).In-Literal-next))
+
+pub loop-p-preserved : goal.loop-p-preserved
+loop-p-preserved c =
+    let at_in_literal = (goal.at.loop-p-preserved c).In-Literal in
+    let at_in_literal_next = (goal.at.loop-p-preserved c).In-Literal-next in
+    let n = c.if-c-w.false in
+    let h : k at_in_literal_next < w at_in_literal = omega arith in (
+      placed-c at_in_literal_next,
+      include-less (w at_in_literal) (ws at_in_literal) _ _ (payment at_in_literal_next) (k at_in_literal_next) (more at_in_literal_next) h ∙ ap (asks (goal.at.loop-p-preserved c).At-loop-p) (sym (taken-c at_in_literal_next))
+          ∙ c.loop-p.invariant.1,
+    )
+
+-- which way out was taken: a way tells what stood on it, from the next wanted literal on
+
+pub returns : goal.returns
+returns c =
+    let at_after_next = (goal.at.returns c).After-next in
+    c.answer.ensures
+    ∙ ⊎_ELIM
+    (λ x. same-judged x.4 x.2 x.3 ∙ all_found (record { before = record { before = at_after_next; match = x.0 }; enum_told = x.1 }))
+    (⊎_elim
+    (λ x.
+    let r : tie.After-known-told invariant-loop decreases-loop invariant-wanted decreases-wanted
+    = record { before = record { before = record { before = at_after_next; match = x.0 }; w = x.1 }; known-told = x.2 } in
+    let q : tie.After-pay-read invariant-loop decreases-loop invariant-wanted decreases-wanted
+    = record { before = record { before = r; loop = x.3 }; pay-read = x.4 } in
+    let p : tie.After-p invariant-loop decreases-loop invariant-wanted decreases-wanted
+    = record { before = record { before = q; match2 = x.5 }; p = x.6 } in
+    let n : tie.After-next2 invariant-loop decreases-loop invariant-wanted decreases-wanted
+    = record { before = record { before = p; known-told2 = x.7 }; next2 = x.8 } in
+    same-judged x.13 x.11 x.12 ∙ none_left (record { before = record { before = n; match3 = x.9 }; enum-told2 = x.10 }))
+    (λ x.
+    let r : tie.After-known-told invariant-loop decreases-loop invariant-wanted decreases-wanted
+    = record { before = record { before = record { before = at_after_next; match = x.0 }; w = x.1 }; known-told = x.2 } in
+    let q : tie.After-pay-read invariant-loop decreases-loop invariant-wanted decreases-wanted
+    = record { before = record { before = r; loop = x.3 }; pay-read = x.4 } in
+    let p : tie.After-p invariant-loop decreases-loop invariant-wanted decreases-wanted
+    = record { before = record { before = q; match2 = x.5 }; p = x.6 } in
+    let n : tie.After-next2 invariant-loop decreases-loop invariant-wanted decreases-wanted
+    = record { before = record { before = p; known-told2 = x.7 }; next2 = x.8 } in
+    let u : tie.After-known-told4 invariant-loop decreases-loop invariant-wanted decreases-wanted
+    = record { before = record { before = record { before = n; match3 = x.9 }; c = x.10 }; known-told4 = x.11 } in
+    same-judged x.16 x.14 x.15 ∙ passed (record { before = record { before = u; if1 = x.12 }; if2 = x.13 })))
+    c.match-next.branch
