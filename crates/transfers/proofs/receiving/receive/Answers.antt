@@ -2,7 +2,8 @@
 use mathlib.Core.Path.{◌≡◌, sym, ap, ◌∙◌}
 use Prim.Native.Nat.{ℕ, suc}
 use Rattle.meter.specs.declared.Read.{Read}
-use Rattle.meter.specs.Meter.{and_then, pay, pay-suc}
+use Rattle.meter.specs.Meter.{and_then, pay}
+use Rattle.meter.proofs.Laws.{pay-suc}
 use Rattle.model.specs.Records.{literals}
 use Rattle.model.specs.Slots.{row_in}
 use Rattle.contents.specs.Lent.{lent}
