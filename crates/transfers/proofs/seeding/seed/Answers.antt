@@ -26,15 +26,13 @@ module _ (t : Start) where
   S = lent t.args.store t.args.store_slots.now t.args.store_postings.now
 
   -- the tier's born is a word
-
   born-fits : t.args.tier.born ≤ max_word
-  born-fits = omega (arith, t.good.0.1.1.1.0)
+  born-fits = omega arith
 
   store-taken : transfer_refusal T S ≡ none → Accepted t.args.store t.args.store_slots.now t.args.store_postings.now
   store-taken e = accepted t.args.store t.args.store_slots.now t.args.store_postings.now true [] (store-accepted T S e)
 
 -- neither is refused
-
 module _ (c : Else-n-ne0) where
   none_is : transfer_refusal (T (goal.at.Else-n-ne0 c).Start) (S (goal.at.Else-n-ne0 c).Start) ≡ none
   none_is = sym c.refusal-n.ensures ∙ ap refused_by c.if-n-ne0.false
@@ -42,9 +40,9 @@ module _ (c : Else-n-ne0) where
 pub returns-then-n-ne0 : goal.returns-then-n-ne0
 returns-then-n-ne0 c =
     let a = c.args in
-    ap (λ r. transfer_end r a.tier-slots.now a.tier-postings.now a.store-slots.now a.store-postings.now)
+    ap (λ r. transfer_end r a.tier_slots.now a.tier_postings.now a.store_slots.now a.store_postings.now)
     c.untransferred.ensures
-    ∙ seed-refused a.tier a.store a.tier-slots.now a.tier-postings.now a.store-slots.now a.store-postings.now
+    ∙ seed-refused a.tier a.store a.tier_slots.now a.tier_postings.now a.store_slots.now a.store_postings.now
     a.work _
     (sym c.refusal-n.ensures ∙ refused_by-some _ c.if-n-ne0.true)
 
@@ -53,8 +51,8 @@ seed_rows-transfer-requires c =
     let at_else_n_ne0 = (goal.at.seed_rows-transfer-requires c).Else-n-ne0 in
     let at_start = (goal.at.seed_rows-transfer-requires c).Start in
     let a = c.args in record {
-      fact_1 = accepted-stood a.tier a.tier-slots.now a.tier-postings.now true [] (tier-accepted (T at_start) (S at_start) (none_is at_else_n_ne0)) (born-fits at_start);
-      fact_2 = giving a.tier.limits.atoms a.store a.store-slots.now a.store-postings.now (store-taken at_start (none_is at_else_n_ne0))
+      fact_1 = accepted-stood a.tier a.tier_slots.now a.tier_postings.now true [] (tier-accepted (T at_start) (S at_start) (none_is at_else_n_ne0)) (born-fits at_start);
+      fact_2 = giving a.tier.limits.atoms a.store a.store_slots.now a.store_postings.now (store-taken at_start (none_is at_else_n_ne0))
           (atoms-same (T at_start) (S at_start) (none_is at_else_n_ne0));
     }
 
@@ -62,8 +60,8 @@ pub returns : goal.returns
 returns c =
     let at_else_n_ne0 = (goal.at.returns c).Else-n-ne0 in
     let a = c.args in
-    seed-done a.tier a.store a.tier-slots.now a.tier-postings.now a.store-slots.now a.store-postings.now a.work
-    a.tier.limits.atoms a.store.rows c.mark_for-upto.result c.mark_for-upto.ensures c.seed_rows-transfer.result c.seed_rows-transfer.last.1.0
-    c.seed_rows-transfer.last.1.1.0 c.seed_rows-transfer.ensures
-    (none_is at_else_n_ne0) (accepted-lent a.store a.store-slots.now a.store-postings.now (store-taken (goal.at.returns c).Start (none_is at_else_n_ne0)))
+    seed-done a.tier a.store a.tier_slots.now a.tier_postings.now a.store_slots.now a.store_postings.now a.work
+    a.tier.limits.atoms a.store.rows c.mark_for-upto.result c.mark_for-upto.ensures c.seed_rows-transfer.result c.seed_rows-transfer.new.slots
+    c.seed_rows-transfer.new.postings c.seed_rows-transfer.ensures
+    (none_is at_else_n_ne0) (accepted-lent a.store a.store_slots.now a.store_postings.now (store-taken (goal.at.returns c).Start (none_is at_else_n_ne0)))
     c.seeded.ensures

@@ -26,7 +26,6 @@ module _ (t : Start) where
   long = (laid-stored t.args.transfer.header.limits.atoms R t.requires.stored).long
 
 -- a row born after the mark
-
 module _ (c : After-receive-kept) where
   abbrev K : Retention
   K = c.receive-kept.result
@@ -35,13 +34,13 @@ module _ (c : After-receive-kept) where
   W = c.receive-kept.new.slots
 
   abbrev P : List ℕ
-  P = c.receive-kept.new.slots
+  P = c.receive-kept.new.postings
 
 pub bounds-row-6 : goal.bounds-row-6
 bounds-row-6 c = omega (arith, long (goal.at.bounds-row-6 c).Start)
 
 pub returns-then-row-mark : goal.returns-then-row-mark
-returns-then-row-mark c =
+returns-then-row-mark c n m v h =
     let at_start = (goal.at.returns-then-row-mark c).Start in
     row-past n m c.args.transfer (S at_start) (Q at_start) v h (R at_start) c.args.limits c.args.mark c.if-row-mark.true c.tick_past.ensures
 
@@ -68,12 +67,11 @@ mark_delivered-requires c =
 
 pub overflow_add-added : goal.overflow_add-added
 overflow_add-added c =
-    let s =
-    c.requires in
+    let s = c.requires in
     omega (arith, s.carried.added, s.carried.few, s.room)
 
 pub returns-in-Stopped : goal.returns-in-Stopped
-returns-in-Stopped c =
+returns-in-Stopped c n m v h =
     let at_after_receive_kept = (goal.at.returns-in-Stopped c).After-receive-kept in
     let at_start = (goal.at.returns-in-Stopped c).Start in
     row-stopped n m c.args.transfer (S at_start) (Q at_start) v h (R at_start) c.args.limits c.args.mark c.requires.stored
@@ -81,7 +79,7 @@ returns-in-Stopped c =
     c.in-Stopped.is c.passed.ensures
 
 pub returns-in-Declined : goal.returns-in-Declined
-returns-in-Declined c =
+returns-in-Declined c n m v h =
     let at_after_receive_kept = (goal.at.returns-in-Declined c).After-receive-kept in
     let at_start = (goal.at.returns-in-Declined c).Start in
     row-declined n m c.args.transfer (S at_start) (Q at_start) v h (R at_start) c.args.limits c.args.mark
@@ -90,7 +88,7 @@ returns-in-Declined c =
     c.in-Declined.is c.passed-in-Declined.ensures
 
 pub returns-in-Subsumed : goal.returns-in-Subsumed
-returns-in-Subsumed c =
+returns-in-Subsumed c n m v h =
     let at_after_receive_kept = (goal.at.returns-in-Subsumed c).After-receive-kept in
     let at_start = (goal.at.returns-in-Subsumed c).Start in
     row-subsumed n m c.args.transfer (S at_start) (Q at_start) v h (R at_start) c.args.limits c.args.mark
@@ -99,7 +97,7 @@ returns-in-Subsumed c =
     _ c.in-Subsumed.is c.passed-in-Subsumed.ensures
 
 pub returns-in-Added : goal.returns-in-Added
-returns-in-Added c =
+returns-in-Added c n m v h =
     let at_after_receive_kept = (goal.at.returns-in-Added c).After-receive-kept in
     let at_start = (goal.at.returns-in-Added c).Start in
     row-added n m c.args.transfer (S at_start) (Q at_start) v h (R at_start) c.args.limits c.args.mark c.requires.stored

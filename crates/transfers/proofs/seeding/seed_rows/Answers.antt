@@ -34,7 +34,6 @@ module _ (l : At-loop-i) where
   part = take ((slot_words * l.loop-i.i + slot_words) - slot_words * l.loop-i.i) (drop (slot_words * l.loop-i.i) G)
 
   -- what the loop leaves, of the transfer from its start
-
   closing : (c : ℕ) (p : TransferState) (ws ps : List ℕ)
       → Carried h.limits.atoms c p ws ps (seed_rows h.limits l.args.mark es v₀) →
       Carried h.limits.atoms c p ws ps
@@ -46,12 +45,11 @@ module _ (l : At-loop-i) where
       l.start-transfer.ensures k
 
 -- a row is read
-
 module _ (c : After-seed_row-transfer) where
   abbrev w : Transfer
   w = seed_rows (h (goal.at.After-seed_row-transfer c).At-loop-i).limits c.args.mark (entry_in (part (goal.at.After-seed_row-transfer c).At-loop-i) ∷ []) c.loop-i.invariant.3.state
 
-  read : Carried (h (goal.at.After-seed_row-transfer c).At-loop-i).limits.atoms (suc c.loop-i.i) c.seed_row-transfer.result c.seed_row-transfer.new.slots c.seed_row-transfer.new.slots w
+  read : Carried (h (goal.at.After-seed_row-transfer c).At-loop-i).limits.atoms (suc c.loop-i.i) c.seed_row-transfer.result c.seed_row-transfer.new.slots c.seed_row-transfer.new.postings w
   read = c.seed_row-transfer.ensures (h (goal.at.After-seed_row-transfer c).At-loop-i).limits.atoms c.loop-i.i c.loop-i.invariant.3.state c.loop-i.invariant.3.carried
 
 pub loop-i-init : goal.loop-i-init
@@ -85,23 +83,22 @@ seed_row-transfer-requires c =
 
 pub shape_of-slots-in_default : goal.shape_of-slots-in_default
 shape_of-slots-in_default c =
-    c.seed_row-transfer.kept.1.0 ∙ c.loop-i.invariant.1
+    c.seed_row-transfer.auto.slots ∙ c.loop-i.invariant.1
 
 pub shape_of-postings-in_default : goal.shape_of-postings-in_default
 shape_of-postings-in_default c =
-    c.seed_row-transfer.kept.1.1.0 ∙ c.loop-i.invariant.2
+    c.seed_row-transfer.auto.postings ∙ c.loop-i.invariant.2
 
 pub returns-in_default : goal.returns-in_default
 returns-in_default c =
     let at_at_loop_i = (goal.at.returns-in_default c).At-loop-i in
-    let under : c.loop-i.i < c.args.rows =
-    c.loop-i-test.true in
-    closing at_at_loop_i c.args.rows c.seed_row-transfer.result c.seed_row-transfer.last.1.0 c.seed_row-transfer.last.1.1.0
+    let under : c.loop-i.i < c.args.rows = c.loop-i-test.true in
+    closing at_at_loop_i c.args.rows c.seed_row-transfer.result c.seed_row-transfer.new.slots c.seed_row-transfer.new.postings
     (seeding-stop (h at_at_loop_i).limits c.args.mark (es at_at_loop_i) (v₀ at_at_loop_i) (h at_at_loop_i).limits.atoms c.loop-i.i
     c.loop-i.transfer c.loop-i.slots c.loop-i.postings c.loop-i.invariant.3
     (entry_in (part at_at_loop_i)) (entries-part c.args.rows (G at_at_loop_i) c.loop-i.i under) c.seed_row-transfer.result
-    c.seed_row-transfer.last.1.0 c.seed_row-transfer.last.1.1.0 (read (goal.at.returns-in_default c).After-seed_row-transfer)
-    c.in_default.keys2 c.args.rows under)
+    c.seed_row-transfer.new.slots c.seed_row-transfer.new.postings (read (goal.at.returns-in_default c).After-seed_row-transfer)
+    c.in_default.not-Whole c.args.rows under)
 
 pub overflow_add-i : goal.overflow_add-i
 overflow_add-i c =
@@ -111,15 +108,14 @@ overflow_add-i c =
 pub loop-i-preserved : goal.loop-i-preserved
 loop-i-preserved c =
     let at_at_loop_i = (goal.at.loop-i-preserved c).At-loop-i in
-    let under : c.loop-i.i < c.args.rows =
-    c.loop-i-test.true in (
+    let under : c.loop-i.i < c.args.rows = c.loop-i-test.true in (
       omega arith,
-      c.seed_row-transfer.kept.1.0 ∙ c.loop-i.invariant.1,
-      c.seed_row-transfer.kept.1.1.0 ∙ c.loop-i.invariant.2,
+      c.seed_row-transfer.auto.slots ∙ c.loop-i.invariant.1,
+      c.seed_row-transfer.auto.postings ∙ c.loop-i.invariant.2,
       seeding-turn (h at_at_loop_i).limits c.args.mark (es at_at_loop_i) (v₀ at_at_loop_i) (h at_at_loop_i).limits.atoms c.loop-i.i
           c.loop-i.transfer c.loop-i.slots c.loop-i.postings c.loop-i.invariant.3
           (entry_in (part at_at_loop_i)) (entries-part c.args.rows (G at_at_loop_i) c.loop-i.i under) c.seed_row-transfer.result
-          c.seed_row-transfer.last.1.0 c.seed_row-transfer.last.1.1.0 (read (goal.at.loop-i-preserved c).After-seed_row-transfer)
+          c.seed_row-transfer.new.slots c.seed_row-transfer.new.postings (read (goal.at.loop-i-preserved c).After-seed_row-transfer)
           c.in-Whole.is,
     )
 

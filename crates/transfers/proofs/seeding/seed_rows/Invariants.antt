@@ -1,12 +1,11 @@
+-- `seed_rows` meets its contract: what is left of the rows, from here, is what was left at the start. Assumes nothing.
 use mathlib.Core.Path.{◌≡◌}
 use Prim.Native.Nat.{◌-◌, ◌≤◌}
 use lib.ListN.{length}
 use Rattle.model.specs.Slots.{entries_in}
-use Rattle.model.specs.Transfers.{seed_rows}
 use Rattle.transfers.proofs.RowsSeeded.{start_of, Seeding}
 use Rattle.transfers.proofs.seeding.seed_rows.Given as goal
 
--- `seed_rows` meets its contract: what is left of the rows, from here, is what was left at the start. Assumes nothing.
 abbrev pub invariant-loop-i : goal.invariant-loop-i
 invariant-loop-i l =
     (l.i ≤ l.rows) × (length l.slots ≡ length l.initial.slots) × (length l.postings ≡ length l.initial.postings)
