@@ -6,7 +6,7 @@ use Prim.Native.Nat.{ℕ, ◌≤◌, ◌<◌}
 use native.Mathlib.Nat.{le_refl, le_trans}
 use lib.Dec.{T, leb}
 use lib.ListN.{length}
-use borrow.Author.Tests.{leb-true, le-leb, lt-leb, not-true, not-false}
+use borrow.Author.Tests.{leb-true, le-leb, lt-leb}
 use Rattle.lists.proofs.Bools.{T_of, and_both}
 use Rattle.words.specs.Literal.{code_bits}
 use Rattle.words.specs.Region.{max_atoms, region, is_region}
@@ -37,14 +37,14 @@ pub untold : {P : Type 0} → false ≡ true → P
 untold e = absurd (subst (λ (b : Bool). T (not b)) e (T_of refl))
 
 -- a test that the code turns round, by its two ways
-pub yes : {b c : Bool} → b ≡ c → not b ≡ false → c ≡ true
-yes {b} e t = sym e ∙ not-false b t
+pub yes : {b c : Bool} → b ≡ c → b ≡ true → c ≡ true
+yes e t = sym e ∙ t
 
-pub no : {b c : Bool} → b ≡ c → not b ≡ true → c ≡ false
-no {b} e t = sym e ∙ not-true b t
+pub no : {b c : Bool} → b ≡ c → b ≡ false → c ≡ false
+no e t = sym e ∙ t
 
-pub told : {P : Type 0} (b : Bool) → (b ≡ true → P) → not b ≡ false → P
-told b f t = f (not-false b t)
+pub told : {P : Type 0} (b : Bool) → (b ≡ true → P) → b ≡ true → P
+told b f t = f t
 
 -- ---- the test of a row
 module _ (n : ℕ) (cs os : List ℕ) where

@@ -18,13 +18,13 @@ use Rattle.meter.specs.declared.Verdict.{Verdict}
 use Rattle.meter.specs.declared.Verdict.TheVariants as verdict
 use Rattle.meter.specs.declared.Read.{Read}
 use Rattle.meter.specs.declared.Read.TheVariants as read
-use Rattle.meter.specs.Meter.{and_then, pay, pay-add, pay-none}
+use Rattle.meter.specs.Meter.{and_then, pay}
+use Rattle.meter.proofs.Laws.{pay-add, pay-none}
 use Rattle.model.specs.Records.{Row, Entry, max_outputs}
 use Rattle.model.specs.Rows.{subsumes}
 use Rattle.model.specs.Slots.{row_in}
 use Rattle.model.specs.Union.{joins}
 use Rattle.model.specs.Retention.{Examined, Pass, found, passed, noted, first_pass, first_reads}
-use Rattle.slots.specs.Layout.{proposal}
 use Rattle.slots.proofs.Storing.{row-proposal}
 use Rattle.row_propose.specs.Proposed.{Proposed}
 use Rattle.slots.proofs.Holding.{no-entry}

@@ -1,19 +1,16 @@
 -- 01, module 5: both passes, one after the other. Assumes nothing.
 use mathlib.Core.Path.{◌≡◌, refl, sym, ap, ap₂, ◌∙◌, subst}
 use mathlib.Core.Bool.{true}
-use mathlib.Core.List.{List, [], ◌∷◌}
-use mathlib.Core.Logic.{inl, inr}
+use mathlib.Core.List.{List}
 use Prim.Native.Nat.{ℕ}
-use native.Mathlib.Omega.{arith}
-use types.Run.{OneOf}
-use denote.Enum.Declared.{tag_of}
 use Rattle.words.specs.Region.{has}
 use Rattle.meter.specs.declared.Meter.{Meter}
 use Rattle.meter.specs.declared.Account.{Account}
 use Rattle.meter.specs.declared.Judged.{Judged}
 use Rattle.meter.specs.declared.Read.{Read}
 use Rattle.meter.specs.declared.Read.TheVariants as read
-use Rattle.meter.specs.Meter.{and_then, pay, judged, pay-add, pay-none}
+use Rattle.meter.specs.Meter.{and_then, pay, judged}
+use Rattle.meter.proofs.Laws.{pay-add, pay-none}
 use Rattle.model.specs.Records.{Row, Entry}
 use Rattle.model.specs.Slots.{row_in}
 use Rattle.model.specs.Retention.{Examined as Entered, Pass, found, passed, first_pass, first_reads, second_reads, later_reads}
@@ -22,29 +19,24 @@ use Rattle.row_propose.specs.Proposed.{Proposed}
 use Rattle.retain_compare.specs.declared.Comparison.{Comparison}
 use Rattle.retain_compare.specs.declared.Compared.{Compared}
 use Rattle.retain_compare.specs.declared.Compared.TheVariants as compared
-use Rattle.retain_compare.specs.contracts.Compared.{the_type}
 use Rattle.retain_compare.specs.Passes.{examined_by}
 use Rattle.retain_compare.specs.Turns.{comparison, WhereReplaces, both_passes, compared_as, ended_of, compare_reads}
 use Rattle.retain_compare.proofs.Outcomes.{compares-replaces}
 use Rattle.retain_compare.proofs.Sweep.{Done}
 
 -- ---- what a comparison tells
-other-than : (c : Compared) (P : Type 0) → OneOf (1 ∷ 2 ∷ 3 ∷ []) (tag_of the_type c) → WhereReplaces c P
-other-than compared.Replaces P (inl e) = absurd (omega arith)
-other-than compared.Replaces P (inr (inl e)) = absurd (omega arith)
-other-than compared.Replaces P (inr (inr e)) = absurd (omega arith)
+other-than : (c : Compared) (P : Type 0) → (c ≡ compared.Replaces → ⊥) → WhereReplaces c P
+other-than compared.Replaces P t = absurd (t refl)
 other-than (compared.Subsumed n) P t = tt
 other-than compared.Declined P t = tt
 other-than compared.Stopped P t = tt
 
 -- the first pass that ends the whole
-ends-first : (x : Pass) (r : Read) → OneOf (1 ∷ 2 ∷ 3 ∷ []) (tag_of the_type (comparison x r).compared)
+ends-first : (x : Pass) (r : Read) → ((comparison x r).compared ≡ compared.Replaces → ⊥)
     → comparison x r ≡ comparison x (and_then r (pay (later_reads x)))
 unfolding later_reads
 ends-first (found n) (read.Paid a m) t = ap (comparison (found n)) (sym (pay-none a m))
-ends-first (passed ks p) (read.Paid a m) (inl e) = absurd (omega arith)
-ends-first (passed ks p) (read.Paid a m) (inr (inl e)) = absurd (omega arith)
-ends-first (passed ks p) (read.Paid a m) (inr (inr e)) = absurd (omega arith)
+ends-first (passed ks p) (read.Paid a m) t = absurd (t refl)
 ends-first (found n) (read.Declined a m) t = refl
 ends-first (passed ks p) (read.Declined a m) t = refl
 ends-first (found n) (read.Stopped a m) t = refl
@@ -81,11 +73,11 @@ module _ (most : ℕ) (p : Row) (es : List Entry) (a : Account) (m : Meter) wher
   split = pay-add (first_reads most p es) (later_reads x) a m
 
   module _ {f : Comparison} (e : f ≡ comparison x (pay (first_reads most p es) a m)) where
-    pub both_first : (words marks : List ℕ) → OneOf (1 ∷ 2 ∷ 3 ∷ []) (tag_of the_type f.compared) → Ends f words marks
+    pub both_first : (words marks : List ℕ) → (f.compared ≡ compared.Replaces → ⊥) → Ends f words marks
     both_first words marks t = (
       e
           ∙ ends-first x (pay (first_reads most p es) a m)
-          (subst (λ (c : Comparison). OneOf (1 ∷ 2 ∷ 3 ∷ []) (tag_of the_type c.compared)) e t) ∙ ap (comparison x) (sym split),
+          (subst (λ (c : Comparison). c.compared ≡ compared.Replaces → ⊥) e t) ∙ ap (comparison x) (sym split),
       other-than f.compared _ t,
     )
 

@@ -1,23 +1,20 @@
 -- 01, module 5: 'subsumption and union position by position'. One position of the first pass by the ways that it ends. Assumes nothing.
 use mathlib.Core.Path.{◌≡◌, refl, sym, ap, ◌∙◌, subst}
 use mathlib.Core.Bool.{Bool, true, false}
-use mathlib.Core.List.{List, [], ◌∷◌}
-use mathlib.Core.Logic.{inl, inr}
+use mathlib.Core.List.{List}
 use Prim.Native.Nat.{ℕ, suc, ◌+◌}
 use native.Mathlib.Nat.{add-zero}
 use native.Mathlib.Omega.{arith}
-use types.Run.{OneOf}
-use denote.Enum.Declared.{tag_of}
 use Rattle.words.specs.Region.{mark}
 use Rattle.meter.specs.declared.Meter.{Meter}
 use Rattle.meter.specs.declared.Account.{Account}
 use Rattle.meter.specs.declared.Judged.{Judged}
 use Rattle.meter.specs.declared.Verdict.{Verdict}
-use Rattle.meter.specs.contracts.Verdict.{the_type}
 use Rattle.meter.specs.declared.Verdict.TheVariants as verdict
 use Rattle.meter.specs.declared.Read.{Read}
 use Rattle.meter.specs.declared.Read.TheVariants as read
-use Rattle.meter.specs.Meter.{and_then, pay_one, pay, judged, pay-add}
+use Rattle.meter.specs.Meter.{and_then, pay_one, pay, judged}
+use Rattle.meter.proofs.Laws.{pay-add}
 use Rattle.model.specs.Records.{Row}
 use Rattle.model.specs.Rows.{subsumes, subsumes_reads}
 use Rattle.model.specs.Union.{joins, join_reads, grown}
@@ -36,10 +33,8 @@ no_all verdict.No p = p
 no_all verdict.Declined p = tt
 no_all verdict.Stopped p = tt
 
-pub no_other : (v : Verdict) (P : Type 0) → OneOf (0 ∷ 2 ∷ 3 ∷ []) (tag_of the_type v) → WhereNo v P
-no_other verdict.No P (inl e) = absurd (omega arith)
-no_other verdict.No P (inr (inl e)) = absurd (omega arith)
-no_other verdict.No P (inr (inr e)) = absurd (omega arith)
+pub no_other : (v : Verdict) (P : Type 0) → (v ≡ verdict.No → ⊥) → WhereNo v P
+no_other verdict.No P t = absurd (t refl)
 no_other verdict.Yes P t = tt
 no_other verdict.Declined P t = tt
 no_other verdict.Stopped P t = tt
@@ -59,10 +54,8 @@ on_no verdict.No i j = j
 on_no verdict.Declined i j = i
 on_no verdict.Stopped i j = i
 
-not-no : (v : Verdict) (i j : Judged) → OneOf (0 ∷ 2 ∷ 3 ∷ []) (tag_of the_type v) → i ≡ on_no v i j
-not-no verdict.No i j (inl e) = absurd (omega arith)
-not-no verdict.No i j (inr (inl e)) = absurd (omega arith)
-not-no verdict.No i j (inr (inr e)) = absurd (omega arith)
+not-no : (v : Verdict) (i j : Judged) → (v ≡ verdict.No → ⊥) → i ≡ on_no v i j
+not-no verdict.No i j t = absurd (t refl)
 not-no verdict.Yes i j t = refl
 not-no verdict.Declined i j t = refl
 not-no verdict.Stopped i j t = refl
@@ -152,7 +145,7 @@ module _ (most : ℕ) (r p : Row) (a : Account) (m : Meter) (marks : List ℕ) (
         ap (λ (f : Judged). on_no f.verdict f (judged false (pay (join_reads most r p) f.account f.meter))) e
         ∙ ask-other (subsumes r p) (subsumes_reads r p) (join_reads most r p) c k ∙ whole
 
-    pub beside-found : (words after : List ℕ) → OneOf (0 ∷ 2 ∷ 3 ∷ []) (tag_of the_type j.verdict)
+    pub beside-found : (words after : List ℕ) → (j.verdict ≡ verdict.No → ⊥)
         → Beside most r p a m marks i j words after
     beside-found words after t = (
       not-no j.verdict j (judged false (pay (join_reads most r p) j.account j.meter)) t ∙ both,

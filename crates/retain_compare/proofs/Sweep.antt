@@ -1,14 +1,12 @@
 -- 01, module 5: 'then a second pass for dominated rows'. What its loop keeps from one position to the next. Assumes nothing.
 use mathlib.Core.Path.{◌≡◌, refl, sym, ap, ◌∙◌, subst}
 use mathlib.Core.Bool.{Bool, true, ◌||◌}
-use mathlib.Core.List.{List, [], ◌∷◌}
+use mathlib.Core.List.{List}
 use mathlib.Core.Logic.{◌⊎◌, inl, inr}
 use Prim.Native.Nat.{ℕ, suc, ◌+◌, ◌/◌, ◌≤◌, ◌<◌}
 use native.Mathlib.Nat.{zero-add}
 use native.Mathlib.Numerals.{add-one}
 use native.Mathlib.Omega.{arith}
-use types.Run.{OneOf}
-use denote.Enum.Declared.{tag_of}
 use lib.ListN.{length, get_or, drop, drop_of_length-le}
 use lib.Seq.{drop-cons}
 use Rattle.lists.proofs.Counts.{same_or}
@@ -17,15 +15,16 @@ use Rattle.meter.specs.declared.Meter.{Meter}
 use Rattle.meter.specs.declared.Account.{Account}
 use Rattle.meter.specs.declared.Judged.{Judged}
 use Rattle.meter.specs.declared.Verdict.{Verdict}
-use Rattle.meter.specs.contracts.Verdict.{the_type}
 use Rattle.meter.specs.declared.Verdict.TheVariants as verdict
 use Rattle.meter.specs.declared.Read.{Read}
-use Rattle.meter.specs.Meter.{and_then, pay, judged, pay-add}
+use Rattle.meter.specs.Meter.{and_then, pay, judged}
+use Rattle.meter.proofs.Laws.{pay-add}
 use Rattle.model.specs.Records.{Row, Entry}
 use Rattle.model.specs.Rows.{subsumes}
 use Rattle.model.specs.Retention.{second_pass, second_reads}
 use Rattle.meter.specs.Payment.{WhereYes}
-use Rattle.meter.proofs.Payments.{on_yes, not_yes, ask-both, where-all, where-not}
+use Rattle.meter.proofs.Payments.{on_yes, ask-both, where-all}
+use Rattle.row_subsume.proofs.Subsuming.{other_than_yes}
 use Rattle.slots.proofs.Holding.{no-entry}
 use Rattle.retain_compare.specs.Passes.{examined_by}
 use Rattle.retain_compare.specs.Turns.{sweep_reads, swept_marks}
@@ -33,6 +32,13 @@ use Rattle.retain_compare.proofs.Answers.{told-yes}
 use Rattle.retain_compare.proofs.Marking.{swept-length, swept-here, swept-other}
 use Rattle.retain_compare.proofs.Passing.{second-step, second-marks}
 use Rattle.retain_compare.proofs.Sweeping.{Swept}
+
+-- nothing is told where a question says other than Yes
+where-other : (v : Verdict) (P : Type 0) → (v ≡ verdict.Yes → ⊥) → WhereYes v P
+where-other verdict.Yes P t = absurd (t refl)
+where-other verdict.No P t = tt
+where-other verdict.Declined P t = tt
+where-other verdict.Stopped P t = tt
 
 -- no entry is left from the end on
 none_left : (f : ℕ → Bool) (p : Row) (i : ℕ) (es : List Entry) → length es ≤ i → second_reads p (examined_by f i (drop i es)) ≡ 0
@@ -108,13 +114,13 @@ module _ (p : Row) (es : List Entry) (old : List ℕ) (a₀ : Account) (m₀ : M
             swept-other p row marks i w (has marks i) j n ∙ s.ahead j k
 
     pub sweep-not : (v : Judged) (after : List ℕ) → Swept p row a m marks i (has marks i) v after
-        → OneOf (1 ∷ 2 ∷ 3 ∷ []) (tag_of the_type v.verdict) → Done v after
+        → (v.verdict ≡ verdict.Yes → ⊥) → Done v after
     sweep-not v after h t = (
-      not_yes v.verdict v (judged true (pay (left (suc i)) v.account v.meter)) t
+      other_than_yes v.verdict v (judged true (pay (left (suc i)) v.account v.meter)) t
           ∙ ap (λ (j : Judged). on_yes j.verdict j (judged true (pay (left (suc i)) j.account j.meter))) h.0
           ∙ ask-both true true (sweep_reads (has marks i) p row) (left (suc i)) a m
           ∙ ap (judged true) (sym split ∙ s.reads),
-      where-not v.verdict _ t,
+      where-other v.verdict _ t,
     )
 
   pub sweep-end : (marks : List ℕ) (a : Account) (m : Meter) (i : ℕ) → Sweep marks a m i → length es ≤ i → (v : Judged)

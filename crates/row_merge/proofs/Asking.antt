@@ -7,8 +7,6 @@ use native.Mathlib.Omega.{arith}
 use lib.Dec.{eqb, leb, leb-zero, leb-suc-suc}
 use lib.ListN.{length}
 use borrow.Author.Tests.{eq-eqb, ne_eqb, le-leb, lt-leb, leb-true}
-use types.Run.{OneOf}
-use denote.Enum.Declared.{tag_of}
 use Rattle.lists.specs.Lists.{same}
 use Rattle.meter.specs.declared.Meter.{Meter}
 use Rattle.meter.specs.declared.Account.{Account}
@@ -17,13 +15,14 @@ use Rattle.meter.specs.declared.Verdict.{Verdict}
 use Rattle.meter.specs.declared.Verdict.TheVariants as verdict
 use Rattle.meter.specs.declared.Read.{Read}
 use Rattle.meter.specs.declared.Read.TheVariants as read
-use Rattle.meter.specs.contracts.Verdict.{the_type}
-use Rattle.meter.specs.Meter.{pay_one, pay, judged, pay-none}
+use Rattle.meter.specs.Meter.{pay_one, pay, judged}
+use Rattle.meter.proofs.Laws.{pay-none}
 use Rattle.model.specs.Records.{Row}
 use Rattle.model.specs.Union.{grown, may_join, joins, same_reads, union_reads, join_reads}
 use Rattle.meter.specs.declared.Payment.TheVariants.{Paid, Ended}
 use Rattle.meter.specs.Payment.{payment_of}
-use Rattle.meter.proofs.Payments.{ask-ended, ask-paid, on_yes, not_yes, ask-both}
+use Rattle.meter.proofs.Payments.{ask-ended, ask-paid, on_yes, ask-both}
+use Rattle.row_subsume.proofs.Subsuming.{other_than_yes}
 
 -- ---- equal conditions, asked of what is left of both lists
 abbrev pub alike : List ℕ → List ℕ → Account → Meter → Judged
@@ -122,8 +121,8 @@ module _ (most : ℕ) (l : List ℕ) (before : ℕ) (a : Account) (m : Meter) wh
         ∙ ask-both (leb (length l) most) true (suc (min (length l) most)) (elim (eqb (length l) before) [ true ↦ 0 | false ↦ length l ]) a m
         ∙ ap (λ (b : Bool). judged b (pay (union_reads most before (length l)) a m)) (and-true (leb (length l) most))
 
-    pub unite-not : OneOf (1 ∷ 2 ∷ 3 ∷ []) (tag_of the_type i.verdict) → i ≡ united
-    unite-not k = not_yes i.verdict i (grows (eqb (length l) before)) k ∙ unite-both
+    pub unite-not : (i.verdict ≡ verdict.Yes → ⊥) → i ≡ united
+    unite-not k = other_than_yes i.verdict i (grows (eqb (length l) before)) k ∙ unite-both
 
     module _ (y : i.verdict ≡ verdict.Yes) where
       -- the union is within the maximum

@@ -1,15 +1,12 @@
 -- A proposal that grows, and one that stays as it was. Assumes nothing.
 use mathlib.Core.Path.{◌≡◌, refl, sym, ◌∙◌, ap, ap₂, subst}
-use mathlib.Core.Logic.{inl, inr}
 use mathlib.Core.Bool.{false}
-use mathlib.Core.List.{List, [], ◌∷◌, ◌++◌}
+use mathlib.Core.List.{List, ◌++◌}
 use Prim.Native.Nat.{ℕ, ◌+◌, ◌-◌, ◌≤◌}
 use native.Mathlib.Nat.{sub-zero}
 use native.Mathlib.Omega.{arith}
 use lib.ListN.{length, get_or, take, drop, set, length-set}
 use lib.Seq.{take_at, take-append-le, drop_at, drop-append-add, drop-drop, length-take-le}
-use types.Run.{OneOf}
-use denote.Enum.Declared.{tag_of}
 use borrow.Rule.Slice.PartMut.{put_mid, mid_of, post_of, mid_len}
 use Rattle.lists.specs.Lists.{put}
 use Rattle.lists.proofs.Puts.{length-put}
@@ -18,8 +15,8 @@ use Rattle.meter.specs.declared.Account.{Account}
 use Rattle.meter.specs.declared.Judged.{Judged}
 use Rattle.meter.specs.declared.Verdict.{Verdict}
 use Rattle.meter.specs.declared.Verdict.TheVariants as verdict
-use Rattle.meter.specs.Meter.{pay, judged, pay-none}
-use Rattle.meter.specs.contracts.Verdict.{the_type}
+use Rattle.meter.specs.Meter.{pay, judged}
+use Rattle.meter.proofs.Laws.{pay-none}
 use Rattle.model.specs.Records.{Row, slot_words, max_conditions, max_outputs, conditions_at, outputs_at, body_at}
 use Rattle.model.specs.Union.{union, grown}
 use Rattle.model.specs.Slots.{row_in}
@@ -37,13 +34,11 @@ use Rattle.row_merge.proofs.Union.{union-long, union-same}
 pub kept-no : (a : Account) (m : Meter) (new old : List ℕ) {i : Judged} → i ≡ judged false (pay 0 a m) → old ≡ if_yes i.verdict new old
 kept-no a m new old e = sym (ap (λ (j : Judged). if_yes j.verdict new old) (e ∙ ap (judged false) (pay-none a m)))
 
-pub kept-not : (v : Verdict) (new old : List ℕ) → OneOf (1 ∷ 2 ∷ 3 ∷ []) (tag_of the_type v) → old ≡ if_yes v new old
-kept-not verdict.Yes new old (inl e) = absurd (omega arith)
-kept-not verdict.Yes new old (inr (inl e)) = absurd (omega arith)
-kept-not verdict.Yes new old (inr (inr e)) = absurd (omega arith)
-kept-not verdict.No new old t = refl
-kept-not verdict.Declined new old t = refl
-kept-not verdict.Stopped new old t = refl
+pub kept-not : (v : Verdict) (new old : List ℕ) → (v ≡ verdict.Yes → ⊥) → old ≡ if_yes v new old
+kept-not verdict.Yes new old n = absurd (n refl)
+kept-not verdict.No new old n = refl
+kept-not verdict.Declined new old n = refl
+kept-not verdict.Stopped new old n = refl
 
 pub changed-yes : (v : Verdict) (new old : List ℕ) → v ≡ verdict.Yes → new ≡ if_yes v new old
 changed-yes v new old e = sym (ap (λ (w : Verdict). if_yes w new old) e)

@@ -4,13 +4,13 @@ ghost use Rattle.std.specs.Prelude.{◌≡◌, ◌-◌, ◌≤◌, length};
 
 use crate::dispatch;
 use script_notation::calls::Said;
+use std::io::Read;
 use std::num::wrapping_add_u64;
+use std::rt::Stdin;
 use text::{find, flush, put, put_field};
 
-const STDIN: i32 = 0;
-
 // Whether the beginning of the present line was given up, because it did not fit: nothing, a call's, a comment's.
-#[derive(Drop)]
+#[derive(Clone, Copy)]
 pub enum Lost {
     Nothing,
     Call,
@@ -122,14 +122,15 @@ fn shift(s: &mut [u8], from: usize, to: usize) -> usize
     n
 }
 
-// Reads once behind the bytes that are kept, and answers how many bytes there are then.
-fn read_more(buf: &mut [u8], kept: usize) -> usize
+// Reads once behind the bytes that are kept, and answers how many bytes there are then. A read that fails gives none.
+fn read_more(mut stdin: Stdin, buf: &mut [u8], kept: usize) -> usize
     requires { kept ≤ length buf.old }
     ensures { (kept ≤ result) × (result ≤ length buf.old) }
 {
-    let part = &mut buf[kept..];
-    let got = libc::read(STDIN, part);
-    let n = io::count(got, part);
+    let n = match stdin.read(&mut buf[kept..]) {
+        Ok(n) => n,
+        Err(_) => 0,
+    };
     kept + n
 }
 
@@ -219,6 +220,7 @@ fn some(
 
 // Reads to the end of the input, and writes every answer; those to the lines of one read are written before the next.
 pub fn run(
+    stdin: Stdin,
     buf: &mut [u8],
     table: &mut [u64],
     slots: &mut [u64],
@@ -235,7 +237,7 @@ pub fn run(
     while 0 < turns {
         turns -= 1;
         let before = f.bytes;
-        let n = read_more(buf, before);
+        let n = read_more(stdin, buf, before);
         if n <= before {
             last(&buf[0..n], f, table, slots, postings, out);
             return;

@@ -7,11 +7,18 @@ mod feed;
 
 use script_notation::memory;
 
-fn main() {
+fn main(rt: HostRuntime) {
     let mut buf = memory::text();
     let mut table = memory::table();
     let mut slots = memory::slots();
     let mut postings = memory::postings();
     let mut out = io::large_buffer();
-    feed::run(&mut buf, &mut table, &mut slots, &mut postings, &mut out);
+    feed::run(
+        rt.stdin(),
+        &mut buf,
+        &mut table,
+        &mut slots,
+        &mut postings,
+        &mut out,
+    );
 }

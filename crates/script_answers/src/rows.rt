@@ -86,7 +86,7 @@ fn put_body(out: &mut [u8], at: usize, slot: &[u64]) -> usize
 }
 
 // The place after what was put, and how many postings the rows have that were put.
-#[derive(Drop)]
+#[derive(Clone, Copy)]
 struct Dumped {
     to: usize,
     postings: usize,

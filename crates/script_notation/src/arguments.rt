@@ -10,7 +10,7 @@ use text::{Parsed, ended, kept};
 
 // How many words of each list there are, and the source of a row, 0 where there is none; `ok` is false for a line that has not the two
 // lists, or more behind them.
-#[derive(Drop)]
+#[derive(Clone, Copy)]
 pub struct Lists {
     pub ok: bool,
     pub first: usize,

@@ -2,7 +2,7 @@
 ghost use Rattle.std.specs.Prelude.{◌≤◌, length};
 
 // A call, and a word that is none.
-#[derive(Drop)]
+#[derive(Clone, Copy)]
 pub enum Call {
     Make,
     Decide,
@@ -25,14 +25,14 @@ pub enum Call {
 }
 
 // The place after an answer line, whose end is yet to be put; or a line that is no call, for which nothing was put.
-#[derive(Drop)]
+#[derive(Clone, Copy)]
 pub enum Said {
     Line(usize),
     Error,
 }
 
 // A call on one ledger: the ledger's number, the place after it in the line, and the place for the answer.
-#[derive(Drop)]
+#[derive(Clone, Copy)]
 pub struct Asked {
     pub call: Call,
     pub index: u64,

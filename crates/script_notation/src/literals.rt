@@ -19,14 +19,14 @@ const UNFIT: u64 = 2 * ATOMS;
 pub const CODES: u64 = UNFIT + 1;
 
 // A literal's code; or bytes that are none.
-#[derive(Drop)]
+#[derive(Clone, Copy)]
 enum Read {
     Code(u64),
     Bad,
 }
 
 // How items ended: at the place after an arrow, or at the end of the line; `ok` is false where one is none.
-#[derive(Drop)]
+#[derive(Clone, Copy)]
 pub struct Ending {
     pub ok: bool,
     pub arrow: bool,

@@ -7,7 +7,7 @@ use model::{POSTING_WORDS, SLOT_WORDS};
 use wire::HEADER_WORDS;
 
 // The slots and the postings of a ledger: where they begin and end. `there` is false for a ledger that is not made or has no room.
-#[derive(Drop)]
+#[derive(Clone, Copy)]
 pub struct Place {
     pub there: bool,
     pub slots: usize,

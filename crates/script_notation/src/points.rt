@@ -13,7 +13,7 @@ const ENTRY: usize = 5;
 const MAX_NAME: usize = 31;
 
 // A name as four words of eight bytes.
-#[derive(Drop)]
+#[derive(Clone, Copy)]
 pub struct Name {
     pub a: u64,
     pub b: u64,

@@ -10,7 +10,7 @@ use text::{Parsed, ended, find, is_text, put, put_comma, put_text, value, word};
 use words::{Found, WORD_BITS};
 
 // A set that was read: the place after it, and whether every atom lies below its bound; `ok` is false for a word that is no list.
-#[derive(Drop)]
+#[derive(Clone, Copy)]
 struct Set {
     ok: bool,
     fit: bool,
@@ -138,7 +138,7 @@ pub fn region_of(ok: bool, atoms: u64, set: &[u64], held: &mut [u64], cut: &mut 
 }
 
 // A list as far as it is put: the place after it, and whether it has an item.
-#[derive(Drop)]
+#[derive(Clone, Copy)]
 struct Listing {
     to: usize,
     some: bool,

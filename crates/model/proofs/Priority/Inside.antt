@@ -7,13 +7,12 @@ use mathlib.Core.Option.{Option, none, some}
 use Prim.Native.Nat.{ℕ, zero, suc, ◌*◌, ◌<◌}
 use native.Mathlib.Omega.{arith}
 use lib.Dec.{T, eqb, ltb, eqb→eq, ltb→lt}
-use Rattle.lists.specs.Lists.{above, same}
 use Rattle.lists.proofs.Bools.{T_true, T_of}
 use Rattle.words.specs.Literal.{atom}
 use Rattle.words.specs.Region.{Region, decide}
 use Rattle.meter.specs.declared.Meter.{Meter}
 use Rattle.meter.specs.Meter.{ticks}
-use Rattle.model.specs.Records.{Row, Ledger, rows_of, row_at, within}
+use Rattle.model.specs.Records.{Row, Ledger, rows_of, row_at}
 use Rattle.model.specs.Records.{hit_entry}
 use Rattle.model.specs.Closing.{State, Turn, going, conflict, halted, on_going, with_meter, with_region, with_contradicted}
 use Rattle.model.specs.Closing.{with_header, hit_at, counted, decide_on, naming, begun}

@@ -22,7 +22,6 @@ use Rattle.model.proofs.Priority.Covering.{rows_e}
 use Rattle.model.proofs.Priority.Steps.{if-elim, opt-elim, tick-elim}
 use Rattle.model.proofs.Priority.Steps.{Accepted, accepted}
 use Rattle.model.proofs.Priority.Steps.{StepOk, still, quiet}
-use Rattle.model.specs.declared.CloseAnswer.TheVariants as close-answer
 use Rattle.model.specs.declared.Deduction.{Deduction}
 use Rattle.model.specs.declared.Deduction.TheVariants.{Nothing, Force, Require}
 use Rattle.model.specs.declared.OutputCursor.{OutputCursor}

@@ -1,7 +1,6 @@
 use native.Mathlib.Omega.{arith}
 use mathlib.Core.Path.{◌≡◌, refl, sym, ap, ap₂, ◌∙◌, subst}
-use mathlib.Core.Logic.{⊎_elim}
-use mathlib.Core.Bool.{Bool, true, false}
+use mathlib.Core.Bool.{Bool}
 use mathlib.Core.List.{List, [], ◌∷◌}
 use Prim.Native.Nat.{ℕ, ◌<◌}
 use lib.ListN.{length}
@@ -15,8 +14,8 @@ use Rattle.meter.specs.Payment.{payment_of}
 use Rattle.row_subsume.proofs.Including.{included, include-all, include-ended, include-none, include-less, include-equal}
 use Rattle.row_subsume.proofs.Including.{include-greater}
 use Rattle.row_subsume.proofs.includes.Goals.{Start}
-use Rattle.row_subsume.proofs.includes.Goals.{Then-w-c}
-use Rattle.row_subsume.proofs.includes.Goals.{After-next, At-loop-p, At-wanted, In-Literal, In-Literal-next, In_default, In_default-next, Start, Then-w-c}
+use Rattle.row_subsume.proofs.includes.Goals.{in_default, in-Literal+in-Paid+in_default-next, in-Literal+in-Paid+in-Literal-next+else-c-w+then-w-c}
+use Rattle.row_subsume.proofs.includes.Goals.{At-loop-p, At-wanted, In-Literal, In-Literal-next}
 use Rattle.row_subsume.proofs.includes.Goals as goal
 
 module _ (c : At-wanted) where
@@ -104,35 +103,6 @@ asked s =
     included (list_of s.args.a.now s.args.candidates) (list_of s.args.b.now s.args.wanted)
     s.args.account s.args.work
 
--- nothing is wanted any more
-
-module _ (c : In_default) where
-  all_found : judged true (pay 0 c.wanted.account c.wanted.meter) ≡ asked (goal.at.In_default c).Start
-  all_found =
-      let e : rest (B (goal.at.In_default c).At-wanted) c.args.wanted c.wanted.want ≡ []
-      = sym c.next.ensures.0 ∙ ap (given (B (goal.at.In_default c).At-wanted) c.args.wanted) c.in_default.is in
-      include-all (left (goal.at.In_default c).At-wanted) _ _
-      ∙ ap (λ (l : List ℕ). included (left (goal.at.In_default c).At-wanted) l c.wanted.account c.wanted.meter) (sym e) ∙ whole (goal.at.In_default c).At-wanted
-
--- the candidates end
-
-module _ (c : In_default-next) where
-  none_left : judged false (pay 0 c.in-Paid.p c.in-Paid.m) ≡ asked (goal.at.In_default-next c).Start
-  none_left =
-      let e : cs (goal.at.In_default-next c).At-loop-p ≡ []
-      = sym c.next-in-loop-p.ensures.0
-      ∙ ap (given (A (goal.at.In_default-next c).At-wanted) c.args.candidates) c.in_default-next.is in
-      include-none (w (goal.at.In_default-next c).In-Literal) (ws (goal.at.In_default-next c).In-Literal) _ _ (sym c.in-Paid.is ∙ c.pay_read.ensures)
-      ∙ ap (asks (goal.at.In_default-next c).At-loop-p) (sym e) ∙ back (goal.at.In_default-next c).At-loop-p ∙ whole (goal.at.In_default-next c).At-wanted
-
--- a candidate is greater
-
-passed : (c : Then-w-c)
-    → judged false (pay 0 c.in-Paid.p c.in-Paid.m) ≡ asked (goal.at.Then-w-c c).Start
-passed c =
-    include-greater (w (goal.at.Then-w-c c).In-Literal) (ws (goal.at.Then-w-c c).In-Literal) _ _ (payment (goal.at.Then-w-c c).In-Literal-next) (k (goal.at.Then-w-c c).In-Literal-next) (more (goal.at.Then-w-c c).In-Literal-next) c.if-w-c.true
-    ∙ ap (asks (goal.at.Then-w-c c).At-loop-p) (sym (taken-c (goal.at.Then-w-c c).In-Literal-next)) ∙ back (goal.at.Then-w-c c).At-loop-p ∙ whole (goal.at.Then-w-c c).At-wanted
-
 same-judged : {b d : Bool} {a e : Account} {m k : Meter} → b ≡ d → a ≡ e → m ≡ k → judged b (pay 0 a m) ≡ judged d (pay 0 e k)
 same-judged f g h = rw (f, g, h) refl
 
@@ -183,31 +153,37 @@ loop-p-preserved c =
 
 pub returns : goal.returns
 returns c =
-    let at_after_next = (goal.at.returns c).After-next in
+    let t = (goal.at.returns c).At-wanted in
     c.answer.ensures
-    ∙ ⊎_ELIM
-    (λ x. same-judged x.4 x.2 x.3 ∙ all_found (record { before = record { before = at_after_next; match = x.0 }; enum_told = x.1 }))
-    (⊎_elim
-    (λ x.
-    let r : tie.After-known-told invariant-loop decreases-loop invariant-wanted decreases-wanted
-    = record { before = record { before = record { before = at_after_next; match = x.0 }; w = x.1 }; known-told = x.2 } in
-    let q : tie.After-pay-read invariant-loop decreases-loop invariant-wanted decreases-wanted
-    = record { before = record { before = r; loop = x.3 }; pay-read = x.4 } in
-    let p : tie.After-p invariant-loop decreases-loop invariant-wanted decreases-wanted
-    = record { before = record { before = q; match2 = x.5 }; p = x.6 } in
-    let n : tie.After-next2 invariant-loop decreases-loop invariant-wanted decreases-wanted
-    = record { before = record { before = p; known-told2 = x.7 }; next2 = x.8 } in
-    same-judged x.13 x.11 x.12 ∙ none_left (record { before = record { before = n; match3 = x.9 }; enum-told2 = x.10 }))
-    (λ x.
-    let r : tie.After-known-told invariant-loop decreases-loop invariant-wanted decreases-wanted
-    = record { before = record { before = record { before = at_after_next; match = x.0 }; w = x.1 }; known-told = x.2 } in
-    let q : tie.After-pay-read invariant-loop decreases-loop invariant-wanted decreases-wanted
-    = record { before = record { before = r; loop = x.3 }; pay-read = x.4 } in
-    let p : tie.After-p invariant-loop decreases-loop invariant-wanted decreases-wanted
-    = record { before = record { before = q; match2 = x.5 }; p = x.6 } in
-    let n : tie.After-next2 invariant-loop decreases-loop invariant-wanted decreases-wanted
-    = record { before = record { before = p; known-told2 = x.7 }; next2 = x.8 } in
-    let u : tie.After-known-told4 invariant-loop decreases-loop invariant-wanted decreases-wanted
-    = record { before = record { before = record { before = n; match3 = x.9 }; c = x.10 }; known-told4 = x.11 } in
-    same-judged x.16 x.14 x.15 ∙ passed (record { before = record { before = u; if1 = x.12 }; if2 = x.13 })))
-    c.match-next.branch
+    ∙ elim c.match-next.branch [
+      -- nothing is wanted any more
+      | in_default w ↦
+          let e : rest (B t) c.args.wanted c.wanted.want ≡ []
+          = sym c.next.ensures.0 ∙ ap (given (B t) c.args.wanted) w.in_default.is in
+          same-judged w.found-is w.account-is w.meter-is
+          ∙ include-all (left t) _ _
+          ∙ ap (λ (l : List ℕ). included (left t) l c.wanted.account c.wanted.meter) (sym e) ∙ whole t
+      -- the candidates end
+      | in-Literal+in-Paid+in_default-next w ↦
+          let e : rest (B t) c.args.wanted c.wanted.want ≡ w.in-Literal.w ∷ rest (B t) c.args.wanted w.in-Literal.k
+          = sym c.next.ensures.0 ∙ ap (given (B t) c.args.wanted) w.in-Literal.is in
+          let f : rest (A t) c.args.candidates w.loop-p.have ≡ []
+          = sym w.next-in-loop-p.ensures.0 ∙ ap (given (A t) c.args.candidates) w.in_default-next.is in
+          same-judged w.found-is w.account-is w.meter-is
+          ∙ include-none w.in-Literal.w (rest (B t) c.args.wanted w.in-Literal.k) _ _ (sym w.in-Paid.is ∙ w.pay_read.ensures)
+          ∙ ap (λ (l : List ℕ). included l (w.in-Literal.w ∷ rest (B t) c.args.wanted w.in-Literal.k) w.loop-p.account w.loop-p.meter) (sym f)
+          ∙ w.loop-p.invariant.1
+          ∙ ap (λ (l : List ℕ). included (left t) l c.wanted.account c.wanted.meter) (sym e) ∙ whole t
+      -- a candidate is greater
+      | in-Literal+in-Paid+in-Literal-next+else-c-w+then-w-c w ↦
+          let e : rest (B t) c.args.wanted c.wanted.want ≡ w.in-Literal.w ∷ rest (B t) c.args.wanted w.in-Literal.k
+          = sym c.next.ensures.0 ∙ ap (given (B t) c.args.wanted) w.in-Literal.is in
+          let f : rest (A t) c.args.candidates w.loop-p.have ≡ w.in-Literal-next.c ∷ rest (A t) c.args.candidates w.in-Literal-next.h
+          = sym w.next-in-loop-p.ensures.0 ∙ ap (given (A t) c.args.candidates) w.in-Literal-next.is in
+          same-judged w.found-is w.account-is w.meter-is
+          ∙ include-greater w.in-Literal.w (rest (B t) c.args.wanted w.in-Literal.k) _ _ (sym w.in-Paid.is ∙ w.pay_read.ensures)
+          w.in-Literal-next.c (rest (A t) c.args.candidates w.in-Literal-next.h) w.if-w-c.true
+          ∙ ap (λ (l : List ℕ). included l (w.in-Literal.w ∷ rest (B t) c.args.wanted w.in-Literal.k) w.loop-p.account w.loop-p.meter) (sym f)
+          ∙ w.loop-p.invariant.1
+          ∙ ap (λ (l : List ℕ). included (left t) l c.wanted.account c.wanted.meter) (sym e) ∙ whole t
+    ]

@@ -7,9 +7,9 @@ use Rattle.meter.specs.declared.Judged.{Judged}
 use Rattle.model.specs.Records.{Row}
 use Rattle.model.specs.Slots.{row_in}
 use Rattle.slots.specs.Cursor.{Sound, list_of}
-use Rattle.meter.proofs.Payments.{on_yes, not_yes}
+use Rattle.meter.proofs.Payments.{on_yes}
 use Rattle.row_subsume.proofs.Including.{included}
-use Rattle.row_subsume.proofs.Subsuming.{subsumed, subsumes-longer, subsumes-poorer, subsumes-both}
+use Rattle.row_subsume.proofs.Subsuming.{other_than_yes, subsumed, subsumes-longer, subsumes-poorer, subsumes-both}
 use Rattle.row_subsume.proofs.subsumes.Goals.{After-includes-first, Start}
 use Rattle.row_subsume.proofs.subsumes.Goals as goal
 
@@ -62,7 +62,7 @@ includes-first-requires c = record {
 pub returns-in_default : goal.returns-in_default
 returns-in_default c =
     let at_after_includes_first = (goal.at.returns-in_default c).After-includes-first in
-    not_yes (i at_after_includes_first).verdict (i at_after_includes_first) (second at_after_includes_first) c.in_default.keys2 ∙ both at_after_includes_first
+    other_than_yes (i at_after_includes_first).verdict (i at_after_includes_first) (second at_after_includes_first) c.in_default.not-Yes ∙ both at_after_includes_first
 
 pub includes-requires : goal.includes-requires
 includes-requires c = record {

@@ -17,7 +17,6 @@ use Rattle.postings.proofs.filling.post_row.Goals as goal
 
 module _ (c : After-post_side-first) where
   -- the postings after the conditions
-
   abbrev after : List ℕ
   after = c.post_side-first.new.postings
 
@@ -34,7 +33,6 @@ conditions-conditions-requires c = omega (arith, (row_laid c.requires).long)
 
 module _ (c : After-post_side-first) where
   -- the row, by how its conditions ended
-
   ended : {t : Tick} → c.post_side-first.result.end ≡ t → let a = c.args in
       walk put (row_postings a.position (row_in a.slot.now)) (filled_to a.at a.postings.now) a.work
       ≡ onward t (filled_to c.post_side-first.result.next (after c))

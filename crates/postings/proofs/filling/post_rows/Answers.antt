@@ -1,3 +1,4 @@
+-- `post_rows`. Each row is posted after those before it. Assumes nothing.
 use mathlib.Core.Path.{◌≡◌, refl, sym, ap, ◌∙◌}
 use mathlib.Core.List.{List}
 use Prim.Native.Nat.{ℕ, ◌+◌}
@@ -19,7 +20,6 @@ module _ (c : After-post_row-row) where
   p = c.loop-position.position
 
   -- the postings after this row
-
   abbrev after : List ℕ
   after = c.post_row-row.new.postings
 
@@ -32,7 +32,6 @@ module _ (c : After-post_row-row) where
       (slot-code c.args.slots.now p)
 
   -- the whole, by how this row ended
-
   ended : {t : Tick} → c.post_row-row.result.end ≡ t →
       onward t (filled_to c.post_row-row.result.next after)
       (walk put (postings_from (p + 1) (rows_from c.args.rows c.args.slots.now (p + 1))))

@@ -1,3 +1,4 @@
+-- `post_rows`. The loop: the rows from `position` on, filled from here, are all rows filled from the start. Assumes nothing.
 use mathlib.Core.Path.{◌≡◌}
 use Prim.Native.Nat.{◌-◌, ◌*◌, ◌≤◌}
 use lib.ListN.{length}
@@ -9,7 +10,6 @@ use Rattle.postings.specs.Filling.{put, filled_to}
 use Rattle.slots.proofs.Rows.{rows_from}
 use Rattle.postings.proofs.filling.post_rows.Given as goal
 
--- `post_rows`. The loop: the rows from `position` on, filled from here, are all rows filled from the start. Assumes nothing.
 abbrev pub invariant-loop-position : goal.invariant-loop-position
 invariant-loop-position l =
     (l.position ≤ l.rows) × (l.next ≤ posting_words * l.position) × (length l.postings ≡ length l.initial.postings)

@@ -1,4 +1,4 @@
--- what is left at the loop's test, from there, is the whole
+-- `post_side`. A literal of an atom seen is passed, another ticked and posted. Assumes nothing.
 use mathlib.Core.Path.{◌≡◌, refl, sym, ap, ◌∙◌, subst}
 use mathlib.Core.List.{List, [], ◌∷◌}
 use Prim.Native.Nat.{ℕ, ◌+◌, ◌*◌, ◌/◌, ◌^◌, ◌<◌}
@@ -12,10 +12,10 @@ use Rattle.postings.specs.Steps.{walk}
 use Rattle.postings.specs.Filling.{put, filled_to, side_postings, left_postings}
 use Rattle.postings.proofs.Walking.{walk_none}
 use Rattle.postings.proofs.Fills.{posting-fits, Room, room-head, room-skip, room-post, left-start, left-none, left-skip, left_step}
-use Rattle.postings.proofs.filling.post_side.Goals.{At-loop-next}
 use Rattle.postings.proofs.filling.post_side.Goals.{At-loop-next, In-Literal}
 use Rattle.postings.proofs.filling.post_side.Goals as goal
 
+-- what is left at the loop's test, from there, is the whole
 whole : (c : At-loop-next) → let a = c.args in
     walk put (left_postings a.position c.loop-next.last (rest a.slot.now a.side c.loop-next.cursor))
     (filled_to c.loop-next.next c.loop-next.postings) c.loop-next.meter
@@ -44,7 +44,6 @@ module _ (c : In-Literal) where
   fits = posting-fits code_bits (omega arith) code c.args.position (room-head room).0 c.requires.place
 
   -- the literal and what is past it are the whole
-
   turn : let a = c.args in
       walk put (left_postings a.position c.loop-next.last (code ∷ past)) (filled_to c.loop-next.next c.loop-next.postings)
       c.loop-next.meter

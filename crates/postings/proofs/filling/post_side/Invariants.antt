@@ -1,4 +1,4 @@
--- what is left at the loop's test, from there, is the whole
+-- `post_side`. The loop: what is left of the side, filled from here, is the whole side filled from the start. Assumes nothing.
 use mathlib.Core.Path.{◌≡◌}
 use lib.ListN.{length}
 use Rattle.words.specs.Literal.{code_bits}
@@ -8,7 +8,6 @@ use Rattle.postings.specs.Filling.{put, filled_to, side_postings, left_postings}
 use Rattle.postings.proofs.Fills.{Room}
 use Rattle.postings.proofs.filling.post_side.Given as goal
 
--- `post_side`. The loop: what is left of the side, filled from here, is the whole side filled from the start. Assumes nothing.
 abbrev pub invariant-loop-next : goal.invariant-loop-next
 invariant-loop-next l =
     Placed l.side l.cursor × (length l.postings ≡ length l.initial.postings) × Room code_bits (rest l.slot l.side l.cursor) l.next (length l.initial.postings)

@@ -26,7 +26,6 @@ module _ (c : After-ready_postings-ready) where
   rs = rows_in c.args.header.rows c.args.slots.now
 
   -- the postings made ready
-
   abbrev buffer : List ℕ
   buffer = c.ready_postings-ready.new.postings
 

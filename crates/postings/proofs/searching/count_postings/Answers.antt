@@ -1,3 +1,4 @@
+-- `count_postings`. The zeros are counted off row 0, and the end is found by halves. Assumes nothing.
 use mathlib.Core.Path.{◌≡◌, ap, ap₂, ◌∙◌}
 use mathlib.Core.List.{List, map}
 use Prim.Native.Nat.{ℕ, ◌+◌, ◌-◌, ◌/◌}
@@ -14,7 +15,6 @@ use Rattle.slots.proofs.Storing.{laid-stored}
 use Rattle.postings.specs.Searching.{zero_first}
 use Rattle.postings.proofs.Ends.{EndsAt, seen_start, seen-zero, seen-some, seen_end}
 use Rattle.postings.proofs.Standing.{here-zeros, here-short, postings-long, posted-some, posted-none}
-use Rattle.postings.proofs.searching.count_postings.Goals.{Start}
 use Rattle.postings.proofs.searching.count_postings.Goals.{After-zero_first-outputs, Start}
 use Rattle.postings.proofs.searching.count_postings.Goals as goal
 
@@ -26,7 +26,6 @@ module _ (c : After-zero_first-outputs) where
   ps = postings_of (rows_in c.args.header.rows c.args.slots.now)
 
   -- the postings that are 0
-
   zeros : c.zero_first-conditions.result + c.zero_first-outputs.result ≡ times 0 ps
   zeros =
       let w = slot_at c.args.slots.now 0 in

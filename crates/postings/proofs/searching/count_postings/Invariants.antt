@@ -1,8 +1,8 @@
+-- `count_postings`. The loop keeps `Seen`: the words before `lo` are not 0, those from `hi` on are. Assumes nothing.
 use Prim.Native.Nat.{◌-◌}
 use Rattle.postings.proofs.Ends.{Seen}
 use Rattle.postings.proofs.searching.count_postings.Given as goal
 
--- `count_postings`. The loop keeps `Seen`: the words before `lo` are not 0, those from `hi` on are. Assumes nothing.
 abbrev pub invariant-loop-lo : goal.invariant-loop-lo
 invariant-loop-lo l = Seen l.postings l.initial.lo l.lo l.hi
 

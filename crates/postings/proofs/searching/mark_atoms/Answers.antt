@@ -1,3 +1,4 @@
+-- `mark_atoms`. Each atom is looked at after those before it. Assumes nothing.
 use mathlib.Core.Path.{◌≡◌, refl, sym, ap, ◌∙◌}
 use mathlib.Core.List.{List}
 use mathlib.Core.Option.{Option}
@@ -14,12 +15,10 @@ use Rattle.postings.proofs.searching.mark_atoms.Goals as goal
 
 module _ (c : After-mark_atom) where
   -- the answer after this atom
-
   abbrev after : List ℕ
   after = c.mark_atom.new.answer
 
   -- the whole, by how this atom ended
-
   turn : {t : Tick} → c.mark_atom.result ≡ t →
       onward t after (walk look (looks_all c.args.postings.now (drop (c.loop-i.i + 1) c.args.atoms.now)))
       ≡ walk look (looks_all c.args.postings.now c.args.atoms.now) c.args.answer.now c.args.work

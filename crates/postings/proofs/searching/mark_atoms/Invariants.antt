@@ -1,3 +1,4 @@
+-- `mark_atoms`. The loop: the atoms from `i` on, looked at from here, are all atoms looked at from the start. Assumes nothing.
 use mathlib.Core.Path.{◌≡◌}
 use Prim.Native.Nat.{◌-◌, ◌≤◌}
 use lib.ListN.{length, drop}
@@ -5,7 +6,6 @@ use Rattle.postings.specs.Steps.{walk}
 use Rattle.postings.specs.Searching.{look, looks_all}
 use Rattle.postings.proofs.searching.mark_atoms.Given as goal
 
--- `mark_atoms`. The loop: the atoms from `i` on, looked at from here, are all atoms looked at from the start. Assumes nothing.
 abbrev pub invariant-loop-i : goal.invariant-loop-i
 invariant-loop-i l =
     (l.i ≤ length l.atoms) × (length l.answer ≡ length l.initial.answer)

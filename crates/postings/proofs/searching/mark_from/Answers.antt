@@ -1,3 +1,4 @@
+-- `mark_from`. A posting of the atom is ticked and marked; one of another atom ends it. Assumes nothing.
 use mathlib.Core.Path.{◌≡◌, refl, sym, ap, ◌∙◌}
 use mathlib.Core.List.{List, []}
 use mathlib.Core.Option.{Option}
@@ -19,7 +20,6 @@ use Rattle.postings.proofs.searching.mark_from.Goals as goal
 
 module _ (c : At-loop-i) where
   -- no more postings of the atom
-
   ended : marks (drop c.loop-i.i c.args.postings.now) c.args.atom ≡ [] →
       walked (Ticked c.loop-i.meter) c.loop-i.answer
       ≡ walk look (marks c.args.postings.now c.args.atom) c.args.answer.now c.args.work
@@ -39,7 +39,6 @@ module _ (c : Else-posting-atom) where
       omega (arith, c.loop-i.invariant.2)
 
   -- the posting, by its tick
-
   turn : {t : Tick} → t ≡ tick_of c.loop-i.meter →
       onward t c.loop-i.answer (λ ms. walk look (marks (drop (c.loop-i.i + 1) c.args.postings.now) c.args.atom)
       (set ms (x % max_rows) 1))

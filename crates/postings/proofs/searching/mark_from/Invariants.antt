@@ -1,3 +1,4 @@
+-- `mark_from`. The loop: the postings from `i` on, marked from here, are all of the atom's marked from the start. Assumes nothing.
 use mathlib.Core.Path.{◌≡◌}
 use Prim.Native.Nat.{◌-◌, ◌≤◌}
 use lib.ListN.{length, drop}
@@ -5,7 +6,6 @@ use Rattle.postings.specs.Steps.{walk}
 use Rattle.postings.specs.Searching.{look, marks}
 use Rattle.postings.proofs.searching.mark_from.Given as goal
 
--- `mark_from`. The loop: the postings from `i` on, marked from here, are all of the atom's marked from the start. Assumes nothing.
 abbrev pub invariant-loop-i : goal.invariant-loop-i
 invariant-loop-i l =
     (l.initial.i ≤ l.i) × (l.i ≤ length l.postings) × (length l.answer ≡ length l.initial.answer)

@@ -1,6 +1,6 @@
+-- `skip_near`: nothing is claimed of the place but that it is found. Assumes nothing.
 use Rattle.postings.proofs.searching.skip_near.Given as goal
 
--- `skip_near`: nothing is claimed of the place but that it is found. Assumes nothing.
 abbrev pub invariant-loop-left : goal.invariant-loop-left
 invariant-loop-left l = Unit {0}
 

@@ -1,0 +1,41 @@
+-- `contents::by_postings::posted_less`. By the row at the posting's position. Assumes nothing.
+use mathlib.Core.Path.{sym, ap, ◌∙◌}
+use mathlib.Core.Bool.{not}
+use Prim.Native.Nat.{ℕ, ◌%◌}
+use lib.Dec.{ltb}
+use Rattle.lists.specs.Counts.{times}
+use Rattle.model.specs.Records.{max_rows}
+use Rattle.model.specs.Postings.{postings_of}
+use Rattle.slots.specs.Layout.{rows_in}
+use Rattle.contents.proofs.Filing.{holds-code, posted-none, posted-code, none-less}
+use borrow.Author.Rules.{rules}
+use Rattle.contents.proofs.by_postings.posted_less.Goals as goal
+
+pub returns-then-rows-p : goal.returns-then-rows-p
+returns-then-rows-p c =
+    ap (λ (t : ℕ). ltb t c.args.often) (posted-none c.args.rows c.args.slots.now c.requires c.args.posting c.if-rows-p.true)
+
+pub has_atom-requires : goal.has_atom-requires
+has_atom-requires c = record {
+  fact_1 = holds-code c.args.rows c.args.slots.now c.requires (c.args.posting % max_rows) c.if-rows-p.false;
+  fact_2 = search rules;
+}
+
+pub returns-then-often-eq1 : goal.returns-then-often-eq1
+returns-then-often-eq1 c =
+    let t = posted-code c.args.rows c.args.slots.now c.requires c.args.posting c.if-rows-p.false in
+    ap not (c.has_atom.ensures ∙ ap (ltb 0) t)
+    ∙ none-less (times c.args.posting (postings_of (rows_in c.args.rows c.args.slots.now)))
+    ∙ ap (ltb (times c.args.posting (postings_of (rows_in c.args.rows c.args.slots.now)))) (sym c.if-often-eq1.true)
+
+pub times_posted-requires : goal.times_posted-requires
+times_posted-requires c = record {
+  fact_1 = holds-code c.args.rows c.args.slots.now c.requires (c.args.posting % max_rows) c.if-rows-p.false;
+  fact_2 = search rules;
+}
+
+pub returns : goal.returns
+returns c =
+    ap (λ (t : ℕ). ltb t c.args.often)
+    (c.times_posted.ensures
+    ∙ posted-code c.args.rows c.args.slots.now c.requires c.args.posting c.if-rows-p.false)

@@ -1,0 +1,21 @@
+-- `includes_times` meets its contract: each turn asks the same of the account and the meter that the last left. Assumes nothing.
+use mathlib.Core.Path.{◌≡◌}
+use Prim.Native.Nat.{ℕ, ◌-◌}
+use Rattle.leaves.specs.Calls.{again, payer, asked}
+use mathlib.Core.List.{List}
+use Rattle.meter.specs.declared.Meter.{Meter}
+use Rattle.meter.specs.declared.Account.{Account}
+use Rattle.meter.specs.declared.Judged.{Judged}
+use Rattle.model.specs.Rows.{includes, includes_reads}
+use Rattle.model.specs.Slots.{row_in}
+use Rattle.leaves.proofs.includes_times.Given as goal
+
+abbrev pub asks : List ℕ → List ℕ → Account × Meter → Judged
+asks a b = asked (includes (row_in a).outputs (row_in b).outputs) (includes_reads (row_in a).outputs (row_in b).outputs)
+
+abbrev pub invariant-loop-left : goal.invariant-loop-left
+invariant-loop-left l = (l.meter.limit ≡ l.work.limit)
+    × (again (asks l.a l.b) payer (l.left - 1) (l.account, l.meter) ≡ again (asks l.a l.b) payer (l.initial.left - 1) (l.initial.account, l.initial.meter))
+
+abbrev pub decreases-loop-left : goal.decreases-loop-left
+decreases-loop-left l = l.left

@@ -1,0 +1,24 @@
+-- `leaf_deduction` meets its contract: what it was not given, or the deduction of the stored row. Assumes nothing.
+use Rattle.leaves.proofs.Fitting.{yes, no, told, fits-stored, fits-row, matched-of}
+use Rattle.leaves.proofs.Leaving.{deduction-unfit, deduction-unmarked, deduction-done}
+use Rattle.leaves.proofs.leaf_deduction.Goals as goal
+
+pub returns-then-not-store : goal.returns-then-not-store
+returns-then-not-store c = deduction-unfit _ _ _ _ _ _ _ (no c.store.ensures.0 c.if-not-store.true)
+
+pub returns-then-not-is_region : goal.returns-then-not-is_region
+returns-then-not-is_region c =
+    deduction-unmarked _ _ _ _ _ _ _ (yes c.store.ensures.0 c.if-not-store.false) (no c.is_region.ensures c.if-not-is_region.true)
+
+pub deduction_times-d-requires : goal.deduction_times-d-requires
+deduction_times-d-requires c =
+    let x = c.store.ensures in
+    matched-of _ _ _ _ (fits-stored _ _ (yes x.0 c.if-not-store.false) _ (told _ x.1 c.if-not-store.false))
+    (yes c.is_region.ensures c.if-not-is_region.false)
+
+pub returns : goal.returns
+returns c =
+    let x = c.store.ensures in
+    let f = yes x.0 c.if-not-store.false in
+    deduction-done _ _ _ _ _ _ _ f (yes c.is_region.ensures c.if-not-is_region.false) (fits-row _ _ f _ (told _ x.1 c.if-not-store.false))
+    c.meter_of.ensures c.deduction_times-d.ensures c.put_deduced.ensures

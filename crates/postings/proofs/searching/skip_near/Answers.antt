@@ -1,7 +1,0 @@
-use Rattle.postings.proofs.searching.skip_near.Goals as goal
-
-pub loop-left-init : goal.loop-left-init
-loop-left-init c = tt
-
-pub loop-left-preserved : goal.loop-left-preserved
-loop-left-preserved c = tt
