@@ -64,7 +64,7 @@ def main():
 
     def one(found):
         word = found[0]
-        if word.startswith('"'):
+        if word.startswith('"') or re.match(r"b'.'$", word):
             return word
         new = word.replace("-", "_") if word in fields else LEMMAS.get(word, word)
         new = "-".join(snake(part) for part in new.replace("′", "'").split("-"))
