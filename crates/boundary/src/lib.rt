@@ -21,7 +21,7 @@ use wire::{
 };
 
 // Make: the fresh header, every slot and posting 0; refused by 1 or 2.
-pub extern "C" fn ledger_make(
+pub fn ledger_make(
     limits: &[u64; LIMITS_WORDS],
     number: u64,
     head: &mut [u64; HEADER_WORDS],
@@ -44,7 +44,7 @@ pub extern "C" fn ledger_make(
 }
 
 // Begin: the header with full true; refused by 1, 2 or 3.
-pub extern "C" fn ledger_begin(
+pub fn ledger_begin(
     head: &mut [u64; HEADER_WORDS],
     answer: &mut [u64; ANSWER_WORDS],
     slots: &[u64],
@@ -66,7 +66,7 @@ pub extern "C" fn ledger_begin(
 }
 
 // Hit: one hit more, not shared yet, for the row at a position; refused by 1, 2, 3 or 5.
-pub extern "C" fn ledger_hit(
+pub fn ledger_hit(
     head: &mut [u64; HEADER_WORDS],
     answer: &mut [u64; ANSWER_WORDS],
     slots: &mut [u64],
@@ -89,7 +89,7 @@ pub extern "C" fn ledger_hit(
 }
 
 // Deduce: what the row at a position says of a region; refused by 1, 2, 3, 5 or 6.
-pub extern "C" fn ledger_deduce(
+pub fn ledger_deduce(
     head: &[u64; HEADER_WORDS],
     answer: &mut [u64; ANSWER_WORDS],
     meter: &mut [u64; METER_WORDS],
@@ -125,7 +125,7 @@ pub extern "C" fn ledger_deduce(
 }
 
 // Next output: the next output of the row at a position, and the cursor past it; refused by 1, 2, 3, 5, 6 or 8.
-pub extern "C" fn ledger_next_output(
+pub fn ledger_next_output(
     head: &[u64; HEADER_WORDS],
     answer: &mut [u64; ANSWER_WORDS],
     meter: &mut [u64; METER_WORDS],
@@ -164,7 +164,7 @@ pub extern "C" fn ledger_next_output(
 }
 
 // Decide: holds an atom of a region, or cuts it if `value` is 0; refused by 6.
-pub extern "C" fn ledger_decide(
+pub fn ledger_decide(
     answer: &mut [u64; ANSWER_WORDS],
     atoms: u64,
     held: &mut [u64],
@@ -186,7 +186,7 @@ pub extern "C" fn ledger_decide(
 }
 
 // Offer: a row given to the ledger; refused by 1, 2, 3 or 4.
-pub extern "C" fn ledger_offer(
+pub fn ledger_offer(
     head: &mut [u64; HEADER_WORDS],
     answer: &mut [u64; ANSWER_WORDS],
     meter: &mut [u64; METER_WORDS],
@@ -223,7 +223,7 @@ pub extern "C" fn ledger_offer(
 }
 
 // Candidates: the rows to be looked at after atoms were decided, in `found`; refused by 1, 2 or 3.
-pub extern "C" fn ledger_candidates(
+pub fn ledger_candidates(
     head: &mut [u64; HEADER_WORDS],
     answer: &mut [u64; ANSWER_WORDS],
     meter: &mut [u64; METER_WORDS],
@@ -258,7 +258,7 @@ pub extern "C" fn ledger_candidates(
 }
 
 // Close: a region closed under the rows; both scratches end as zeros; refused by 1, 2, 3 or 6.
-pub extern "C" fn ledger_close(
+pub fn ledger_close(
     head: &mut [u64; HEADER_WORDS],
     answer: &mut [u64; ANSWER_WORDS],
     meter: &mut [u64; METER_WORDS],
@@ -300,7 +300,7 @@ pub extern "C" fn ledger_close(
 }
 
 // Seed: a tier takes the rows of a store; refused by the tier's 1, 2 or 3, the store's 1, 2 or 3, or 7.
-pub extern "C" fn ledger_seed(
+pub fn ledger_seed(
     tier: &mut [u64; HEADER_WORDS],
     store: &mut [u64; HEADER_WORDS],
     answer: &mut [u64; ANSWER_WORDS],
@@ -341,7 +341,7 @@ pub extern "C" fn ledger_seed(
 }
 
 // Deliver: a store takes the rows of a tier; refused as Seed is.
-pub extern "C" fn ledger_deliver(
+pub fn ledger_deliver(
     tier: &mut [u64; HEADER_WORDS],
     store: &mut [u64; HEADER_WORDS],
     answer: &mut [u64; ANSWER_WORDS],

@@ -1,13 +1,10 @@
 -- A decision in a closing: the code's answer as a turn, the region after it, and whether an atom was decided. Assumes nothing.
 use mathlib.Core.Path.{◌≡◌, refl, sym, ap, ap₂, ◌∙◌, subst}
 use mathlib.Core.Bool.{Bool, true, false, ◌||◌}
-use mathlib.Core.Logic.{inl, inr}
-use mathlib.Core.List.{List, [], ◌∷◌}
+use mathlib.Core.List.{List}
 use mathlib.Core.Option.{some}
 use Prim.Native.Nat.{ℕ}
 use native.Mathlib.Omega.{arith}
-use types.Run.{OneOf}
-use denote.Enum.Declared.{tag_of}
 use lib.Dec.{T, eqb, ltb}
 use borrow.Author.Tests.{lt-ltb, le-ltb}
 use Rattle.lists.proofs.Bools.{and_both, T_true, T_of}
@@ -15,7 +12,6 @@ use Rattle.words.specs.Region.{Region, region, is_region, atoms_ok, holds, decid
 use Rattle.words.specs.Region.{answer_in}
 use Rattle.words.specs.declared.Marking.{Marking}
 use Rattle.words.specs.declared.Marking.TheVariants.{Anew, Already, False}
-use Rattle.words.specs.contracts.Marking.{the_type}
 use Rattle.words.proofs.Regions.{Sound, sound-of, region-test}
 use Rattle.words.proofs.Deciding.{sound-decide, answer-none, answer-some, decide-some, holds-mark, marked-anew, marked-already}
 use Rattle.meter.specs.declared.Meter.{Meter}
@@ -81,11 +77,10 @@ module _ (n : ℕ) (r q : Region) (c : ℕ) (e : decide n r c ≡ some q) (s : S
 
 -- ---- what the code's answer says of it
 -- neither sort of mark is a false decision
-pub marked-yes : (k : Marking) → OneOf (0 ∷ 1 ∷ []) (tag_of the_type k) → answer_in k ≡ true
+pub marked-yes : (k : Marking) → (k ≡ False → ⊥) → answer_in k ≡ true
 marked-yes Anew o = refl
 marked-yes Already o = refl
-marked-yes False (inl z) = absurd (omega arith)
-marked-yes False (inr z) = absurd (omega arith)
+marked-yes False o = absurd (o refl)
 
 module _ (n : ℕ) (held cut : List ℕ) (c : ℕ) (k : Marking) (held' cut' : List ℕ) (q : k ≡ marking n (region held cut) c)
     (e : decision_with (answer_in k) held' cut' ≡ decision_on n held cut c) (t : T (is_region n (region held cut))) where
@@ -104,16 +99,15 @@ module _ (n : ℕ) (held cut : List ℕ) (c : ℕ) (k : Marking) (held' cut' : L
   already-earns a m l = decided-already n before (region held' cut') c (made (ap answer_in a)) (sound-of n before t) (sym q ∙ a)
 
   -- more are noted than were exactly if an atom was decided
-  pub noted-earns : OneOf (0 ∷ 1 ∷ []) (tag_of the_type k) → (d d' : ℕ) → d' ≡ after_mark k d → (m : Meter) (l : Beside)
+  pub noted-earns : (k ≡ False → ⊥) → (d d' : ℕ) → d' ≡ after_mark k d → (m : Meter) (l : Beside)
       → ltb d d' ≡ earns n (region held cut) (going (state l held' cut' m))
-  noted-earns o d d' a m l = go k refl o a
+  noted-earns o d d' a m l = go k refl a
     where
-      go : (x : Marking) → k ≡ x → OneOf (0 ∷ 1 ∷ []) (tag_of the_type x) → d' ≡ after_mark x d
+      go : (x : Marking) → k ≡ x → d' ≡ after_mark x d
           → ltb d d' ≡ earns n (region held cut) (going (state l held' cut' m))
-      go Anew y o a = lt-ltb d d' (omega arith) ∙ anew-earns y m l
-      go Already y o a = le-ltb d d' (omega arith) ∙ already-earns y m l
-      go False y (inl z) a = absurd (omega arith)
-      go False y (inr z) a = absurd (omega arith)
+      go Anew y a = lt-ltb d d' (omega arith) ∙ anew-earns y m l
+      go Already y a = le-ltb d d' (omega arith) ∙ already-earns y m l
+      go False y a = absurd (o y)
 
 -- a Conflict, whatever was decided
 pub conflict-earns : (n : ℕ) (old : Region) (s : State) → true ≡ earns n old (conflict s)

@@ -1,13 +1,10 @@
 -- Publishing in a closing: each output decided in turn, up to the end, a false decision or a stop. Assumes nothing.
 use mathlib.Core.Path.{◌≡◌, refl, sym, ap, ap₂, ◌∙◌, subst}
-use mathlib.Core.Logic.{inl, inr}
 use mathlib.Core.Bool.{Bool, true, false, ◌||◌}
-use mathlib.Core.List.{List, [], ◌∷◌}
+use mathlib.Core.List.{List, []}
 use mathlib.Core.Option.{Option, none, some}
 use Prim.Native.Nat.{ℕ, zero, suc, ◌<◌, ◌≤◌}
 use native.Mathlib.Omega.{arith}
-use types.Run.{OneOf}
-use denote.Enum.Declared.{tag_of}
 use lib.Dec.{T}
 use lib.ListN.{length}
 use Rattle.lists.specs.Lists.{ascending}
@@ -28,7 +25,6 @@ use Rattle.model.specs.Operations.{next_answer}
 use Rattle.model.specs.Closing.{State, Turn, going, conflict, halted, on_going, with_meter, with_region, decide_on, publish}
 use Rattle.model.specs.Closing.{decides, earns}
 use Rattle.model.specs.Priority.{Contains}
-use Rattle.model.specs.contracts.NextAnswer.{the_type}
 use Rattle.model.proofs.Slots.{ascending-asc}
 use Rattle.model.proofs.Priority.Cursors.{Good, start-good, next-gives}
 use Rattle.model.proofs.Priority.Reaching.{After, Resting, resting}
@@ -42,7 +38,6 @@ use Rattle.close_publish.specs.Turns.{Beside, beside, state, ended_as, turned, E
 use Rattle.close_publish.specs.declared.Flow.{Flow}
 use Rattle.close_publish.specs.declared.Flow.TheVariants.{Continues, Conflict, Stopped}
 use Rattle.close_publish.specs.declared.Reading.{Reading}
-use Rattle.close_publish.specs.contracts.Flow.{the_type as flow-type}
 use Rattle.close_publish.proofs.Ending.{ended-goes, ended-stays}
 use Rattle.close_publish.proofs.Deciding.{decided-grown}
 
@@ -182,21 +177,18 @@ end-next stopped e = absurd (let q : ◌≡◌ {A = ℕ} 0 1 = cc in omega arith
 end-next end e = refl
 end-next (output d) e = absurd (let q : ◌≡◌ {A = ℕ} 0 1 = cc in omega arith)
 
-stopped-next : (z : Next) → OneOf (0 ∷ 1 ∷ []) (tag_of the_type (next_answer z)) → z ≡ stopped
+stopped-next : (z : Next) → ((c : Literal) → next_answer z ≡ next-answer.Output c → ⊥) → (next_answer z ≡ next-answer.End → ⊥) → z ≡ stopped
 unfolding next_answer
-stopped-next stopped t = refl
-stopped-next end (inl e) = absurd (omega arith)
-stopped-next end (inr e) = absurd (omega arith)
-stopped-next (output d) (inl e) = absurd (omega arith)
-stopped-next (output d) (inr e) = absurd (omega arith)
+stopped-next stopped o e = refl
+stopped-next end o e = absurd (e refl)
+stopped-next (output d) o e = absurd (o _ refl)
 
 -- ---- one decision, by how it ended
 -- it never stops: where it does not go on it is a Conflict, which earns a hit
-clashes : (w : Flow) (n : ℕ) (old older : Region) (s : State) (c : ℕ) (t : State) → OneOf (1 ∷ 2 ∷ []) (tag_of flow-type w)
+clashes : (w : Flow) (n : ℕ) (old older : Region) (s : State) (c : ℕ) (t : State) → (w ≡ Continues → ⊥)
     → ended_as w s ≡ decide_on n c t → earns n old (ended_as w s) ≡ earns n older (ended_as w s)
 unfolding earns decide_on
-clashes Continues n old older s c t (inl o) e = absurd (omega arith)
-clashes Continues n old older s c t (inr o) e = absurd (omega arith)
+clashes Continues n old older s c t o e = absurd (o refl)
 clashes Conflict n old older s c t o e = refl
 clashes Stopped n old older s c t o e = go (decide n t.region c) e
   where
@@ -293,11 +285,12 @@ module _ (n : ℕ) (slot : List ℕ) (st : Stored n slot) where
     answer-is : next_answer next ≡ f.answer
     answer-is = sym (ap (λ (y : NextResult). y.answer) q)
 
-    pub publish-stopped : OneOf (0 ∷ 1 ∷ []) (tag_of the_type f.answer) → (l : Beside) → halted (state l held cut f.meter) ≡ wholly l
-    publish-stopped o l =
+    pub publish-stopped : ((c : Literal) → f.answer ≡ next-answer.Output c → ⊥) → (f.answer ≡ next-answer.End → ⊥) → (l : Beside)
+        → halted (state l held cut f.meter) ≡ wholly l
+    publish-stopped o e l =
         ap (λ (y : Meter). halted (state l held cut y)) meter-is
         ∙ sym (publish-stops (left row k) n row k (state l held cut m)
-        (stopped-next next (subst (λ (y : NextAnswer). OneOf (0 ∷ 1 ∷ []) (tag_of the_type y)) (sym answer-is) o)))
+        (stopped-next next (λ c q. o c (sym answer-is ∙ q)) (λ q. e (sym answer-is ∙ q))))
         ∙ w.rest l
 
     pub publish-end : f.answer ≡ next-answer.End → (l : Beside) → going (state l held cut f.meter) ≡ wholly l
@@ -320,13 +313,13 @@ module _ (n : ℕ) (slot : List ℕ) (st : Stored n slot) where
           ∙ w.rest l
 
       -- a decision that does not go on is a Conflict, and ends the walk
-      pub publish-conflict : OneOf (1 ∷ 2 ∷ []) (tag_of flow-type one.ended.flow) → (l : Beside)
+      pub publish-conflict : (one.ended.flow ≡ Continues → ⊥) → (l : Beside)
           → turned one.ended l held' cut' ≡ wholly l
       publish-conflict o l =
           ended-stays one.ended.flow (state l held' cut' one.ended.meter) (publish (left row k) n row f.cursor) o
           ∙ ap (λ (y : Turn). on_going y (publish (left row k) n row f.cursor)) (d l) ∙ here l
 
-      pub ended-earns : OneOf (1 ∷ 2 ∷ []) (tag_of flow-type one.ended.flow) → Earned n one held cut held' cut'
+      pub ended-earns : (one.ended.flow ≡ Continues → ⊥) → Earned n one held cut held' cut'
           → Earned n one held₀ cut₀ held' cut'
       ended-earns o g l =
           g l

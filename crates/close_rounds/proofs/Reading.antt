@@ -1,11 +1,9 @@
 -- The rows read in a round, in turn. Assumes nothing.
 use mathlib.Core.Path.{◌≡◌, refl, sym, ap, ◌∙◌}
-use mathlib.Core.List.{List, [], ◌∷◌}
+use mathlib.Core.List.{List}
 use Prim.Native.Nat.{ℕ, ◌+◌, ◌≤◌, ◌<◌}
 use native.Mathlib.Numerals.{add-one}
 use native.Mathlib.Omega.{arith}
-use types.Run.{OneOf}
-use denote.Enum.Declared.{tag_of}
 use lib.ListN.{length, get_or, drop, drop_of_length-le}
 use lib.Seq.{drop-cons}
 use Rattle.meter.specs.declared.Meter.{Meter}
@@ -18,7 +16,6 @@ use Rattle.close_publish.specs.declared.Flow.TheVariants.{Continues}
 use Rattle.close_publish.specs.declared.Acted.{Acted}
 use Rattle.close_publish.specs.Turns.{ledger_of, beside, state, acted}
 use Rattle.close_publish.specs.Standing.{Standing}
-use Rattle.close_publish.specs.contracts.Flow.{the_type}
 use Rattle.close_publish.proofs.Ending.{ended-goes, ended-stays}
 
 round-none : (n : ℕ) (ps : List ℕ) (i : ℕ) (s : State) → length ps ≤ i → going s ≡ round n (drop i ps) s
@@ -83,7 +80,7 @@ module _ (n rows : ℕ) (ps slots₀ held₀ cut₀ : List ℕ) (m₀ : Meter) (
         pub read-stands : Standing n rows (rows_in rows slots₀) slots' held' cut'
         read-stands = stands_from n rows (rows_in rows slots) (rows_in rows slots₀) slots' held' cut' w.stands.same s
 
-        pub read-ended : OneOf (1 ∷ 2 ∷ []) (tag_of the_type g.ended.flow) → (h : Header)
+        pub read-ended : (g.ended.flow ≡ Continues → ⊥) → (h : Header)
             → acted g (ledger_of h rows slots') held' cut' ≡ wholly h
         read-ended k h =
             ended-stays g.ended.flow (state (beside (ledger_of h rows slots') g.contradicted) held' cut' g.ended.meter)

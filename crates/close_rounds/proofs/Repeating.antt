@@ -6,8 +6,6 @@ use mathlib.Core.Option.{Option, none, some}
 use Prim.Native.Nat.{ℕ, suc, ◌≤◌, ◌<◌}
 use native.Mathlib.Nat.{le_refl}
 use native.Mathlib.Omega.{arith}
-use types.Run.{OneOf}
-use denote.Enum.Declared.{tag_of}
 use lib.Dec.{T}
 use lib.ListN.{length, take, length-take}
 use Rattle.lists.specs.Lists.{all}
@@ -35,7 +33,6 @@ use Rattle.close_rounds.specs.declared.RoundEnd.{RoundEnd}
 use Rattle.close_publish.specs.Turns.{ledger_of, beside, state}
 use Rattle.close_rounds.specs.Running.{Running}
 use Rattle.close_rounds.specs.Rounds.{state_in, round_turn, one_round, Under, New}
-use Rattle.close_publish.specs.contracts.Flow.{the_type}
 use Rattle.close_publish.proofs.Ending.{ended-goes, ended-stays}
 
 -- ---- the rows of a running ledger are valid
@@ -188,7 +185,7 @@ module _ (h₀ : Header) (slots₀ postings₀ held₀ cut₀ places₀ noted₀
     turn : on_going (round_turn g slots' held' cut') (next fuel n (take k noted) here) ≡ wholly
     turn = ap (λ (x : Turn). on_going x (next fuel n (take k noted) here)) t ∙ rounds-by fuel n (take k noted) here ∙ w.rest
 
-    pub repeat-ended : OneOf (1 ∷ 2 ∷ []) (tag_of the_type g.flow) → round_turn g slots' held' cut' ≡ wholly
+    pub repeat-ended : (g.flow ≡ Continues → ⊥) → round_turn g slots' held' cut' ≡ wholly
     repeat-ended i = ended-stays g.flow there (next fuel n (take k noted) here) i ∙ turn
 
     module _ (e : g.flow ≡ Continues) where

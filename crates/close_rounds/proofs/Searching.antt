@@ -1,14 +1,11 @@
 -- One round of a closing: the search, and the rows that it found. Assumes nothing.
 use mathlib.Core.Path.{◌≡◌, refl, sym, ap, ap₂, ◌∙◌, subst}
-use mathlib.Core.Logic.{inl, inr}
 use mathlib.Core.Bool.{Bool, true, false}
-use mathlib.Core.List.{List, [], ◌∷◌, map}
+use mathlib.Core.List.{List, map}
 use mathlib.Core.Option.{Option, none, some}
 use Prim.Native.Nat.{ℕ, ◌-◌, ◌≤◌, ◌<◌}
 use native.Mathlib.Nat.{le_refl, sub-zero}
 use native.Mathlib.Omega.{arith}
-use types.Run.{OneOf}
-use denote.Enum.Declared.{tag_of}
 use lib.ListN.{length, take, replicate, length-append}
 use Rattle.lists.specs.Lists.{sort_of, concat, pad, up_to}
 use Rattle.lists.specs.Counts.{Each}
@@ -21,14 +18,12 @@ use Rattle.meter.specs.declared.Tick.TheVariants.{Ticked, Stopped}
 use Rattle.meter.specs.Meter.{ticks}
 use Rattle.model.specs.declared.Header.{Header}
 use Rattle.model.specs.declared.Contradicted.{Contradicted}
-use Rattle.model.specs.declared.CandidatesAnswer.{CandidatesAnswer}
 use Rattle.model.specs.declared.CandidatesAnswer.TheVariants as answer
 use Rattle.model.specs.Records.{with_stale}
 use Rattle.model.specs.Postings.{Search, searched, rebuilt, search_ticks, positions, posted_at, postings_of, filed, candidates}
 use Rattle.model.specs.Refusals.{ledger_in}
 use Rattle.model.specs.Operations.{candidates_answer, found_words}
 use Rattle.model.specs.Closing.{State, Turn, halted, round}
-use Rattle.model.specs.contracts.CandidatesAnswer.{the_type}
 use Rattle.postings.specs.declared.searching.Searched.{Searched}
 use Rattle.slots.specs.Layout.{rows_in}
 use Rattle.postings.specs.Searching.{ready_ticks, SearchEnd, search_end, found_end, ledger_of as lent_ledger}
@@ -39,14 +34,13 @@ use Rattle.postings.proofs.Standing.{here-searchable}
 use Rattle.slots.proofs.Holding.{stands-under}
 use Rattle.postings.proofs.Keeping.{candidates-keep}
 use Rattle.close_publish.specs.declared.Flow.{Flow}
-use Rattle.close_publish.specs.declared.Flow.TheVariants.{Continues}
+use Rattle.close_publish.specs.declared.Flow.TheVariants.{Continues, Conflict, Stopped as FlowStopped}
 use Rattle.close_publish.specs.declared.Acted.{Acted}
 use Rattle.close_publish.specs.Turns.{ledger_of, beside, state, ended_as, acted}
 use Rattle.close_publish.specs.Standing.{Standing}
 use Rattle.close_rounds.specs.Running.{Running}
 use Rattle.close_rounds.specs.declared.RoundEnd.{RoundEnd}
 use Rattle.close_rounds.specs.Rounds.{state_in, one_round, Under, New}
-use Rattle.close_publish.specs.contracts.Flow.{the_type as flow-type}
 
 -- ---- what a search finds are rows
 abbrev FoundBelow : ℕ → Option (List ℕ) → Type 0
@@ -113,11 +107,10 @@ runs_on h slots postings held cut slots' held' cut' r s e = record {
 }
 
 -- ---- the code's answer
-none_found : (o : Option (List ℕ)) → OneOf (0 ∷ 1 ∷ []) (tag_of the_type (candidates_answer o)) → o ≡ none
+none_found : (o : Option (List ℕ)) → ((c : ℕ) → candidates_answer o ≡ answer.Count c → ⊥) → o ≡ none
 unfolding candidates_answer
 none_found none t = refl
-none_found (some ps) (inl e) = absurd (omega arith)
-none_found (some ps) (inr e) = absurd (omega arith)
+none_found (some found) t = absurd (t _ refl)
 
 record Found (o : Option (List ℕ)) (c n : ℕ) (ws : List ℕ) : Type 0 where
   at : List ℕ
@@ -135,13 +128,16 @@ unfolding pad
 pad-fits n xs e = let a = length-append xs (replicate (n - length xs) 0) in omega arith
 
 -- a round that does not go on says nothing of the scratch
-pub new-ended : (g : RoundEnd) (ys ds : List ℕ) → OneOf (1 ∷ 2 ∷ []) (tag_of flow-type g.flow) → New g ys ds
-new-ended g ys ds i =
-    record { gathered = λ e. absurd (never (subst (λ (w : Flow). OneOf (1 ∷ 2 ∷ []) (tag_of flow-type w)) e i)) }
+pub new-ended : (g : RoundEnd) (ys ds : List ℕ) → (g.flow ≡ Continues → ⊥) → New g ys ds
+new-ended g ys ds i = record { gathered = λ e. absurd (i e) }
+
+pub stopped-ended : FlowStopped ≡ Continues → ⊥
+stopped-ended e = let z : ◌≡◌ {A = ℕ} 2 0 = ap code e in omega arith
   where
-    never : OneOf (1 ∷ 2 ∷ []) (tag_of flow-type Continues) → ⊥
-    never (inl e) = omega arith
-    never (inr e) = omega arith
+    code : Flow → ℕ
+    code Continues = 0
+    code Conflict = 1
+    code FlowStopped = 2
 
 -- ---- a round
 module _ (h : Header) (slots postings held cut ys : List ℕ) (k : ℕ) (m : Meter) (o : Contradicted)
@@ -199,12 +195,11 @@ module _ (h : Header) (slots postings held cut ys : List ℕ) (k : ℕ) (m : Met
         → Running f.header slots postings' held cut
     search-runs postings' p = runs-under h f.header search-under slots postings held cut postings' run p
 
-    pub search-stopped : OneOf (0 ∷ 1 ∷ []) (tag_of the_type f.answer)
+    pub search-stopped : ((c : ℕ) → f.answer ≡ answer.Count c → ⊥)
         → halted (state_in f.header slots held cut f.meter o) ≡ one_round h.limits.atoms (take k ys) before
     unfolding after
     search-stopped i =
-        let z = none_found search.found
-        (subst (λ (y : CandidatesAnswer). OneOf (0 ∷ 1 ∷ []) (tag_of the_type y)) (ap (λ (y : SearchEnd). y.answer) end_is) i) in
+        let z = none_found search.found (λ c q. i c (ap (λ (y : SearchEnd). y.answer) end_is ∙ q)) in
         ap halted (state-is slots held cut f.meter o ∙ searched-is) ∙ sym (one-is ∙ ap after z)
 
     module _ (c : ℕ) (a : f.answer ≡ answer.Count c) where

@@ -16,7 +16,8 @@ use Rattle.meter.specs.contracts.Verdict.{the_type}
 use Rattle.meter.specs.declared.Verdict.TheVariants as verdict
 use Rattle.meter.specs.declared.Read.{Read}
 use Rattle.meter.specs.declared.Read.TheVariants as read
-use Rattle.meter.specs.Meter.{and_then, pay_one, pay, judged, pay-add, pay-left, pay-none, pay-suc}
+use Rattle.meter.specs.Meter.{and_then, pay_one, pay, judged}
+use Rattle.meter.proofs.Laws.{pay-add, pay-left, pay-none, pay-suc}
 use Rattle.meter.specs.declared.Payment.TheVariants.{Paid, Ended}
 use Rattle.meter.specs.Payment.{payment_of, WhereYes}
 

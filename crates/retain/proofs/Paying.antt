@@ -8,7 +8,8 @@ use Rattle.meter.specs.declared.Judged.{Judged}
 use Rattle.meter.specs.declared.Verdict.TheVariants as verdict
 use Rattle.meter.specs.declared.Read.{Read}
 use Rattle.meter.specs.declared.Read.TheVariants as read
-use Rattle.meter.specs.Meter.{and_then, pay, judged, pay-add}
+use Rattle.meter.specs.Meter.{and_then, pay, judged}
+use Rattle.meter.proofs.Laws.{pay-add}
 use Rattle.retain_compare.proofs.Answers.{told-yes, told-no, told-declined, told-stopped}
 
 module _ (n k : ℕ) (a : Account) (m : Meter) {j : Judged} (e : j ≡ judged true (pay n a m)) where

@@ -7,7 +7,8 @@ use Rattle.meter.specs.declared.Meter.{Meter}
 use Rattle.meter.specs.declared.Account.{Account}
 use Rattle.meter.specs.declared.Read.{Read}
 use Rattle.meter.specs.declared.Read.TheVariants as read
-use Rattle.meter.specs.Meter.{and_then, pay, pay-add, pay-none}
+use Rattle.meter.specs.Meter.{and_then, pay}
+use Rattle.meter.proofs.Laws.{pay-add, pay-none}
 use Rattle.model.specs.declared.Header.{Header}
 use Rattle.model.specs.declared.Source.{Source}
 use Rattle.model.specs.Records.{Row, Entry, Ledger, is_row, max_outputs}

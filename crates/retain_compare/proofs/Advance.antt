@@ -18,7 +18,8 @@ use Rattle.meter.specs.declared.Verdict.{Verdict}
 use Rattle.meter.specs.declared.Verdict.TheVariants as verdict
 use Rattle.meter.specs.declared.Read.{Read}
 use Rattle.meter.specs.declared.Read.TheVariants as read
-use Rattle.meter.specs.Meter.{and_then, pay, pay-add, pay-none}
+use Rattle.meter.specs.Meter.{and_then, pay}
+use Rattle.meter.proofs.Laws.{pay-add, pay-none}
 use Rattle.model.specs.Records.{Row, Entry, max_outputs}
 use Rattle.model.specs.Rows.{subsumes}
 use Rattle.model.specs.Slots.{row_in}

@@ -8,7 +8,8 @@ use Rattle.meter.specs.declared.Verdict.{Verdict}
 use Rattle.meter.specs.declared.Verdict.TheVariants as verdict
 use Rattle.meter.specs.declared.Read.{Read}
 use Rattle.meter.specs.declared.Read.TheVariants as read
-use Rattle.meter.specs.Meter.{pay, judged, pay-none}
+use Rattle.meter.specs.Meter.{pay, judged}
+use Rattle.meter.proofs.Laws.{pay-none}
 
 -- how the reads of an answer went, and what it says of the question
 abbrev read_of : Verdict → Account → Meter → Read

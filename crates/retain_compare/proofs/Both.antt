@@ -9,7 +9,8 @@ use Rattle.meter.specs.declared.Account.{Account}
 use Rattle.meter.specs.declared.Judged.{Judged}
 use Rattle.meter.specs.declared.Read.{Read}
 use Rattle.meter.specs.declared.Read.TheVariants as read
-use Rattle.meter.specs.Meter.{and_then, pay, judged, pay-add, pay-none}
+use Rattle.meter.specs.Meter.{and_then, pay, judged}
+use Rattle.meter.proofs.Laws.{pay-add, pay-none}
 use Rattle.model.specs.Records.{Row, Entry}
 use Rattle.model.specs.Slots.{row_in}
 use Rattle.model.specs.Retention.{Examined as Entered, Pass, found, passed, first_pass, first_reads, second_reads, later_reads}

@@ -13,7 +13,8 @@ use Rattle.meter.specs.declared.Verdict.{Verdict}
 use Rattle.meter.specs.declared.Verdict.TheVariants as verdict
 use Rattle.meter.specs.declared.Read.{Read}
 use Rattle.meter.specs.declared.Read.TheVariants as read
-use Rattle.meter.specs.Meter.{and_then, pay_one, pay, judged, pay-add}
+use Rattle.meter.specs.Meter.{and_then, pay_one, pay, judged}
+use Rattle.meter.proofs.Laws.{pay-add}
 use Rattle.model.specs.Records.{Row}
 use Rattle.model.specs.Rows.{subsumes, subsumes_reads}
 use Rattle.model.specs.Union.{joins, join_reads, grown}

@@ -17,7 +17,8 @@ use Rattle.meter.specs.declared.Judged.{Judged}
 use Rattle.meter.specs.declared.Verdict.{Verdict}
 use Rattle.meter.specs.declared.Verdict.TheVariants as verdict
 use Rattle.meter.specs.declared.Read.{Read}
-use Rattle.meter.specs.Meter.{and_then, pay, judged, pay-add}
+use Rattle.meter.specs.Meter.{and_then, pay, judged}
+use Rattle.meter.proofs.Laws.{pay-add}
 use Rattle.model.specs.Records.{Row, Entry}
 use Rattle.model.specs.Rows.{subsumes}
 use Rattle.model.specs.Retention.{second_pass, second_reads}

@@ -18,7 +18,8 @@ use Rattle.words.specs.Region.{Region, holds, contradicts}
 use Rattle.meter.specs.declared.Meter.{Meter}
 use Rattle.meter.specs.declared.Tick.{Tick}
 use Rattle.meter.specs.declared.Tick.TheVariants.{Ticked, Stopped}
-use Rattle.meter.specs.Meter.{tick_of, on_tick, ticks, ticks-add}
+use Rattle.meter.specs.Meter.{tick_of, on_tick, ticks}
+use Rattle.meter.proofs.Laws.{ticks-add}
 use Rattle.model.specs.declared.Deduction.{Deduction}
 use Rattle.model.specs.declared.Deduction.TheVariants.{Nothing, Force, Require}
 use Rattle.model.specs.Records.{Row}

@@ -15,7 +15,8 @@ use Rattle.meter.specs.declared.Verdict.{Verdict}
 use Rattle.meter.specs.declared.Verdict.TheVariants as verdict
 use Rattle.meter.specs.declared.Read.{Read}
 use Rattle.meter.specs.declared.Read.TheVariants as read
-use Rattle.meter.specs.Meter.{pay_one, pay, judged, pay-none}
+use Rattle.meter.specs.Meter.{pay_one, pay, judged}
+use Rattle.meter.proofs.Laws.{pay-none}
 use Rattle.model.specs.Records.{Row}
 use Rattle.model.specs.Union.{grown, may_join, joins, same_reads, union_reads, join_reads}
 use Rattle.meter.specs.declared.Payment.TheVariants.{Paid, Ended}

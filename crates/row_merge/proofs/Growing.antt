@@ -15,7 +15,8 @@ use Rattle.meter.specs.declared.Account.{Account}
 use Rattle.meter.specs.declared.Judged.{Judged}
 use Rattle.meter.specs.declared.Verdict.{Verdict}
 use Rattle.meter.specs.declared.Verdict.TheVariants as verdict
-use Rattle.meter.specs.Meter.{pay, judged, pay-none}
+use Rattle.meter.specs.Meter.{pay, judged}
+use Rattle.meter.proofs.Laws.{pay-none}
 use Rattle.model.specs.Records.{Row, slot_words, max_conditions, max_outputs, conditions_at, outputs_at, body_at}
 use Rattle.model.specs.Union.{union, grown}
 use Rattle.model.specs.Slots.{row_in}

@@ -197,24 +197,23 @@ module _ (p : TransferState) (q : TransferState) (e : q ≡ ticked_by p) where
     made_so (tick.Ticked m) a w = (ap tick_of (sym h.meter) ∙ a, carried-ticked n c p slots postings v h m Whole)
     made_so (tick.Stopped m) a w = let z : ◌≡◌ {A = ℕ} 0 1 = cc in absurd (omega arith)
 
-    missed-so : (t : Tick) → tick_of p.meter ≡ t → OneOf (1 ∷ 2 ∷ []) (tag_of the_type (ticked_as p t).progress) → Missed (ticked_as p t)
-    missed-so (tick.Ticked m) a (inl w) = absurd (omega arith)
-    missed-so (tick.Ticked m) a (inr w) = absurd (omega arith)
+    missed-so : (t : Tick) → tick_of p.meter ≡ t → ((ticked_as p t).progress ≡ Whole → ⊥) → Missed (ticked_as p t)
+    missed-so (tick.Ticked m) a w = absurd (w refl)
     missed-so (tick.Stopped m) a w = (ap tick_of (sym h.meter) ∙ a, carried-ticked n c p slots postings v h m Stopped)
 
     made : q.progress ≡ Whole → Made q
     made w = subst Made (sym e) (made_so (tick_of p.meter) refl (sym (ap (λ (x : TransferState). x.progress) e) ∙ w))
 
-    missed : OneOf (1 ∷ 2 ∷ []) (tag_of the_type q.progress) → Missed q
+    missed : (q.progress ≡ Whole → ⊥) → Missed q
     missed w =
         subst Missed (sym e) (missed-so (tick_of p.meter) refl
-        (subst (λ (x : TransferState). OneOf (1 ∷ 2 ∷ []) (tag_of the_type x.progress)) e w))
+        (subst (λ (x : TransferState). x.progress ≡ Whole → ⊥) e w))
 
     module _ (limits : LearningLimits) (ts : List ℕ) (i : ℕ) where
       abbrev x : Entry
       x = entry_in (slot_at ts i)
 
-      pub row-halted : OneOf (1 ∷ 2 ∷ []) (tag_of the_type q.progress)
+      pub row-halted : (q.progress ≡ Whole → ⊥)
           → Handed n (suc c) q slots postings i ts ts x (deliver_rows limits (x ∷ []) v)
       row-halted w =
           let m = missed w in

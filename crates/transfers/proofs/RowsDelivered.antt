@@ -61,10 +61,9 @@ module _ (t : Header) (ws ps : List ℕ) (h : Header) (done es : List Entry) (i 
       (stood-accepted t ws ps ledger s).stands.held.over (outputs-fit t ws ps ledger s) under
 
 -- a transfer that does not go on
-ended : (x : Progress) (es : List Entry) (f : Transfer → Delivery) (d : Delivery) → OneOf (1 ∷ 2 ∷ []) (tag_of the_type x)
+ended : (x : Progress) (es : List Entry) (f : Transfer → Delivery) (d : Delivery) → (x ≡ Whole → ⊥)
     → along_by (progress_of x) es f d ≡ (d.0 ++ es, d.1)
-ended Whole es f d (inl e) = absurd (omega arith)
-ended Whole es f d (inr e) = absurd (omega arith)
+ended Whole es f d t = absurd (t refl)
 ended Declined es f d t = refl
 ended Stopped es f d t = refl
 
@@ -126,7 +125,7 @@ module _ (limits : LearningLimits) (es : List Entry) (v₀ : Transfer) (n : ℕ)
             ∙ sym (next ∙ ap (λ (x : Progress). after s.done (along_by (progress_of x) left (deliver_rows limits left) w)) q);
       }
 
-      pub delivering-stop : OneOf (1 ∷ 2 ∷ []) (tag_of the_type r.progress) → (rows : ℕ) → i < rows
+      pub delivering-stop : (r.progress ≡ Whole → ⊥) → (rows : ℕ) → i < rows
           → Delivered n rows r ws ps before then es (deliver_rows limits es v₀)
       delivering-stop t rows l =
           subst (Delivered n rows r ws ps before then es)

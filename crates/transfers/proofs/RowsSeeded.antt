@@ -1,12 +1,9 @@
 -- The rows of the store in turn: what is left, from here, is what was left at the start. Assumes nothing.
 use mathlib.Core.Path.{◌≡◌, refl, sym, ap, ◌∙◌, subst}
-use mathlib.Core.Logic.{inl, inr}
 use mathlib.Core.List.{List, [], ◌∷◌}
 use Prim.Native.Nat.{ℕ, suc, ◌+◌, ◌-◌, ◌*◌, ◌≤◌, ◌<◌}
 use native.Mathlib.Omega.{arith}
 use lib.ListN.{length, take, drop, drop_of_length-le}
-use types.Run.{OneOf}
-use denote.Enum.Declared.{tag_of}
 use Rattle.meter.specs.declared.Meter.{Meter}
 use Rattle.meter.specs.declared.Sharing.{Sharing}
 use Rattle.model.specs.declared.LearningLimits.{LearningLimits}
@@ -22,7 +19,6 @@ use Rattle.transfers.specs.declared.receiving.Progress.{Progress}
 use Rattle.transfers.specs.declared.receiving.Progress.TheVariants.{Whole, Declined, Stopped}
 use Rattle.transfers.specs.declared.receiving.TransferState.{TransferState}
 use Rattle.transfers.specs.Transfer.{progress_of, start_by, Carried, Ready}
-use Rattle.transfers.specs.contracts.receiving.Progress.{the_type}
 use Rattle.transfers.proofs.Seeds.{onward_by, seed-end, seed-split}
 use Rattle.transfers.proofs.Carrying.{carried-up, carried-start, ready_at}
 
@@ -45,10 +41,8 @@ carried_first h slots postings s a m e =
     (carried-start h slots postings (ledger_in (lent h slots postings)) s a m)
 
 -- a transfer that does not go on
-pub ended : (x : Progress) (v : Transfer) (f : Transfer → Transfer) → OneOf (1 ∷ 2 ∷ []) (tag_of the_type x)
-    → onward_by (progress_of x) v f ≡ v
-ended Whole v f (inl e) = absurd (omega arith)
-ended Whole v f (inr e) = absurd (omega arith)
+pub ended : (x : Progress) (v : Transfer) (f : Transfer → Transfer) → (x ≡ Whole → ⊥) → onward_by (progress_of x) v f ≡ v
+ended Whole v f t = absurd (t refl)
 ended Declined v f t = refl
 ended Stopped v f t = refl
 
@@ -89,7 +83,7 @@ module _ (limits : LearningLimits) (mark : ℕ) (es : List Entry) (v₀ : Transf
         rest = sym (next ∙ ap (λ (x : Progress). onward_by (progress_of x) w (seed_rows limits mark (drop (i + 1) es))) q);
       }
 
-      pub seeding-stop : OneOf (1 ∷ 2 ∷ []) (tag_of the_type r.progress) → (rows : ℕ) → i < rows
+      pub seeding-stop : (r.progress ≡ Whole → ⊥) → (rows : ℕ) → i < rows
           → Carried n rows r ws ps (seed_rows limits mark es v₀)
       seeding-stop t rows l =
           subst (Carried n rows r ws ps) (sym (next ∙ ended r.progress w (seed_rows limits mark (drop (i + 1) es)) t))

@@ -1,5 +1,5 @@
 -- `answer` meets its contract. Assumes nothing.
-use Rattle.meter.specs.Meter.{pay-none}
+use Rattle.meter.proofs.Laws.{pay-none}
 use Rattle.meter.proofs.answer.Goals as goal
 
 pub returns-then-yes : goal.returns-then-yes

@@ -18,13 +18,13 @@ module _ (c : After-place-rows) where
 pub settle-requires : goal.settle-requires
 settle-requires c =
     let at_after_place_rows = (goal.at.settle-requires c).After-place-rows in
-    let a = c.requires.fact_1 in (
-      new-held _ _ _ a _ _ c.requires.fact_2 (f at_after_place_rows) _ _ _ _ _ c.place-rows.ensures.0 c.place-rows.ensures.1,
-      (
-        new-tier _ _ _ a _ _ c.requires.fact_2 (f at_after_place_rows) _ _ _ _ _ c.place-rows.ensures.0 c.place-rows.ensures.1,
-        (a.some, (a.wide, stale-zero _ _ _ a)),
-      ),
-    )  -- FIXME record ['fact_1', 'fact_2', 'fact_3', 'fact_4', 'fact_5']
+    let a = c.requires.fact_1 in record {
+      fact_1 = new-held _ _ _ a _ _ c.requires.fact_2 (f at_after_place_rows) _ _ _ _ _ c.place-rows.ensures.0 c.place-rows.ensures.1;
+      fact_2 = new-tier _ _ _ a _ _ c.requires.fact_2 (f at_after_place_rows) _ _ _ _ _ c.place-rows.ensures.0 c.place-rows.ensures.1;
+      fact_3 = a.some;
+      fact_4 = a.wide;
+      fact_5 = stale-zero _ _ _ a;
+    }
 
 pub returns : goal.returns
 returns c =

@@ -12,14 +12,18 @@ module _ (t : Start) where
   f = has t.args.replaced.now
 
 pub write_at-requires : goal.write_at-requires
-write_at-requires c =
-    let both = (after-inside _ _ _ _ c.requires.fact_1 c.in-After.is, (c.requires.fact_1.proposed, c.requires.fact_2)) in
-    record { fact_1 = both.0; fact_2 = both.1; fact_3 = both.2 }
+write_at-requires c = record {
+  fact_1 = after-inside _ _ _ _ c.requires.fact_1 c.in-After.is;
+  fact_2 = c.requires.fact_1.proposed;
+  fact_3 = c.requires.fact_2;
+}
 
 pub write_at-requires-in-First : goal.write_at-requires-in-First
-write_at-requires-in-First c =
-    let both = (first-inside _ _ _ _ c.requires.fact_1 _ c.in-First.is, (c.requires.fact_1.proposed, c.requires.fact_2)) in
-    record { fact_1 = both.0; fact_2 = both.1; fact_3 = both.2 }
+write_at-requires-in-First c = record {
+  fact_1 = first-inside _ _ _ _ c.requires.fact_1 _ c.in-First.is;
+  fact_2 = c.requires.fact_1.proposed;
+  fact_3 = c.requires.fact_2;
+}
 
 pub close_up-requires : goal.close_up-requires
 close_up-requires c = record {
@@ -28,9 +32,11 @@ close_up-requires c = record {
 }
 
 pub write_at-requires-in-Victim : goal.write_at-requires-in-Victim
-write_at-requires-in-Victim c =
-    let both = (victim-inside _ _ _ _ c.requires.fact_1 _ c.in-Victim.is, (c.requires.fact_1.proposed, c.requires.fact_2)) in
-    record { fact_1 = both.0; fact_2 = both.1; fact_3 = both.2 }
+write_at-requires-in-Victim c = record {
+  fact_1 = victim-inside _ _ _ _ c.requires.fact_1 _ c.in-Victim.is;
+  fact_2 = c.requires.fact_1.proposed;
+  fact_3 = c.requires.fact_2;
+}
 
 pub returns-in-After : goal.returns-in-After
 returns-in-After c =

@@ -16,7 +16,7 @@ use Rattle.retain_compare.specs.declared.Compared.{Compared}
 use Rattle.retain_compare.specs.Passes.{examined_by}
 use Rattle.retain_compare.specs.Turns.{WhereReplaces, both_passes}
 use Rattle.retain.proofs.Retaining.{retain-declined, retain-stopped, retain-subsumed, retain-row, retain-admits}
-use Rattle.retain.proofs.retain.Goals.{After-compare-beside, In-Replaces, In-Replaces-1}
+use Rattle.retain.proofs.retain.Goals.{After-compare-beside, In-Replaces}
 use Rattle.retain.proofs.retain.Goals as goal
 
 module _ (c : After-compare-beside) where
@@ -27,10 +27,10 @@ module _ (c : After-compare-beside) where
   es = entries_in c.args.header.rows c.args.slots.now
 
   abbrev words : List ℕ
-  words = c.compare-beside.new.rows.1.0
+  words = c.compare-beside.new.p
 
   abbrev f : ℕ → Bool
-  f = has c.compare-beside.new.rows.1.1.1.0
+  f = has c.compare-beside.new.replaced
 
 -- no row subsumes the proposal
 
@@ -45,24 +45,24 @@ module _ (c : In-Replaces) where
 
 pub compare-beside-requires : goal.compare-beside-requires
 compare-beside-requires c =
-    let a = c.requires.fact_1 in
-    let both = (held _ _ _ a, (c.requires.fact_2, (c.requires.fact_4, (omega (arith, a.stands.held.over.few), has-zero (max_rows / word_bits))))) in
-    record { fact_1 = both.0; fact_2 = both.1; fact_3 = both.2; fact_4 = both.3; fact_5 = both.4 }
+    let a = c.requires.fact_1 in record {
+      fact_1 = held _ _ _ a;
+      fact_2 = c.requires.fact_2;
+      fact_3 = c.requires.fact_4;
+      fact_4 = omega (arith, a.stands.held.over.few);
+      fact_5 = has-zero (max_rows / word_bits);
+    }
 
 pub admit-requires : goal.admit-requires
 admit-requires c =
     let at_after_compare_beside = (goal.at.admit-requires c).After-compare-beside in
-    let at_in_replaces_1 = (goal.at.admit-requires c).In-Replaces-1 in
-    let both = (
-      c.requires.fact_1,
-      (
-        (told at_in_replaces_1).1,
-        retain-row _ _ _ c.requires.fact_1 (P at_after_compare_beside) _ c.args.hits c.args.source _ _ c.compare-beside.ensures.0 (f at_after_compare_beside) _ (told at_in_replaces_1).0
-            c.requires.fact_4
-            c.requires.fact_3,
-      ),
-    ) in
-    record { fact_1 = both.0; fact_2 = both.1; fact_3 = both.2 }
+    let at_in_replaces = (goal.at.admit-requires c).In-Replaces in record {
+      fact_1 = c.requires.fact_1;
+      fact_2 = (told at_in_replaces).1;
+      fact_3 = retain-row _ _ _ c.requires.fact_1 (P at_after_compare_beside) _ c.args.hits c.args.source _ _ c.compare-beside.ensures.0 (f at_after_compare_beside) _ (told at_in_replaces).0
+          c.requires.fact_4
+          c.requires.fact_3;
+    }
 
 pub returns-in-Replaces : goal.returns-in-Replaces
 returns-in-Replaces c =

@@ -2,7 +2,8 @@
 use mathlib.Core.Path.{refl, sym, ap, ◌∙◌}
 use mathlib.Core.Bool.{true}
 use Rattle.meter.specs.declared.Judged.{Judged}
-use Rattle.meter.specs.Meter.{judged, pay-none}
+use Rattle.meter.specs.Meter.{judged}
+use Rattle.meter.proofs.Laws.{pay-none}
 use Rattle.row_merge.proofs.Growing.{changed-yes}
 use Rattle.row_merge.proofs.regrow.Goals as goal
 

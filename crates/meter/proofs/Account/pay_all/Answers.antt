@@ -1,6 +1,6 @@
 use native.Mathlib.Omega.{arith}
 use mathlib.Core.Path.{◌≡◌, refl, sym, ◌∙◌}
-use Rattle.meter.specs.Meter.{pay-left, pay-none}
+use Rattle.meter.proofs.Laws.{pay-left, pay-none}
 use Rattle.meter.proofs.Account.pay_all.Goals as goal
 
 pub loop-left-init : goal.loop-left-init

@@ -1,6 +1,6 @@
 -- `Sharing::pay`: declined, paid, stopped. Assumes nothing.
 use mathlib.Core.Path.{sym, ◌∙◌}
-use Rattle.meter.specs.Meter.{pay-empty, pay-ticked, pay-halted}
+use Rattle.meter.proofs.Laws.{pay-empty, pay-ticked, pay-halted}
 use Rattle.meter.proofs.Sharing.pay.Goals as goal
 
 pub returns-then-self-eq0 : goal.returns-then-self-eq0
