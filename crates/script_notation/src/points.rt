@@ -24,7 +24,7 @@ pub struct Name {
 // Whether a byte is a letter.
 fn is_letter(byte: u8) -> bool {
     if byte < b'a' {
-        return b'a' <= byte && byte <= b'z';
+        return b'A' <= byte && byte <= b'Z';
     }
     byte <= b'z'
 }
