@@ -10,7 +10,8 @@ use Rattle.meter.specs.declared.Judged.{Judged}
 use Rattle.meter.specs.declared.Tick.{Tick}
 use Rattle.meter.specs.declared.Tick.TheVariants.{Ticked, Stopped}
 use Rattle.meter.specs.Meter.{ticks, pay, judged}
-use Rattle.meter.proofs.Counting.{TickLimit, ticks-limit, judged-limit}
+use Rattle.meter.specs.Counting.{TickLimit}
+use Rattle.meter.proofs.Counting.{ticks-limit, judged-limit}
 use Rattle.words.specs.Region.{Region}
 use Rattle.model.specs.Records.{Row}
 use Rattle.model.specs.Rows.{prepare_reads}

@@ -7,11 +7,8 @@ use Rattle.meter.specs.declared.Tick.TheVariants.{Ticked, Stopped}
 use Rattle.meter.specs.declared.Account.{Account}
 use Rattle.meter.specs.declared.Read.{Read}
 use Rattle.meter.specs.declared.Read.TheVariants as read
+use Rattle.meter.specs.Counting.{Spent, StoppedTicks, UnpaidReads, TickLimit}
 use Rattle.meter.specs.Meter.{pick, tick_of, on_tick, ticks, made, reads_left, after_tick, pay_one, and_then, pay, judged}
-
--- a meter that makes no tick more
-abbrev pub Spent : Meter → Type 0
-Spent m = tick_of m ≡ Stopped m
 
 -- ---- one tick, one read
 abbrev OneTick : Meter → Tick → Type 0
@@ -81,11 +78,6 @@ pub pay-made : (n : ℕ) (a : Account) (m : Meter) {b : Account} {k : Meter} →
 pay-made n a m {b} {k} e = ticks-made n m (pay-ticks n a m b k e)
 
 -- ---- ticks that are stopped: fewer than n were made, as many as still fit the limit, and the meter is spent after them
-pub record StoppedTicks (n : ℕ) (m k : Meter) : Type 0 where
-  pub fewer : made m k < n
-  pub before : ticks (made m k) m ≡ Ticked k
-  pub fitting : made m k ≡ m.limit - m.charged
-  pub spent : Spent k
 
 stopped-after : (j n : ℕ) (m k : Meter) → j < n → ticks j m ≡ Ticked k → j ≡ m.limit - m.charged → Spent k → StoppedTicks n m k
 stopped-after j n m k l e f s =
@@ -113,9 +105,6 @@ ticks-stopped (suc n) m {k} e = go (tick_of m) refl e (λ l. ticks-stopped n l)
         stopped-after 0 (suc n) m k (omega arith) (ap Ticked (sym s.0)) (omega (arith, (one-tick m f).0)) s.1
 
 -- ---- reads that are not all paid: fewer than n, as many as ticks were made, and they leave the account and the meter of the end
-pub record UnpaidReads (n : ℕ) (a : Account) (m : Meter) (b : Account) (k : Meter) : Type 0 where
-  pub fewer : made m k < n
-  pub before : pay (made m k) a m ≡ read.Paid b k
 
 unpaid-after : (j n : ℕ) (a : Account) (m : Meter) (b : Account) (k : Meter) → j < n → pay j a m ≡ read.Paid b k → UnpaidReads n a m b k
 unpaid-after j n a m b k l e = let same : made m k ≡ j = pay-made j a m e in record { fewer = omega arith; before = rw same e }
@@ -167,9 +156,6 @@ pub pay-stopped : (n : ℕ) (a : Account) (m : Meter) {b : Account} {k : Meter}
 pay-stopped n a m e = subst (Unpaid n a m) e (unpaid n a m)
 
 -- ---- the limit stays as it was
-abbrev pub TickLimit : ℕ → Tick → Type 0
-TickLimit n (Ticked k) = k.limit ≡ n
-TickLimit n (Stopped k) = k.limit ≡ n
 
 pub ticks-limit : (n : ℕ) (m : Meter) → TickLimit m.limit (ticks n m)
 unfolding ticks

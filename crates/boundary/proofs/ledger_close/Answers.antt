@@ -1,8 +1,8 @@
 -- `boundary::ledger_close`. Two ways out. Assumes nothing.
--- where the closing has come back, from each way out
 use Rattle.boundary.proofs.LearningCalls.{close-refused, close-done}
 use Rattle.boundary.proofs.ledger_close.Goals as goal
 
+-- where the closing has come back, from each way out
 pub returns-then-reply-ne0 : goal.returns-then-reply-ne0
 returns-then-reply-ne0 c =
     close-refused _ _ _ _ _ _ c.header_of.ensures _

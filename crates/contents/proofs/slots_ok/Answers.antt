@@ -11,9 +11,7 @@ use Rattle.slots_check.specs.Check.{all_zero, slot_ok}
 use Rattle.contents.proofs.Walks.{slots-bad, slots-good, slots_end, slots-start}
 use Rattle.contents.proofs.Slots.{founded-start, founded-most, founded-next, founded-last, counted-bad, counted-other}
 use Rattle.contents.proofs.Slots.{counted_same}
-use Rattle.contents.proofs.slots_ok.Goals.{Else-not-is_slot}
-use Rattle.contents.proofs.slots_ok.Goals.{After-loop-p}
-use Rattle.contents.proofs.slots_ok.Goals.{After-loop-p, Else-not-is_slot}
+use Rattle.contents.proofs.slots_ok.Goals.{Else-not-is_slot, After-loop-p}
 use Rattle.contents.proofs.slots_ok.Goals as goal
 
 pub loop-p-init : goal.loop-p-init

@@ -1,8 +1,8 @@
+-- The invariant of `change`: the words stay as many as they were. Assumes nothing.
 use mathlib.Core.Path.{◌≡◌}
 use lib.ListN.{length}
 use Rattle.damaged.proofs.change.Given as goal
 
--- The invariant of `change`: the words stay as many as they were. Assumes nothing.
 abbrev pub invariant-loop-left : goal.invariant-loop-left
 invariant-loop-left l = length l.w ≡ length l.initial.w
 

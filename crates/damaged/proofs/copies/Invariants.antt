@@ -1,8 +1,8 @@
+-- The invariant of `copies`: the output buffer stays as long as it was. Assumes nothing.
 use mathlib.Core.Path.{◌≡◌}
 use lib.ListN.{length}
 use Rattle.damaged.proofs.copies.Given as goal
 
--- The invariant of `copies`: the output buffer stays as long as it was. Assumes nothing.
 abbrev pub invariant-loop-turns : goal.invariant-loop-turns
 invariant-loop-turns l = length l.out ≡ length l.initial.out
 

@@ -1,9 +1,9 @@
+-- The invariant of `try_all`: the output buffer stays as long as it was, and the functions left fall. Assumes nothing.
 use mathlib.Core.Path.{◌≡◌}
 use Prim.Native.Nat.{◌-◌, ◌≤◌}
 use lib.ListN.{length}
 use Rattle.damaged.proofs.try_all.Given as goal
 
--- The invariant of `try_all`: the output buffer stays as long as it was, and the functions left fall. Assumes nothing.
 abbrev pub invariant-loop-i : goal.invariant-loop-i
 invariant-loop-i l = (length l.out ≡ length l.initial.out) × (l.i ≤ 11)
 

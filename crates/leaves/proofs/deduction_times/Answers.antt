@@ -1,4 +1,3 @@
--- `deduction_times` meets its contract: each turn deduces with the meter that the last left. Assumes nothing.
 use mathlib.Core.Path.{refl, ◌∙◌}
 use Rattle.leaves.proofs.Calling.{deduce-more, deduce-last, deduce-limit, next-limit}
 use Rattle.leaves.proofs.deduction_times.Goals as goal

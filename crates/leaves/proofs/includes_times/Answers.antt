@@ -1,4 +1,3 @@
--- `includes_times` meets its contract: each turn asks the same of the account and the meter that the last left. Assumes nothing.
 use mathlib.Core.Path.{◌≡◌, refl, ap₂, ◌∙◌}
 use mathlib.Core.List.{List}
 use Prim.Native.Nat.{ℕ}

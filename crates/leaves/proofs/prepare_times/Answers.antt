@@ -1,4 +1,3 @@
--- `prepare_times` meets its contract: each turn prepares with the account, the meter and the slot that the last left. Assumes nothing.
 use mathlib.Core.Path.{◌≡◌, refl, ◌∙◌}
 use mathlib.Core.Bool.{true}
 use Rattle.leaves.proofs.Calling.{prepare-more, prepare-last, prepare-judged, asked-limit, next-limit}

@@ -1,3 +1,4 @@
+-- `prepare_times` meets its contract: each turn prepares with the account, the meter and the slot that the last left. Assumes nothing.
 use mathlib.Core.Path.{◌≡◌}
 use Prim.Native.Nat.{◌-◌}
 use lib.ListN.{length}
@@ -6,7 +7,6 @@ use Rattle.model.specs.Slots.{row_in}
 use Rattle.leaves.specs.Calls.{again, prepare_once, preparer}
 use Rattle.leaves.proofs.prepare_times.Given as goal
 
--- `prepare_times` meets its contract: each turn prepares with the account, the meter and the slot that the last left. Assumes nothing.
 abbrev pub invariant-loop-left : goal.invariant-loop-left
 invariant-loop-left l = (length l.slot ≡ slot_words)
     × (l.meter.limit ≡ l.work.limit)

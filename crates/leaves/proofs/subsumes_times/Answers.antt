@@ -1,4 +1,3 @@
--- `subsumes_times` meets its contract: each turn asks the same of the account and the meter that the last left. Assumes nothing.
 use mathlib.Core.Path.{refl, ◌∙◌}
 use Rattle.leaves.proofs.Calling.{asked-more, asked-last, asked-limit, next-limit}
 use Rattle.leaves.proofs.subsumes_times.Goals as goal

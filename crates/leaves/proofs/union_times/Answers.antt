@@ -1,4 +1,3 @@
--- `union_times` meets its contract: each turn unites anew with the account and the meter that the last left. Assumes nothing.
 use mathlib.Core.Path.{refl, ◌∙◌}
 use Rattle.leaves.proofs.Calling.{asked-more, asked-last, asked-limit, next-limit}
 use borrow.Author.Rules.{rules}

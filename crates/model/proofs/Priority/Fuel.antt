@@ -17,7 +17,8 @@ use Rattle.meter.specs.declared.Meter.{Meter}
 use Rattle.meter.specs.declared.Tick.{Tick}
 use Rattle.meter.specs.declared.Tick.TheVariants.{Ticked, Stopped}
 use Rattle.meter.specs.Meter.{tick_of, ticks}
-use Rattle.meter.proofs.Counting.{Spent, tick-stopped, ticks-stopped}
+use Rattle.meter.specs.Counting.{Spent}
+use Rattle.meter.proofs.Counting.{tick-stopped, ticks-stopped}
 use Rattle.model.specs.declared.CloseAnswer.TheVariants as close-answer
 use Rattle.model.specs.declared.Header.{Header}
 use Rattle.model.specs.declared.Deduction.{Deduction}

@@ -35,7 +35,6 @@ returns-then-not-is_row c =
     c.is_row.ensures (c.if-not-is_row.true))
 
 -- what the tests of the row and of the source left
-
 module _ (c : Else-source-gt1) where
   fits : fits_offer c.args.header.limits (row_of c.args.conditions.now c.args.outputs.now) ≡ true
   fits =

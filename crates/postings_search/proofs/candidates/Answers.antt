@@ -20,7 +20,6 @@ returns-then-n-ne0 c =
     (accept-refused (s (goal.at.returns-then-n-ne0 c).After-accept-n) _ [] _ c.accept-n.ensures c.if-n-ne0.true)
 
 -- the ledger was accepted
-
 module _ (c : Else-n-ne0) where
   accepts-here : refusal (accepts (s (goal.at.Else-n-ne0 c).After-accept-n) (others c.args.header c.args.answer.now) [])
       ≡ none

@@ -1,7 +1,7 @@
+-- The invariant of `fill`: the buffer stays as long as it was, and the words left fall. Assumes nothing.
 use Rattle.std.proofs.Common.{◌≡◌, ◌-◌, ◌≤◌, length}
 use Rattle.replay.proofs.fill.Given as goal
 
--- The invariant of `fill`: the buffer stays as long as it was, and the words left fall. Assumes nothing.
 abbrev pub invariant-loop-i : goal.invariant-loop-i
 invariant-loop-i l = (length l.buffer ≡ length l.initial.buffer) × (l.i ≤ l.count)
 

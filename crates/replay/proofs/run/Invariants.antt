@@ -1,7 +1,7 @@
+-- The invariant of `run`: the output buffer stays as long as it was. Assumes nothing.
 use Rattle.std.proofs.Common.{◌≡◌, length}
 use Rattle.replay.proofs.run.Given as goal
 
--- The invariant of `run`: the output buffer stays as long as it was. Assumes nothing.
 abbrev pub invariant-loop-turns : goal.invariant-loop-turns
 invariant-loop-turns l = length l.out ≡ length l.initial.out
 

@@ -23,7 +23,6 @@ module _ (c : After-next_from) where
   rows_are = entries-length c.args.rows c.args.slots.now
 
 -- no position is marked
-
 module _ (c : In-Nothing) where
   nothing : none ≡ next_from c.args.rows (marks (goal.at.In-Nothing c).After-next_from) 0
   nothing = sym (ap found_at c.in-Nothing.is) ∙ c.next_from.ensures

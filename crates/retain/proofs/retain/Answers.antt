@@ -33,7 +33,6 @@ module _ (c : After-compare-beside) where
   f = has c.compare-beside.new.replaced
 
 -- no row subsumes the proposal
-
 module _ (c : In-Replaces) where
   abbrev Told : Type 0
   Told =

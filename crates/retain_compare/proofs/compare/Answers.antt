@@ -30,7 +30,6 @@ module _ (c : After-first_pass-first) where
   marks = c.first_pass-first.new.replaced
 
 -- no row subsumes the proposal
-
 module _ (c : In-Replaces) where
   told : (first_pass c.args.most (P (goal.at.In-Replaces c).After-first_pass-first) (es (goal.at.In-Replaces c).After-first_pass-first) ≡ passed (examined_by (has (marks (goal.at.In-Replaces c).After-first_pass-first)) 0 (es (goal.at.In-Replaces c).After-first_pass-first)) (row_in (words (goal.at.In-Replaces c).After-first_pass-first))) × Proposed (words (goal.at.In-Replaces c).After-first_pass-first)
   told =

@@ -1,5 +1,4 @@
 -- `row_deduce::concluded`: one answer for each end of the walk over the outputs. Assumes nothing.
--- the outputs were looked at, and one is contradicted
 use mathlib.Core.Path.{sym, ap, ◌∙◌}
 use mathlib.Core.Bool.{false}
 use Prim.Native.Nat.{ℕ, ◌*◌, ◌<◌}
@@ -15,6 +14,7 @@ use Rattle.row_deduce.proofs.Walks.{contradicted-under}
 use Rattle.row_deduce.proofs.concluded.Goals.{In-Contradicted}
 use Rattle.row_deduce.proofs.concluded.Goals as goal
 
+-- the outputs were looked at, and one is contradicted
 module _ (c : In-Contradicted) where
   abbrev output : ℕ
   output = c.in-Contradicted.output

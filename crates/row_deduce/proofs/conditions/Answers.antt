@@ -15,15 +15,13 @@ use Rattle.row_deduce.specs.Chunks.{chunks_of, Readable, OneSigned}
 use Rattle.row_deduce.specs.declared.ConditionsRead.{ConditionsRead}
 use Rattle.row_deduce.specs.Walks.{read_conditions}
 use Rattle.row_deduce.proofs.Stored.{condition-chunks, conditions-readable}
-use Rattle.row_deduce.proofs.conditions.Goals.{Start}
-use Rattle.row_deduce.proofs.conditions.Goals.{After-conditions-side, Start}
+use Rattle.row_deduce.proofs.conditions.Goals.{Start, After-conditions-side}
 use Rattle.row_deduce.proofs.conditions.Goals as goal
 
 laid : (c : Start) → Laid c.args.slot.now
 laid c = laid-stored c.requires.holds.atoms c.args.slot.now c.requires.holds.stored
 
 -- the side that was read
-
 module _ (c : After-conditions-side) where
   form : (condition_side c.args.slot.now).packed ≡ c.conditions-side.result.packed
   form = ap (λ (x : Side). x.packed) (sym c.conditions-side.ensures)

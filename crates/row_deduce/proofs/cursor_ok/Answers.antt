@@ -18,7 +18,6 @@ laid : (c : Start) → Laid c.args.slot.now
 laid c = laid-stored c.requires.atoms c.args.slot.now c.requires.stored
 
 -- the side that was read
-
 module _ (c : After-outputs-side) where
   form : (output_side c.args.slot.now).packed ≡ c.outputs-side.result.packed
   form = ap (λ (x : Side). x.packed) (sym c.outputs-side.ensures)

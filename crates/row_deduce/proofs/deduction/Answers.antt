@@ -1,5 +1,4 @@
 -- `row_deduce::deduction`: one law for each end of the walks. Assumes nothing.
--- the conditions were looked at
 use mathlib.Core.Path.{◌≡◌, refl, sym, ap, ◌∙◌}
 use mathlib.Core.Bool.{true}
 use mathlib.Core.List.{[]}
@@ -25,6 +24,7 @@ use Rattle.row_deduce.proofs.Walks.{deduced-stopped, deduced-halted, deduced-idl
 use Rattle.row_deduce.proofs.deduction.Goals.{After-conditions-found}
 use Rattle.row_deduce.proofs.deduction.Goals as goal
 
+-- the conditions were looked at
 module _ (c : After-conditions-found) where
   abbrev r : Region
   r = region c.args.held.now c.args.cut.now
@@ -43,7 +43,6 @@ module _ (c : After-conditions-found) where
       (row-parts c.requires.holds.atoms row (T_true (is_row c.requires.holds.atoms row) c.requires.holds.stored.row)).outputs_rise
 
   -- what was seen, where it is l
-
   seen : (l : ConditionState) → c.conditions-found.result.state ≡ l
       → conditions_read l c.conditions-found.result.meter ≡ read_conditions r [] (chunks (packed row) row.conditions) first
   seen l e = ap (λ (x : ConditionState). conditions_read x c.conditions-found.result.meter) (sym e) ∙ c.conditions-found.ensures

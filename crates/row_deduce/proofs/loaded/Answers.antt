@@ -1,5 +1,4 @@
 -- `row_deduce::loaded`: the masks of what does not hold yet. Assumes nothing.
--- the group that was read
 use mathlib.Core.Path.{sym, subst}
 use Prim.Native.Nat.{◌<◌, ◌^◌}
 use native.Mathlib.Omega.{arith}
@@ -11,6 +10,7 @@ use Rattle.row_deduce.proofs.Publishing.{loaded-is}
 use Rattle.row_deduce.proofs.loaded.Goals.{After-group_at-k}
 use Rattle.row_deduce.proofs.loaded.Goals as goal
 
+-- the group that was read
 module _ (c : After-group_at-k) where
   index-lt : c.group_at-k.result.index < length c.args.held.now
   index-lt =

@@ -15,15 +15,13 @@ use Rattle.row_deduce.specs.Chunks.{chunks_of, Readable}
 use Rattle.row_deduce.specs.declared.OutputsRead.{OutputsRead}
 use Rattle.row_deduce.specs.Walks.{read_outputs}
 use Rattle.row_deduce.proofs.Stored.{output-chunks, outputs-readable}
-use Rattle.row_deduce.proofs.outputs.Goals.{Start}
-use Rattle.row_deduce.proofs.outputs.Goals.{After-outputs-side, Start}
+use Rattle.row_deduce.proofs.outputs.Goals.{Start, After-outputs-side}
 use Rattle.row_deduce.proofs.outputs.Goals as goal
 
 laid : (c : Start) → Laid c.args.slot.now
 laid c = laid-stored c.requires.holds.atoms c.args.slot.now c.requires.holds.stored
 
 -- the side that was read
-
 module _ (c : After-outputs-side) where
   form : (output_side c.args.slot.now).packed ≡ c.outputs-side.result.packed
   form = ap (λ (x : Side). x.packed) (sym c.outputs-side.ensures)

@@ -1,4 +1,3 @@
--- where the tick is made
 use borrow.Author.Tests.{eq-eqb, ne_eqb}
 use mathlib.Core.Bool.{not}
 use mathlib.Core.Path.{◌≡◌, sym, ap, ◌∙◌, subst}
@@ -16,6 +15,7 @@ use Rattle.row_deduce.proofs.Packed.{Fitting, packed-holds, packed-opens, packed
 use Rattle.row_deduce.proofs.packed_conditions.Goals.{After-group_at-k, In-Ticked, Start, else-unknown-ne0, then-unknown-ne0+else-opened+else-unknown-h-ne0+else-unknown-ne0-2, then-opened-via-then-opened, then-opened-via-else-opened+then-unknown-h-ne0, then-opened-via-else-opened+else-unknown-h-ne0+then-unknown-ne0-2}
 use Rattle.row_deduce.proofs.packed_conditions.Goals as goal
 
+-- where the tick is made
 module _ (c : In-Ticked) where
   abbrev start : Start
   start = (goal.at.In-Ticked c).Start
@@ -30,7 +30,6 @@ module _ (c : In-Ticked) where
   made = sym c.in-Ticked.is ∙ c.tick.ensures
 
 -- the group that was read
-
 module _ (c : After-group_at-k) where
   abbrev s : Start
   s = start (goal.at.After-group_at-k c).In-Ticked

@@ -1,4 +1,3 @@
--- the index of a group is that of a word of the region
 use mathlib.Core.Path.{◌≡◌, refl, sym, ap, ◌∙◌}
 use Prim.Native.Nat.{ℕ, ◌+◌, ◌*◌, ◌<◌}
 use native.Mathlib.Omega.{arith}
@@ -14,6 +13,7 @@ use Rattle.row_deduce.proofs.Publishing.{chunk-index, load_given, load-end, load
 use Rattle.row_deduce.proofs.packed_next.Goals.{At-loop-k}
 use Rattle.row_deduce.proofs.packed_next.Goals as goal
 
+-- the index of a group is that of a word of the region
 index-lt : (l : At-loop-k) (g : ℕ) → g < l.args.side.count
     → index_of (chunk_at l.args.slot.now l.args.side g) < words_wide code_bits
 index-lt l g h =

@@ -1,4 +1,3 @@
--- where the tick is made
 use mathlib.Core.Path.{◌≡◌, sym, ◌∙◌, subst}
 use Prim.Native.Nat.{◌<◌}
 use native.Mathlib.Omega.{arith}
@@ -12,6 +11,7 @@ use Rattle.row_deduce.proofs.Packed.{packed-hit, packed-miss}
 use Rattle.row_deduce.proofs.packed_outputs.Goals.{After-group_at-k, In-Ticked, Start}
 use Rattle.row_deduce.proofs.packed_outputs.Goals as goal
 
+-- where the tick is made
 module _ (c : In-Ticked) where
   abbrev start : Start
   start = (goal.at.In-Ticked c).Start
@@ -26,7 +26,6 @@ module _ (c : In-Ticked) where
   made = sym c.in-Ticked.is ∙ c.tick.ensures
 
 -- the group that was read
-
 module _ (c : After-group_at-k) where
   abbrev s : Start
   s = start (goal.at.After-group_at-k c).In-Ticked

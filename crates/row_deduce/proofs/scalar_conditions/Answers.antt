@@ -1,4 +1,3 @@
--- where the tick is made
 use mathlib.Core.Path.{◌≡◌, sym, ◌∙◌}
 use Prim.Native.Nat.{◌<◌}
 use native.Mathlib.Omega.{arith}
@@ -11,6 +10,7 @@ use Rattle.row_deduce.proofs.Scalar.{scalar-holds, scalar-second, scalar-clash, 
 use Rattle.row_deduce.proofs.scalar_conditions.Goals.{In-Ticked, Start, else-not-holds, then-not-holds+else-opened+else-contradicts, then-opened-via-then-opened, then-opened-via-else-opened+then-contradicts}
 use Rattle.row_deduce.proofs.scalar_conditions.Goals as goal
 
+-- where the tick is made
 module _ (c : In-Ticked) where
   abbrev start : Start
   start = (goal.at.In-Ticked c).Start

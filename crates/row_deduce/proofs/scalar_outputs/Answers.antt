@@ -1,4 +1,3 @@
--- where the tick is made
 use mathlib.Core.Path.{◌≡◌, sym, ◌∙◌}
 use Prim.Native.Nat.{◌<◌}
 use native.Mathlib.Omega.{arith}
@@ -10,6 +9,7 @@ use Rattle.row_deduce.proofs.Scalar.{code-hit, code-miss}
 use Rattle.row_deduce.proofs.scalar_outputs.Goals.{In-Ticked, Start}
 use Rattle.row_deduce.proofs.scalar_outputs.Goals as goal
 
+-- where the tick is made
 module _ (c : In-Ticked) where
   abbrev start : Start
   start = (goal.at.In-Ticked c).Start

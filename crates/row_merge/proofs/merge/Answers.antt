@@ -35,14 +35,12 @@ module _ (c : At-loop-p) where
   u = union (list_of A c.args.sa) B
 
   -- at the start all is left
-
   begun : left_of A c.args.sa B c.start-cursor.result 0 ≡ u
   begun =
       ap (λ (l : List ℕ). union l B)
       (ap (rest A c.args.sa) c.start-cursor.ensures ∙ rest-start A c.args.sa)
 
   -- the count as it stands at the loop
-
   abbrev counts : List ℕ → Judged
   counts l = counting l (length c.loop-p.out - c.loop-p.n) c.loop-p.account c.loop-p.meter
 
@@ -59,7 +57,6 @@ module _ (c : In-Paid) where
   payment = sym c.in-Paid.is ∙ c.pay_read.ensures
 
 -- a literal k of the union
-
 module _ (c : In-Literal) where
   abbrev k : ℕ
   k = c.in-Literal.k
@@ -76,7 +73,6 @@ module _ (c : In-Literal) where
   placed = subst (PlacedMerged c.args.sa (B (goal.at.In-Literal c).At-loop-p)) c.in-Literal.is c.step.ensures.1
 
 -- and room for it
-
 module _ (c : Else-n-out) where
   free : c.loop-p.n < length c.loop-p.out
   free = let i = c.loop-p.invariant.2 in let h = c.if-n-out.false in omega arith

@@ -1,3 +1,5 @@
+-- `merge` meets its contract: what is written with what is left is the union, and what is left, counted from there, is the whole count.
+-- Assumes nothing.
 use mathlib.Core.Path.{◌≡◌}
 use mathlib.Core.List.{◌++◌}
 use Prim.Native.Nat.{◌-◌, ◌≤◌}
@@ -6,7 +8,6 @@ use Rattle.row_merge.specs.Merge.{left_of, PlacedBoth}
 use Rattle.row_merge.proofs.Asking.{counting}
 use Rattle.row_merge.proofs.merge.Given as goal
 
--- Assumes nothing.
 abbrev pub invariant-loop-p : goal.invariant-loop-p
 invariant-loop-p l = PlacedBoth l.sa l.b l.cursor l.i
     × (length l.out ≡ length l.initial.out)
@@ -15,6 +16,5 @@ invariant-loop-p l = PlacedBoth l.sa l.b l.cursor l.i
     × (counting (left_of l.a l.sa l.b l.cursor l.i) (length l.out - l.n) l.account l.meter
     ≡ counting (left_of l.a l.sa l.b l.initial.cursor l.initial.i) (length l.initial.out - l.initial.n) l.initial.account l.initial.meter)
 
--- `merge` meets its contract: what is written with what is left is the union, and what is left, counted from there, is the whole count.
 abbrev pub decreases-loop-p : goal.decreases-loop-p
 decreases-loop-p l = length (left_of l.a l.sa l.b l.cursor l.i)

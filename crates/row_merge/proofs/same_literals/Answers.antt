@@ -26,7 +26,6 @@ module _ (c : At-loop-k) where
   ys = rest B c.args.sb c.loop-k.y
 
   -- the question as it stands at the loop
-
   abbrev asks : List ℕ → List ℕ → Judged
   asks l r = alike l r c.loop-k.account c.loop-k.meter
 
@@ -38,7 +37,6 @@ module _ (c : At-loop-k) where
       (ap (rest B c.args.sb) c.start-y.ensures ∙ rest-start B c.args.sb)
 
 -- the left literal k
-
 module _ (c : In-Literal) where
   abbrev k : ℕ
   k = c.in-Literal.k
@@ -53,7 +51,6 @@ module _ (c : In-Literal) where
   placed-k = subst (PlacedStep c.args.sa) c.in-Literal.is c.next.ensures.1
 
 -- the right literal j
-
 module _ (c : In-Literal-next) where
   abbrev j : ℕ
   j = c.in-Literal-next.j

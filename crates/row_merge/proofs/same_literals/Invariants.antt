@@ -1,10 +1,10 @@
+-- `same_literals` meets its contract: what is left of the two sides, asked from there, is the whole question. Assumes nothing.
 use mathlib.Core.Path.{◌≡◌}
 use lib.ListN.{length}
 use Rattle.slots.specs.Cursor.{rest, Placed}
 use Rattle.row_merge.proofs.Asking.{alike}
 use Rattle.row_merge.proofs.same_literals.Given as goal
 
--- `same_literals` meets its contract: what is left of the two sides, asked from there, is the whole question. Assumes nothing.
 abbrev pub invariant-loop-k : goal.invariant-loop-k
 invariant-loop-k l = Placed l.sa l.x
     × Placed l.sb l.y

@@ -19,7 +19,6 @@ module _ (t : Start) where
   B = t.args.b.now
 
   -- what is left of the side, and of the list
-
   abbrev ls : List ℕ
   ls = rest A t.args.sa t.args.cursor
 
@@ -27,7 +26,6 @@ module _ (t : Start) where
   rs = drop t.args.i B
 
 -- the side is at its end
-
 module _ (c : In_default) where
   none : ls (goal.at.In_default c).Start ≡ []
   none = sym c.next.ensures.0 ∙ ap (given (A (goal.at.In_default c).Start) c.args.sa) c.in_default.is
@@ -36,7 +34,6 @@ module _ (c : In_default) where
   only q = ap (λ (l : List ℕ). union l q) none ∙ union-none q
 
 -- the side has a literal: x
-
 module _ (c : In-Literal) where
   abbrev x : ℕ
   x = c.in-Literal.x
@@ -51,7 +48,6 @@ module _ (c : In-Literal) where
   placed = subst (PlacedStep c.args.sa) c.in-Literal.is c.next.ensures.1
 
 -- both have one: x and y
-
 module _ (c : Else-b-i-2) where
   abbrev y : ℕ
   y = get_or (B (goal.at.Else-b-i-2 c).Start) c.args.i 0

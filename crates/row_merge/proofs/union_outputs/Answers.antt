@@ -40,12 +40,10 @@ module _ (t : Start) where
   right = proposed-laid P t.requires.fact_2
 
   -- the question, asked whole
-
   abbrev whole : Judged
   whole = joined t.args.most held offered t.args.account t.args.work
 
 -- as many conditions
-
 module _ (c : Else-r-p) where
   alike-long : length (held (goal.at.Else-r-p c).Start).conditions ≡ length (offered (goal.at.Else-r-p c).Start).conditions
   alike-long = (left (goal.at.Else-r-p c).Start).condition_count ∙ c.if-r-p.false ∙ sym (right (goal.at.Else-r-p c).Start).condition_count
@@ -65,7 +63,6 @@ module _ (c : After-same_literals-first) where
   i = c.same_literals-first.result
 
   -- the question of the union, after this one
-
   abbrev second : Judged → Judged
   second j =
       united c.args.most (grown (held (goal.at.After-same_literals-first c).Start) (offered (goal.at.After-same_literals-first c).Start)).outputs (length (offered (goal.at.After-same_literals-first c).Start).outputs) j.account j.meter

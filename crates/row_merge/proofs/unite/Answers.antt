@@ -32,7 +32,6 @@ module _ (t : Start) where
   P = t.args.p.now
 
   -- the outputs of the union, and how many the proposal has
-
   abbrev os : List ℕ
   os = (grown (row_in R) (row_in P)).outputs
 
@@ -75,7 +74,6 @@ module _ (c : After-merge-counted) where
   long = c.merge-counted.auto.out ∙ room-long
 
 -- the proposal grows
-
 module _ (c : Else-n-end) where
   abbrev yes : (i (goal.at.Else-n-end c).After-merge-counted).verdict ≡ verdict.Yes
   yes = c.in-Yes.is

@@ -31,7 +31,6 @@ module _ (c : At-loop-c) where
   paid = c.loop-c.invariant.4 ∙ ap (λ (l : List ℕ). judged true (pay (length l) c.args.account c.args.work)) listed
 
 -- the literal k is given
-
 module _ (c : In-Literal) where
   abbrev k : ℕ
   k = c.in-Literal.c

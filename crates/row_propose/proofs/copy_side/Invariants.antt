@@ -1,3 +1,5 @@
+-- `copy_side` meets its contract: the literals that the cursor has still to give, written from position i on, make the whole.
+-- Assumes nothing.
 use mathlib.Core.Path.{◌≡◌}
 use mathlib.Core.Bool.{true}
 use Prim.Native.Nat.{◌+◌, ◌≤◌}
@@ -7,7 +9,6 @@ use Rattle.meter.specs.Meter.{pay, judged}
 use Rattle.slots.specs.Cursor.{rest, Placed}
 use Rattle.row_propose.proofs.copy_side.Given as goal
 
--- Assumes nothing.
 abbrev pub invariant-loop-c : goal.invariant-loop-c
 invariant-loop-c l = Placed l.side l.cursor
     × (length l.out ≡ length l.initial.out)
@@ -16,6 +17,5 @@ invariant-loop-c l = Placed l.side l.cursor
     × (judged true (pay (length (rest l.slot l.side l.cursor)) l.account l.meter)
     ≡ judged true (pay (length (rest l.slot l.side l.initial.cursor)) l.initial.account l.initial.meter))
 
--- `copy_side` meets its contract: the literals that the cursor has still to give, written from position i on, make the whole.
 abbrev pub decreases-loop-c : goal.decreases-loop-c
 decreases-loop-c l = length (rest l.slot l.side l.cursor)

@@ -29,7 +29,6 @@ module _ (c : After-conditions) where
   R = row_in S
 
   -- the words so far: the counts and zeros
-
   abbrev words : List ℕ
   words = c.blank.new.p
 
@@ -64,7 +63,6 @@ module _ (c : After-copy_side-first) where
   start = omega (arith, c.requires.fact_1.condition_count)
 
   -- the conditions are written, where they are paid for
-
   written : i.verdict ≡ verdict.Yes → x ≡ put 0 (R (goal.at.After-copy_side-first c).After-conditions).conditions (mid_of body_at (length (words (goal.at.After-copy_side-first c).After-conditions) - body_at) (words (goal.at.After-copy_side-first c).After-conditions))
   written e =
       subst (λ (v : Verdict). WhereYes v

@@ -13,9 +13,7 @@ use Rattle.meter.specs.declared.Payment.TheVariants as Charge
 use Rattle.meter.specs.Payment.{payment_of}
 use Rattle.row_subsume.proofs.Including.{included, include-all, include-ended, include-none, include-less, include-equal}
 use Rattle.row_subsume.proofs.Including.{include-greater}
-use Rattle.row_subsume.proofs.includes.Goals.{Start}
-use Rattle.row_subsume.proofs.includes.Goals.{in_default, in-Literal+in-Paid+in_default-next, in-Literal+in-Paid+in-Literal-next+else-c-w+then-w-c}
-use Rattle.row_subsume.proofs.includes.Goals.{At-loop-p, At-wanted, In-Literal, In-Literal-next}
+use Rattle.row_subsume.proofs.includes.Goals.{Start, in_default, in-Literal+in-Paid+in_default-next, in-Literal+in-Paid+in-Literal-next+else-c-w+then-w-c, At-loop-p, At-wanted, In-Literal, In-Literal-next}
 use Rattle.row_subsume.proofs.includes.Goals as goal
 
 module _ (c : At-wanted) where
@@ -29,7 +27,6 @@ module _ (c : At-wanted) where
   left = rest A c.args.candidates c.wanted.have
 
   -- what is left at the outer loop is the whole
-
   whole : included left (rest B c.args.wanted c.wanted.want) c.wanted.account c.wanted.meter
       ≡ included (list_of A c.args.candidates) (list_of B c.args.wanted) c.args.account c.args.work
   whole =
@@ -39,7 +36,6 @@ module _ (c : At-wanted) where
       (ap (rest B c.args.wanted) c.start-want.ensures ∙ rest-start B c.args.wanted)
 
 -- the wanted literal w is taken up
-
 module _ (c : In-Literal) where
   abbrev w : ℕ
   w = c.in-Literal.w
@@ -61,19 +57,16 @@ module _ (c : At-loop-p) where
   cs = rest (A (goal.at.At-loop-p c).At-wanted) c.args.candidates c.loop-p.have
 
   -- the question as it stands at the inner loop, of the candidates l
-
   abbrev asks : List ℕ → Judged
   asks l = included l (w (goal.at.At-loop-p c).In-Literal ∷ ws (goal.at.At-loop-p c).In-Literal) c.loop-p.account c.loop-p.meter
 
   -- what is left at the inner loop is what was left at the outer one
-
   back : asks cs ≡ included (left (goal.at.At-loop-p c).At-wanted) (rest (B (goal.at.At-loop-p c).At-wanted) c.args.wanted c.wanted.want) c.wanted.account c.wanted.meter
   back =
       c.loop-p.invariant.1
       ∙ ap (λ (l : List ℕ). included (left (goal.at.At-loop-p c).At-wanted) l c.wanted.account c.wanted.meter) (sym (taken-w (goal.at.At-loop-p c).In-Literal))
 
 -- the candidate k is met
-
 module _ (c : In-Literal-next) where
   abbrev k : ℕ
   k = c.in-Literal-next.c
@@ -150,7 +143,6 @@ loop-p-preserved c =
     )
 
 -- which way out was taken: a way tells what stood on it, from the next wanted literal on
-
 pub returns : goal.returns
 returns c =
     let t = (goal.at.returns c).At-wanted in

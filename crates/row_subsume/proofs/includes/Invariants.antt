@@ -1,3 +1,4 @@
+-- `includes` meets its contract: at both loops, what is left of the two sides, asked from there, is the whole question. Assumes nothing.
 use mathlib.Core.Path.{◌≡◌}
 use mathlib.Core.List.{◌∷◌}
 use lib.ListN.{length}
@@ -5,7 +6,6 @@ use Rattle.slots.specs.Cursor.{rest, Placed}
 use Rattle.row_subsume.proofs.Including.{included}
 use Rattle.row_subsume.proofs.includes.Given as goal
 
--- `includes` meets its contract: at both loops, what is left of the two sides, asked from there, is the whole question. Assumes nothing.
 abbrev pub invariant-loop-p : goal.invariant-loop-p
 invariant-loop-p l = Placed l.candidates l.have
     × (included (rest l.a l.candidates l.have) (l.w ∷ rest l.b l.wanted l.want) l.account l.meter

@@ -1,4 +1,3 @@
--- `count_words` meets its contract: the groups counted, and the words that are new from here on, make the whole. Assumes nothing.
 use native.Mathlib.Omega.{arith}
 use mathlib.Core.List.{List}
 use Prim.Native.Nat.{ℕ, ◌/◌, ◌<◌}

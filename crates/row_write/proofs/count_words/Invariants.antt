@@ -1,4 +1,4 @@
--- The groups counted so far, and the words that are new from here on. Assumes nothing.
+-- `count_words` meets its contract: the groups counted, and the words that are new from here on, make the whole. Assumes nothing.
 use mathlib.Core.Path.{◌≡◌}
 use Prim.Native.Nat.{◌+◌, ◌-◌, ◌/◌, ◌≤◌, ◌<◌}
 use lib.ListN.{length, drop}
@@ -14,6 +14,5 @@ invariant-loop-i l =
     (l.i ≤ length l.codes) × (length l.codes < l.count + l.i) × (l.previous < max_atoms / word_bits)
     × (l.count + new_words l.previous (drop l.i l.codes) ≡ length (groups l.codes) + (length l.codes - l.i))
 
--- `count_words` meets its contract: the groups counted, and the words that are new from here on, make the whole. Assumes nothing.
 abbrev pub decreases-loop-i : goal.decreases-loop-i
 decreases-loop-i l = length l.codes - l.i

@@ -1,4 +1,3 @@
--- `pack` meets its contract: zeros, then the groups of the codes passed, from the last one on. Assumes nothing.
 use native.Mathlib.Omega.{arith}
 use mathlib.Core.Path.{sym, subst}
 use mathlib.Core.List.{List}

@@ -15,13 +15,11 @@ at : (t : Start) → Placed (row_in t.args.p.now) t.args.form
 at t = placed t.requires.fact_2 t.requires.fact_3 t.requires.fact_4
 
 -- the body is zeros
-
 module _ (c : After-fill_zero) where
   zeros : c.fill_zero.new.dst ≡ replicate body_words 0
   zeros = c.fill_zero.ensures ∙ zeroed-is c.args.body.now body_words c.requires.fact_1
 
 -- the conditions are written
-
 module _ (c : After-pack) where
   half-body : length (put_mid 0 (group_length * c.args.form.first - 0) c.fill_zero.new.dst c.pack.new.out) ≡ body_words
   half-body = half-long c.requires.fact_2 (at (goal.at.After-pack c).Start) (zeros (goal.at.After-pack c).After-fill_zero) c.pack.ensures

@@ -4,10 +4,7 @@ use Prim.Native.Nat.{◌+◌, ◌*◌, ◌<◌, ◌≤◌}
 use lib.ListN.{length}
 use Rattle.model.specs.Records.{group_length}
 use Rattle.slots.proofs.Cursors.{rest-taken, placed-taken, rest_end, rest-load, rest-code, loaded}
-use Rattle.slots.proofs.next.Goals.{Else-side-cursor}
-use Rattle.slots.proofs.next.Goals.{Then-side}
-use Rattle.slots.proofs.next.Goals.{Else-side}
-use Rattle.slots.proofs.next.Goals.{Else-side, Else-side-cursor, Then-side}
+use Rattle.slots.proofs.next.Goals.{Else-side-cursor, Then-side, Else-side}
 use Rattle.slots.proofs.next.Goals as goal
 
 inside : (c : Else-side-cursor) → c.args.cursor.next < c.args.side.count

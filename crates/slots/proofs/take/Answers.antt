@@ -1,4 +1,3 @@
--- the next place is below 64
 use native.Mathlib.Omega.{arith}
 use Prim.Native.Nat.{ℕ, ◌<◌}
 use lib.Bits.{bit_or}
@@ -9,6 +8,7 @@ use Rattle.slots.proofs.Codes.{first-place, first_absent, first-present}
 use Rattle.slots.proofs.take.Goals.{Start}
 use Rattle.slots.proofs.take.Goals as goal
 
+-- the next place is below 64
 place : (c : Start) → first_bit (bit_or c.args.absent c.args.present) < 64
 place c = first-place c.args.word c.args.present c.args.absent c.ranges.present.fits c.ranges.absent.fits c.requires.fact_2
 

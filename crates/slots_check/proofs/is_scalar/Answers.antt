@@ -1,5 +1,4 @@
 -- `slots_check::is_scalar`. One law for each way out. Assumes nothing.
--- both sides, as the code lends them
 use mathlib.Core.Path.{◌≡◌}
 use mathlib.Core.Bool.{true}
 use mathlib.Core.List.{List}
@@ -11,12 +10,10 @@ use Rattle.words.proofs.Codes.{runs-le}
 use Rattle.model.specs.Records.{max_conditions, max_outputs, conditions_at, outputs_at, body_at}
 use Rattle.slots_check.proofs.Climbs.{groups-fail, groups-pass}
 use Rattle.slots_check.proofs.Ways.{scalar-groups, scalar-conditions, scalar-outputs, scalar-form, scalar-rest}
-use Rattle.slots_check.proofs.is_scalar.Goals.{Start}
-use Rattle.slots_check.proofs.is_scalar.Goals.{Else-g-eq-NO_SIDE}
-use Rattle.slots_check.proofs.is_scalar.Goals.{Else-h-eq-NO_SIDE}
-use Rattle.slots_check.proofs.is_scalar.Goals.{Else-g-eq-NO_SIDE, Else-h-eq-NO_SIDE, Start}
+use Rattle.slots_check.proofs.is_scalar.Goals.{Start, Else-g-eq-NO_SIDE, Else-h-eq-NO_SIDE}
 use Rattle.slots_check.proofs.is_scalar.Goals as goal
 
+-- both sides, as the code lends them
 abbrev conditions : Start → List ℕ
 conditions s = let ws = s.args.slot.now in take ((body_at + get_or ws conditions_at 0) - body_at) (drop body_at ws)
 
@@ -35,7 +32,6 @@ few s =
     (omega (arith, s.requires.fact_2), omega (arith, s.requires.fact_3))
 
 -- what the number of groups says of them
-
 first : (c : Else-g-eq-NO_SIDE) → (climbs c.args.atoms 1 (conditions (goal.at.Else-g-eq-NO_SIDE c).Start) ≡ true) × (c.code_groups-g.result ≡ runs 7 (conditions (goal.at.Else-g-eq-NO_SIDE c).Start))
 first c =
     groups-pass c.args.atoms 1 (conditions (goal.at.Else-g-eq-NO_SIDE c).Start) c.code_groups-g.result c.code_groups-g.ensures

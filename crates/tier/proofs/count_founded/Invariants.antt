@@ -1,3 +1,4 @@
+-- `tier::count_founded`. The Founded rows met and those still to come are all. Assumes nothing.
 use mathlib.Core.Path.{◌≡◌}
 use Prim.Native.Nat.{◌+◌, ◌*◌, ◌-◌, ◌≤◌}
 use lib.ListN.{length, drop}
@@ -5,7 +6,6 @@ use Rattle.model.specs.Records.{slot_words, max_rows, founded_rows}
 use Rattle.model.specs.Slots.{entries_in}
 use Rattle.tier.proofs.count_founded.Given as goal
 
--- `tier::count_founded`. The Founded rows met and those still to come are all. Assumes nothing.
 abbrev pub invariant-loop-i : goal.invariant-loop-i
 invariant-loop-i l =
     (l.count ≤ l.i) × (l.i ≤ l.rows) × (l.rows ≤ max_rows) × (slot_words * l.rows ≤ length l.slots)

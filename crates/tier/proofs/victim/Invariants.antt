@@ -1,3 +1,4 @@
+-- `tier::victim`. What is left to be compared has the same least. Assumes nothing.
 use mathlib.Core.Path.{◌≡◌}
 use mathlib.Core.Option.{none}
 use Prim.Native.Nat.{◌*◌, ◌-◌, ◌≤◌}
@@ -8,7 +9,6 @@ use Rattle.model.specs.Retention.{least_from}
 use Rattle.tier.proofs.Victims.{best}
 use Rattle.tier.proofs.victim.Given as goal
 
--- `tier::victim`. What is left to be compared has the same least. Assumes nothing.
 abbrev pub invariant-loop-i : goal.invariant-loop-i
 invariant-loop-i l =
     (l.at ≤ l.rows) × (l.i ≤ l.rows) × (slot_words * l.rows ≤ length l.slots)

@@ -1,5 +1,4 @@
 -- `wire::close_reply`. One way out for each case. Assumes nothing.
--- the words of the answer that was matched
 use mathlib.Core.Path.{◌≡◌, sym, ap, ◌∙◌}
 use Rattle.model.specs.declared.CloseAnswer.{CloseAnswer}
 use Rattle.model.specs.Answers.{close_reply, contradicted_reply}
@@ -8,6 +7,7 @@ use Rattle.wire.specs.Replies.{close_words}
 use Rattle.wire.proofs.close_reply.Goals.{Start}
 use Rattle.wire.proofs.close_reply.Goals as goal
 
+-- the words of the answer that was matched
 module _ (s : Start) where
   abbrev words_of : CloseAnswer → ReplyWords
   words_of a = close_words (close_reply a) (contradicted_reply s.args.o)

@@ -1,4 +1,3 @@
--- the code at the loop's position, tested and in range
 use native.Mathlib.Omega.{arith}
 use mathlib.Core.Path.{◌≡◌, sym, ◌∙◌}
 use mathlib.Core.List.{List}
@@ -8,6 +7,7 @@ use Rattle.words.proofs.Codes.{left, left-start, left_end, left-high, left-first
 use Rattle.words.proofs.ascends.Goals.{Else-atoms-codes, else-i-gt0, then-i-gt0+else-codes-i}
 use Rattle.words.proofs.ascends.Goals as goal
 
+-- the code at the loop's position, tested and in range
 module _ (c : Else-atoms-codes) where
   abbrev cs : List ℕ
   cs = c.args.codes.now

@@ -1,5 +1,4 @@
 -- `words::decide_literal`: one law for each way out. Assumes nothing.
--- where the atom's place is known
 use mathlib.Core.Path.{◌≡◌, ap}
 use Prim.Native.Nat.{◌/◌, ◌<◌}
 use native.Mathlib.Omega.{arith}
@@ -12,6 +11,7 @@ use Rattle.words.proofs.Deciding.{said-out, place_inside, present-against, absen
 use Rattle.words.proofs.decide_literal.Goals.{After-locate-place}
 use Rattle.words.proofs.decide_literal.Goals as goal
 
+-- where the atom's place is known
 module _ (c : After-locate-place) where
   abbrev sound : Sound c.args.atoms (region c.args.held.now c.args.cut.now)
   sound = sound-of c.args.atoms (region c.args.held.now c.args.cut.now) c.requires

@@ -1,4 +1,3 @@
--- `words::run_count`. The loop: the runs counted, and those from the code before on, make one more than the whole. Assumes nothing.
 use mathlib.Core.Path.{◌≡◌, sym}
 use mathlib.Core.List.{List, [], ◌∷◌}
 use Prim.Native.Nat.{ℕ}

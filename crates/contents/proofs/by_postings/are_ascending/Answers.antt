@@ -9,8 +9,6 @@ use Rattle.lists.proofs.Tests.{same-yes, same-no}
 use Rattle.model.specs.Postings.{postings_of}
 use Rattle.slots.specs.Layout.{rows_in}
 use Rattle.contents.proofs.Marks.{walked_start, walked-small, walked-back, walked_more, walked_many, walked_end}
-use Rattle.contents.proofs.by_postings.are_ascending.Goals.{After-next-run}
-use Rattle.contents.proofs.by_postings.are_ascending.Goals.{At-loop-walk}
 use Rattle.contents.proofs.by_postings.are_ascending.Goals.{After-next-run, At-loop-walk}
 use borrow.Author.Rules.{rules}
 use Rattle.contents.proofs.by_postings.are_ascending.Goals as goal

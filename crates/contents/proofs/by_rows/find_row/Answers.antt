@@ -7,8 +7,7 @@ use Rattle.model.specs.Slots.{row_in}
 use Rattle.contents.specs.Lent.{posted_atoms}
 use Rattle.contents.proofs.Holding.{held-few, scalar-under, count_scalar, count-packed}
 use Rattle.contents.proofs.Places.{scalar-met, packed-met}
-use Rattle.contents.proofs.by_rows.find_row.Goals.{Else-n}
-use Rattle.contents.proofs.by_rows.find_row.Goals.{After-atom_count}
+use Rattle.contents.proofs.by_rows.find_row.Goals.{Else-n, After-atom_count}
 use Rattle.contents.proofs.by_rows.find_row.Goals as goal
 
 -- the number that is returned

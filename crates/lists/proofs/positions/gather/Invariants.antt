@@ -1,9 +1,9 @@
+-- The invariant of `gather` is `Gathered`. Assumes nothing.
 use Prim.Native.Nat.{◌-◌}
 use lib.ListN.{length}
 use Rattle.lists.proofs.positions.Gathering.{Gathered}
 use Rattle.lists.proofs.positions.gather.Given as goal
 
--- The invariant of `gather` is `Gathered`. Assumes nothing.
 abbrev pub invariant-loop-p : goal.invariant-loop-p
 invariant-loop-p l = Gathered l.initial.out l.out l.k l.p
 

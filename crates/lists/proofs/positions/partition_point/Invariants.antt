@@ -1,8 +1,8 @@
+-- The invariant of `partition_point`: all below lo are lower, none from hi on. Assumes nothing.
 use Prim.Native.Nat.{ℕ, ◌≤◌, ◌<◌, ◌-◌}
 use lib.ListN.{length, get_or}
 use Rattle.lists.proofs.positions.partition_point.Given as goal
 
--- The invariant of `partition_point`: all below lo are lower, none from hi on. Assumes nothing.
 abbrev pub invariant-loop-lo : goal.invariant-loop-lo
 invariant-loop-lo l =
     (l.lo ≤ l.hi) × (l.hi ≤ length l.xs) × ((k : ℕ) → k < l.lo → get_or l.xs k 0 < l.bound)

@@ -1,10 +1,10 @@
+-- The invariant of `all_zero` is `Compared`, with the zeroed list. Assumes nothing.
 use Prim.Native.Nat.{◌-◌}
 use lib.ListN.{length}
 use Rattle.lists.specs.Lists.{zeroed}
 use Rattle.lists.proofs.slices.Comparing.{ComparedTo}
 use Rattle.lists.proofs.slices.all_zero.Given as goal
 
--- The invariant of `all_zero` is `Compared`, with the zeroed list. Assumes nothing.
 abbrev pub invariant-loop-i : goal.invariant-loop-i
 invariant-loop-i l = ComparedTo l.s (zeroed l.s) l.bits l.i
 

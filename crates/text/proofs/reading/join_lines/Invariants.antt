@@ -1,7 +1,7 @@
+-- `text::reading::join_lines`. The text stays as long as it was. Assumes nothing.
 use Rattle.std.proofs.Common.{◌≡◌, ◌-◌, ◌≤◌, length}
 use Rattle.text.proofs.reading.join_lines.Given as goal
 
--- `text::reading::join_lines`. The text stays as long as it was. Assumes nothing.
 abbrev pub invariant-loop-at : goal.invariant-loop-at
 invariant-loop-at l = (l.at ≤ length l.initial.s) × (length l.s ≡ length l.initial.s)
 

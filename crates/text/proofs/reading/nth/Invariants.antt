@@ -1,7 +1,7 @@
+-- `text::reading::nth`. The word lies within the text; the words left to pass fall. Assumes nothing.
 use Rattle.std.proofs.Common.{◌-◌, ◌≤◌, length}
 use Rattle.text.proofs.reading.nth.Given as goal
 
--- `text::reading::nth`. The word lies within the text; the words left to pass fall. Assumes nothing.
 abbrev pub invariant-loop-i : goal.invariant-loop-i
 invariant-loop-i l = (l.w.from ≤ l.w.to) × (l.w.to ≤ length l.text)
 

@@ -1,7 +1,7 @@
+-- `text::reading::pack`. The place lies between the two ends, and the bytes left fall. Assumes nothing.
 use Rattle.std.proofs.Common.{◌-◌, ◌≤◌}
 use Rattle.text.proofs.reading.pack.Given as goal
 
--- `text::reading::pack`. The place lies between the two ends, and the bytes left fall. Assumes nothing.
 abbrev pub invariant-loop-i : goal.invariant-loop-i
 invariant-loop-i l = (l.from ≤ l.i) × (l.i ≤ l.to)
 

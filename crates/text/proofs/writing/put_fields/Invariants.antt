@@ -1,7 +1,7 @@
+-- `text::writing::put_fields`. The buffer keeps its length; the numbers left fall. Assumes nothing.
 use Rattle.std.proofs.Common.{◌≡◌, ◌-◌, ◌≤◌, length}
 use Rattle.text.proofs.writing.put_fields.Given as goal
 
--- `text::writing::put_fields`. The buffer keeps its length; the numbers left fall. Assumes nothing.
 abbrev pub invariant-loop-i : goal.invariant-loop-i
 invariant-loop-i l = (length l.out ≡ length l.initial.out) × (l.i ≤ length l.numbers)
 

@@ -1,7 +1,7 @@
+-- `text::writing::put_packed`. The buffer keeps its length; the bytes left fall from eight. Assumes nothing.
 use Rattle.std.proofs.Common.{◌≡◌, ◌≤◌, length}
 use Rattle.text.proofs.writing.put_packed.Given as goal
 
--- `text::writing::put_packed`. The buffer keeps its length; the bytes left fall from eight. Assumes nothing.
 abbrev pub invariant-loop-i : goal.invariant-loop-i
 invariant-loop-i l = (length l.out ≡ length l.initial.out) × (l.i ≤ 8)
 

@@ -1,7 +1,7 @@
+-- `text::writing::put_text`. The buffer keeps its length; what is left of the text falls. Assumes nothing.
 use Rattle.std.proofs.Common.{◌≡◌, ◌-◌, ◌≤◌, length}
 use Rattle.text.proofs.writing.put_text.Given as goal
 
--- `text::writing::put_text`. The buffer keeps its length; what is left of the text falls. Assumes nothing.
 abbrev pub invariant-loop-i : goal.invariant-loop-i
 invariant-loop-i l = (length l.out ≡ length l.initial.out) × (l.i ≤ length l.text)
 

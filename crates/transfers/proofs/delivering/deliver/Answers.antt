@@ -25,7 +25,6 @@ module _ (t : Start) where
   S = lent t.args.store t.args.store_slots.now t.args.store_postings.now
 
   -- the borns are words
-
   tier-born : t.args.tier.born ≤ max_word
   tier-born = omega arith
 
@@ -43,7 +42,6 @@ module _ (t : Start) where
         store-born
 
 -- neither is refused
-
 module _ (c : Else-n-ne0) where
   none_is : transfer_refusal (T (goal.at.Else-n-ne0 c).Start) (S (goal.at.Else-n-ne0 c).Start) ≡ none
   none_is = sym c.refusal-n.ensures ∙ ap refused_by c.if-n-ne0.false

@@ -22,7 +22,6 @@ module _ (t : Start) where
 
 module _ (c : After-tick_past-next) where
   -- the transfer after the tick
-
   abbrev N : TransferState
   N = c.tick_past-next.result
 

@@ -1,3 +1,4 @@
+-- `deliver_rows` meets its contract: what is left of the rows, from here, is what was left at the start. Assumes nothing.
 use mathlib.Core.Path.{◌≡◌}
 use Prim.Native.Nat.{◌-◌, ◌≤◌}
 use lib.ListN.{length}
@@ -7,7 +8,6 @@ use Rattle.transfers.proofs.RowsSeeded.{start_of}
 use Rattle.transfers.proofs.RowsDelivered.{Delivering}
 use Rattle.transfers.proofs.delivering.deliver_rows.Given as goal
 
--- `deliver_rows` meets its contract: what is left of the rows, from here, is what was left at the start. Assumes nothing.
 abbrev pub invariant-loop-i : goal.invariant-loop-i
 invariant-loop-i l =
     (l.i ≤ l.rows) × (length l.tier_slots ≡ length l.initial.tier_slots) × (length l.store_slots ≡ length l.initial.store_slots)

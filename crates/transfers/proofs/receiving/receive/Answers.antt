@@ -14,7 +14,6 @@ use Rattle.transfers.proofs.receiving.receive.Goals as goal
 
 module _ (c : After-pay) where
   -- the literals
-
   abbrev n : ℕ
   n = literals (row_in c.args.row.now)
 

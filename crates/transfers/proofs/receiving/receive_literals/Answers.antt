@@ -29,7 +29,6 @@ module _ (c : After-to_literals-judged) where
   run = pay (literals (row_in c.args.row.now)) c.args.account c.args.work
 
 -- the literals are paid for
-
 module _ (c : After-larger-most) where
   abbrev yes : (j (goal.at.After-larger-most c).After-to_literals-judged).verdict ≡ verdict.Yes
   yes = c.in-Yes.is
