@@ -37,21 +37,21 @@ const ROW_SCRATCH_LEN_AT: usize = WORDS + 10;
 const ATOM_SCRATCH_LEN_AT: usize = WORDS + 11;
 
 // Which words of a copy are lent as a slice: from, and up to.
-#[derive(Drop)]
+#[derive(Clone, Copy)]
 struct Bounds {
     from: usize,
     to: usize,
 }
 
 // What a call was refused by, 0 for none; and 1 if it changed a lent word although it refused, else 0.
-#[derive(Drop)]
+#[derive(Clone, Copy)]
 struct Tried {
     refused: u64,
     wrong: u64,
 }
 
 // What a call was refused by, and whether its scratch is as it was.
-#[derive(Drop)]
+#[derive(Clone, Copy)]
 struct Passed {
     refused: u64,
     scratch: bool,

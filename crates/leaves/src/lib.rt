@@ -1,5 +1,5 @@
-// The leaf functions behind C functions over words alone: a static library for the comparison with the Rust and for the
-// measurements. Each contract is the leaf function's own definition with these words, and asks nothing of the caller.
+// The leaf functions behind functions for C over words alone, for the comparison with the Rust and for the measurements; leaves_c is
+// the static library. Each contract is the leaf function's own definition with these words, and asks nothing of the caller.
 //
 // A function tests what it is given. It returns 0; or the number of what it was not given, and then leaves every lent word as
 // it was. A row is two lists of codes over `atoms` atoms. The words `paying` are the reads of the account, not 0 if it is the
@@ -356,8 +356,7 @@ fn deduction_times(slot: &[u64], held: &[u64], cut: &[u64], work: Meter, times: 
 }
 
 // The form of a row and its reads; the slot has its words where they are paid.
-#[unsafe(no_mangle)]
-pub extern "C" fn leaf_prepare(
+pub fn leaf_prepare(
     atoms: u64,
     conditions: &[u64],
     outputs: &[u64],
@@ -383,8 +382,7 @@ pub extern "C" fn leaf_prepare(
 }
 
 // Whether the wanted codes are among the candidates. Of `forms`, 1 and 2 say which of the lists is in a stored row's form.
-#[unsafe(no_mangle)]
-pub extern "C" fn leaf_includes(
+pub fn leaf_includes(
     atoms: u64,
     candidates: &[u64],
     wanted: &[u64],
@@ -413,8 +411,7 @@ pub extern "C" fn leaf_includes(
 }
 
 // Whether the stored row subsumes the other one; or, turned, the other one the stored row.
-#[unsafe(no_mangle)]
-pub extern "C" fn leaf_subsumes(
+pub fn leaf_subsumes(
     atoms: u64,
     conditions: &[u64],
     outputs: &[u64],
@@ -448,8 +445,7 @@ pub extern "C" fn leaf_subsumes(
 }
 
 // The union of the stored row with the other one; the slot has the other one's proposal after it.
-#[unsafe(no_mangle)]
-pub extern "C" fn leaf_union_outputs(
+pub fn leaf_union_outputs(
     atoms: u64,
     conditions: &[u64],
     outputs: &[u64],
@@ -494,8 +490,7 @@ pub extern "C" fn leaf_union_outputs(
 }
 
 // What a stored row says of a region.
-#[unsafe(no_mangle)]
-pub extern "C" fn leaf_deduction(
+pub fn leaf_deduction(
     atoms: u64,
     conditions: &[u64],
     outputs: &[u64],
@@ -522,8 +517,7 @@ pub extern "C" fn leaf_deduction(
 }
 
 // The next output of a stored row, and the cursor past it.
-#[unsafe(no_mangle)]
-pub extern "C" fn leaf_next_output(
+pub fn leaf_next_output(
     atoms: u64,
     conditions: &[u64],
     outputs: &[u64],
@@ -556,8 +550,7 @@ pub extern "C" fn leaf_next_output(
 }
 
 // Whether the atom was decided: 1, or 0.
-#[unsafe(no_mangle)]
-pub extern "C" fn leaf_decide(
+pub fn leaf_decide(
     atoms: u64,
     held: &mut [u64],
     cut: &mut [u64],
@@ -577,8 +570,7 @@ pub extern "C" fn leaf_decide(
 }
 
 // 1 and the first position, or 0.
-#[unsafe(no_mangle)]
-pub extern "C" fn leaf_next_from(words: &[u64], from: u64, answer: &mut [u64; 4]) -> u64
+pub fn leaf_next_from(words: &[u64], from: u64, answer: &mut [u64; 4]) -> u64
     ensures { left result (answer.new ∷ []) ≡ found_call words.now from }
 {
     match words::next_from(MAX_WORD, words, from) {
@@ -593,16 +585,14 @@ pub extern "C" fn leaf_next_from(words: &[u64], from: u64, answer: &mut [u64; 4]
 }
 
 // 1 if the atom is among the words, else 0.
-#[unsafe(no_mangle)]
-pub extern "C" fn leaf_contains(words: &[u64], atom: u64) -> u64
+pub fn leaf_contains(words: &[u64], atom: u64) -> u64
     ensures { result ≡ flag_word (has words.now atom) }
 {
     flag_word(words::contains(words, atom))
 }
 
 // Puts the atom among the words.
-#[unsafe(no_mangle)]
-pub extern "C" fn leaf_insert(words: &mut [u64], atom: u64)
+pub fn leaf_insert(words: &mut [u64], atom: u64)
     ensures { words.new ≡ mark words.old atom }
 {
     words::insert(words, atom)

@@ -25,7 +25,7 @@ fn number_of(s: &[u8], from: usize, to: usize) -> u64
 
 // ---- Lists in.
 // A word and how often it stands there, with the place after it; or no more words.
-#[derive(Drop)]
+#[derive(Clone, Copy)]
 enum Repeated {
     Word(u64, u64, usize),
     Bad,
@@ -93,7 +93,7 @@ fn read_words(s: &[u8], at: usize, buffer: &mut [u64]) -> Listed {
 
 // ---- Lists out.
 // The place after what was written, and the zeros that are still to be written.
-#[derive(Drop)]
+#[derive(Clone, Copy)]
 struct Put {
     to: usize,
     zeros: u64,
@@ -156,7 +156,7 @@ fn put_further(
 
 // ---- A call. Each function reads a part of its lists, and hands all that there is on.
 // The place after the lists of a call, and after what was written of it.
-#[derive(Drop)]
+#[derive(Clone, Copy)]
 struct Ended {
     at: usize,
     to: usize,

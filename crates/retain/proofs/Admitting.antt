@@ -1,9 +1,13 @@
 -- `admit` by the ways that it ends. Assumes nothing.
-use mathlib.Core.Path.{◌≡◌, refl, sym, ap, ap₂, ◌∙◌}
+use mathlib.Core.Path.{◌≡◌, refl, sym, ap, ap₂, ◌∙◌, subst}
+use mathlib.Core.Logic.{inl, inr}
 use mathlib.Core.Bool.{Bool, true, false}
 use mathlib.Core.List.{List, [], ◌∷◌}
 use Prim.Native.Nat.{ℕ, ◌+◌}
 use lib.ListN.{length}
+use native.Mathlib.Omega.{arith}
+use types.Run.{OneOf}
+use denote.Enum.Declared.{tag_of}
 use Rattle.meter.specs.declared.Meter.{Meter}
 use Rattle.meter.specs.declared.Account.{Account}
 use Rattle.meter.specs.declared.Read.{Read}
@@ -28,7 +32,17 @@ use Rattle.retain.specs.declared.Room.TheVariants.{After, First, Victim, Protect
 use Rattle.retain.specs.declared.Retained.TheVariants.{Added}
 use Rattle.retain.specs.Places.{room_of, verdict_of, room_reads, placed_by, position_of, evicted_by}
 use Rattle.retain.specs.Ends.{End, retain_end, end_of, carried, judge_of, admit_end}
+use Rattle.retain.specs.contracts.Room.{the_type}
 use Rattle.retain.proofs.Rooms.{Told, room-told, placement_by-room, place-reads, placed-after, placed_first}
+
+-- a place is there
+pub not-protected : (r : Room) → OneOf (0 ∷ 1 ∷ 2 ∷ []) (tag_of the_type r) → r ≡ Protected → ⊥
+not-protected r t e = go (subst (λ (x : Room). OneOf (0 ∷ 1 ∷ 2 ∷ []) (tag_of the_type x)) e t)
+  where
+    go : OneOf (0 ∷ 1 ∷ 2 ∷ []) (tag_of the_type Protected) → ⊥
+    go (inl e) = omega arith
+    go (inr (inl e)) = omega arith
+    go (inr (inr e)) = omega arith
 
 -- ---- a verdict that places a row, carried out
 module _ (l : Ledger) (t p : Row) (hits : ℕ) (source : Source) (f : ℕ → Bool) (a : Account) (m : Meter) where

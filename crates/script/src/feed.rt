@@ -19,7 +19,7 @@ pub enum Lost {
 
 // What goes from line to line: how many lines were read, the place in the output, what was lost of the present line, and how many bytes
 // of the buffer are done (in `lines`) or kept (between turns).
-#[derive(Drop)]
+#[derive(Clone, Copy)]
 pub struct State {
     pub number: u64,
     pub to: usize,

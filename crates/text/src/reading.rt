@@ -7,21 +7,21 @@ use std::num::wrapping_add_u64;
 const MOST_TENS: u64 = 1844674407370955161;
 
 // The bytes of a line from `from` on and before `to`; an empty word stands for none.
-#[derive(Drop)]
+#[derive(Clone, Copy)]
 pub struct Span {
     pub from: usize,
     pub to: usize,
 }
 
 // A number and the place after its word, or a word that is none.
-#[derive(Drop)]
+#[derive(Clone, Copy)]
 pub enum Parsed {
     Number(u64, usize),
     Bad,
 }
 
 // How many numbers were read, and the place after their words; `ok` is false where a word is none.
-#[derive(Drop)]
+#[derive(Clone, Copy)]
 pub struct Listed {
     pub ok: bool,
     pub count: usize,
@@ -29,7 +29,7 @@ pub struct Listed {
 }
 
 // The digits so far as a number, or too large a one.
-#[derive(Drop)]
+#[derive(Clone, Copy)]
 enum Digits {
     Fits(u64),
     TooLarge,
