@@ -16,7 +16,7 @@ use Rattle.model.specs.declared.Literal.{Literal}
 use Rattle.model.specs.declared.OutputCursor.{OutputCursor}
 use Rattle.model.specs.declared.NextAnswer.{NextAnswer}
 use Rattle.model.specs.declared.NextAnswer.TheVariants as next-answer
-use Rattle.model.specs.declared.NextResult.{NextResult}
+use Rattle.row_deduce.specs.declared.NextStep.{NextStep}
 use Rattle.model.specs.declared.Contradicted.TheVariants.{None}
 use Rattle.model.specs.Records.{Row, is_row, fresh, limits_of}
 use Rattle.model.specs.Slots.{row_in}
@@ -269,7 +269,7 @@ module _ (n : ℕ) (slot : List ℕ) (st : Stored n slot) where
       }
 
   module _ (held₀ cut₀ : List ℕ) (m₀ : Meter) (held cut : List ℕ) (m : Meter) (b : Bool) (k : OutputCursor)
-      (w : Publishes n slot held₀ cut₀ m₀ held cut m b k) (f : NextResult) (q : f ≡ next_end m (next_output (region held cut) row k m)) where
+      (w : Publishes n slot held₀ cut₀ m₀ held cut m b k) (f : NextStep) (q : f ≡ next_end m (next_output (region held cut) row k m)) where
     abbrev wholly : Beside → Turn
     wholly l = publish (suc (length row.outputs)) n row start_cursor (state l held₀ cut₀ m₀)
 
@@ -277,13 +277,13 @@ module _ (n : ℕ) (slot : List ℕ) (st : Stored n slot) where
     next = (next_output (region held cut) row k m).next
 
     meter-is : f.meter ≡ (next_output (region held cut) row k m).meter
-    meter-is = ap (λ (y : NextResult). y.meter) q
+    meter-is = ap (λ (y : NextStep). y.meter) q
 
     cursor-is : f.cursor ≡ (next_output (region held cut) row k m).cursor
-    cursor-is = ap (λ (y : NextResult). y.cursor) q
+    cursor-is = ap (λ (y : NextStep). y.cursor) q
 
     answer-is : next_answer next ≡ f.answer
-    answer-is = sym (ap (λ (y : NextResult). y.answer) q)
+    answer-is = sym (ap (λ (y : NextStep). y.answer) q)
 
     pub publish-stopped : ((c : Literal) → f.answer ≡ next-answer.Output c → ⊥) → (f.answer ≡ next-answer.End → ⊥) → (l : Beside)
         → halted (state l held cut f.meter) ≡ wholly l

@@ -16,7 +16,7 @@ use Rattle.meter.specs.declared.Account.TheVariants.{Remaining, Share}
 use Rattle.meter.specs.declared.Judged.{Judged}
 use Rattle.meter.specs.Meter.{reads_left, pay, judged}
 use Rattle.model.specs.declared.NextAnswer.{NextAnswer}
-use Rattle.model.specs.declared.NextResult.{NextResult}
+use Rattle.row_deduce.specs.declared.NextStep.{NextStep}
 use Rattle.model.specs.declared.Deduction.{Deduction}
 use Rattle.model.specs.declared.OutputCursor.{OutputCursor}
 use Rattle.model.specs.Answers.{flag_word}
@@ -270,7 +270,7 @@ module _ (atoms : ℕ) (r : Row) (held cut cursor paying answer : List ℕ) wher
       unfolding next_call
       next-unpointed e = fails no_cursor _ _ _ (sym same_ok ∙ e) ∙ passes no_region _ _ _ g ∙ passes no_row _ _ _ f
 
-      pub next-done : {c w : List ℕ} {m : Meter} {d : NextResult} → cursor_ok x k ≡ true → m ≡ meter_of paying
+      pub next-done : {c w : List ℕ} {m : Meter} {d : NextStep} → cursor_ok x k ≡ true → m ≡ meter_of paying
           → d ≡ next_end m (next_output (region held cut) x k m) → c ≡ cursor_words d.cursor
           → w ≡ next_words d.answer d.meter.charged
           → left 0 (c ∷ w ∷ []) ≡ next_call atoms r held cut cursor paying answer
@@ -280,7 +280,7 @@ module _ (atoms : ℕ) (r : Row) (held cut cursor paying answer : List ℕ) wher
           e ∙ ap₂ (λ (t : Row) (o : OutputCursor). next_end m (next_output (region held cut) t o m)) u v
           ∙ ap (λ (n : Meter). next_end n (next_output (region held cut) r (cursor_in cursor) n)) i in
           ap₂ (λ (a b : List ℕ). left 0 (a ∷ b ∷ [])) y z
-          ∙ ap (λ (t : NextResult). left 0 (cursor_words t.cursor ∷ next_words t.answer t.meter.charged ∷ [])) all
+          ∙ ap (λ (t : NextStep). left 0 (cursor_words t.cursor ∷ next_words t.answer t.meter.charged ∷ [])) all
           ∙ passed (cursor ∷ answer ∷ []) _ ∙ passes no_cursor _ _ _ (sym same_ok ∙ ok)
           ∙ passes no_region _ _ _ g ∙ passes no_row _ _ _ f
 

@@ -17,7 +17,9 @@ use Rattle.model.specs.declared.Deduction.{Deduction}
 use Rattle.model.specs.declared.Deduction.TheVariants.{Nothing}
 use Rattle.model.specs.declared.OutputCursor.{OutputCursor}
 use Rattle.model.specs.declared.DeduceAnswer.TheVariants as deduce-answer
-use Rattle.model.specs.declared.NextAnswer.TheVariants as next-answer
+use Rattle.std.specs.Prelude.{Ok, Err}
+use Rattle.model.specs.declared.Refusal.{Refusal}
+use Rattle.model.specs.Answers.{number_of}
 use Rattle.model.specs.Records.{Row, rows_of, row_at, slot_words, max_rows}
 use Rattle.model.specs.Slots.{row_in}
 use Rattle.model.specs.Deduction.{deduction, deduction_ticks, next_output as publish_next}
@@ -31,7 +33,7 @@ use Rattle.row_deduce.proofs.Cursors.{pointed-ok}
 use Rattle.contents.specs.Lent.{lent}
 use Rattle.contents.specs.Accepted.{Accepted}
 use Rattle.slots.proofs.Rows.{rows_at, slot-code}
-use Rattle.operations.specs.Ends.{refused_by, deduced_by, deduce_end, output_end}
+use Rattle.operations.specs.Ends.{refused_by, deduced_by, deduce_end, stepped_by, output_end}
 
 module _ (h : Header) (slots postings : List ℕ) (p : ℕ) where
   abbrev s : Lent
@@ -66,10 +68,10 @@ module _ (h : Header) (slots postings : List ℕ) (p : ℕ) where
     abbrev two : List (Bool × ℕ)
     two = (position_ok s p, 5) ∷ (region_ok s held cut, 6) ∷ []
 
-    pub deduce-refused : (n : ℕ) → refusal (accepts s true two) ≡ some n →
-        deduce_end (refused_by n m) ≡ deduce s p held cut m
+    pub deduce-refused : (r : Refusal) → refusal (accepts s true two) ≡ some (number_of r) →
+        deduce_end (refused_by r m) ≡ deduce s p held cut m
     unfolding deduce
-    deduce-refused n e = rw (e, deduce)
+    deduce-refused r e = rw (e, deduce)
 
     by-tick : (d : Deduction) (t : Tick) →
         deduce_end (deduced_by (deduced d m t))
@@ -106,13 +108,13 @@ module _ (h : Header) (slots postings : List ℕ) (p : ℕ) where
       unfolding refusal
       cursor-yes l t r e = let q : cursor_ok (row_at p (ledger_in s)) k ≡ true = ap (λ (t : Row). cursor_ok t k) (row_is l ∙ sym r) ∙ e in rw q
 
-      pub next-refused : (n : ℕ) → refusal (accepts s true three) ≡ some n →
-          output_end (record { answer = next-answer.Refused n; cursor = k; meter = m; ticks = 0 }) ≡ next_output s p k held cut m
+      pub next-refused : (r : Refusal) → refusal (accepts s true three) ≡ some (number_of r) →
+          output_end (record { answer = Err r; cursor = k; meter = m; ticks = 0 }) ≡ next_output s p k held cut m
       unfolding next_output
-      next-refused n e = rw (e, next_output)
+      next-refused r e = rw (e, next_output)
 
       pub next-done : refusal (accepts s true three) ≡ none → p < h.rows → (t : Row) → t ≡ row_in (slot_at slots p) →
-          output_end (next_end m (publish_next (region held cut) t k m)) ≡ next_output s p k held cut m
+          output_end (stepped_by (next_end m (publish_next (region held cut) t k m))) ≡ next_output s p k held cut m
       unfolding next_output
       next-done e l t q =
-          ap (λ (t : Row). output_end (next_end m (publish_next (region held cut) t k m))) (q ∙ sym (row_is l)) ∙ sym (rw (e, next_output))
+          ap (λ (t : Row). output_end (stepped_by (next_end m (publish_next (region held cut) t k m)))) (q ∙ sym (row_is l)) ∙ sym (rw (e, next_output))

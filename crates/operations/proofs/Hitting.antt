@@ -7,7 +7,9 @@ use Prim.Native.Nat.{ℕ, ◌<◌}
 use Rattle.lists.specs.Lists.{adjust}
 use Rattle.lists.proofs.Selects.{length-adjust, map-adjust}
 use Rattle.model.specs.declared.Header.{Header}
-use Rattle.model.specs.declared.HitAnswer.TheVariants.{Refused, Done}
+use Rattle.std.specs.Prelude.{Ok, Err}
+use Rattle.model.specs.declared.Refusal.{Refusal}
+use Rattle.model.specs.Answers.{number_of}
 use Rattle.model.specs.Records.{hit_entry}
 use Rattle.model.specs.Slots.{slots_of, entries_in}
 use Rattle.model.specs.Postings.{filed}
@@ -28,10 +30,10 @@ use Rattle.operations.specs.Ends.{hit_end}
 use Rattle.contents.proofs.Lending.{lent-entries}
 
 module _ (h : Header) (slots postings : List ℕ) (p : ℕ) where
-  pub hit-refused : (n : ℕ) → refusal (accepts (lent h slots postings) true ((position_ok (lent h slots postings) p, 5) ∷ [])) ≡ some n →
-      hit_end (record { answer = Refused n; header = h; ticks = 0 }) slots postings ≡ hit (lent h slots postings) p
+  pub hit-refused : (r : Refusal) → refusal (accepts (lent h slots postings) true ((position_ok (lent h slots postings) p, 5) ∷ [])) ≡ some (number_of r) →
+      hit_end (record { answer = Err r; header = h; ticks = 0 }) slots postings ≡ hit (lent h slots postings) p
   unfolding hit
-  hit-refused n e = rw (e, hit)
+  hit-refused r e = rw (e, hit)
 
   -- a hit changes two words of one slot, and no row
   hit-lent : Accepted h slots postings → p < h.rows
@@ -47,8 +49,8 @@ module _ (h : Header) (slots postings : List ℕ) (p : ℕ) where
       (founded-hit p es ∙ sym a.founded)
 
   pub hit-done : refusal (accepts (lent h slots postings) true ((position_ok (lent h slots postings) p, 5) ∷ [])) ≡ none → p < h.rows →
-      hit_end (record { answer = Done; header = h; ticks = 0 }) (hit_words p slots) postings ≡ hit (lent h slots postings) p
+      hit_end (record { answer = Ok tt; header = h; ticks = 0 }) (hit_words p slots) postings ≡ hit (lent h slots postings) p
   unfolding hit
   hit-done e l =
       rw (e, hit)
-      (ap (λ (x : Lent). record { answer = hit_reply Done; ledger = x; ticks = 0 }) (hit-lent (accepted h slots postings true _ e) l))
+      (ap (λ (x : Lent). record { answer = hit_reply tt; ledger = x; ticks = 0 }) (hit-lent (accepted h slots postings true _ e) l))

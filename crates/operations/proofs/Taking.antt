@@ -5,7 +5,9 @@ use mathlib.Core.List.{List, []}
 use mathlib.Core.Option.{none, some}
 use Prim.Native.Nat.{ℕ}
 use Rattle.model.specs.declared.Header.{Header}
-use Rattle.model.specs.declared.BeginAnswer.TheVariants.{Refused, Done}
+use Rattle.std.specs.Prelude.{Ok, Err}
+use Rattle.model.specs.declared.Refusal.{Refusal}
+use Rattle.model.specs.Answers.{number_of}
 use Rattle.model.specs.Records.{with_full}
 use Rattle.model.specs.Slots.{entries_in}
 use Rattle.model.specs.Refusals.{Lent, refusal, accepts, ledger_in, lent_of}
@@ -26,14 +28,14 @@ module _ (h : Header) (slots postings : List ℕ) where
       stands-lent (with_full h true) slots postings
       (stands-under h (with_full h true) slots postings postings a.stands refl refl a.stands.filing) a.founded
 
-  pub begin-refused : (n : ℕ) → refusal (accepts (lent h slots postings) true []) ≡ some n →
-      begin_end (record { answer = Refused n; header = h; ticks = 0 }) slots postings ≡ begin (lent h slots postings)
+  pub begin-refused : (r : Refusal) → refusal (accepts (lent h slots postings) true []) ≡ some (number_of r) →
+      begin_end (record { answer = Err r; header = h; ticks = 0 }) slots postings ≡ begin (lent h slots postings)
   unfolding begin
-  begin-refused n e = rw (e, begin)
+  begin-refused r e = rw (e, begin)
 
   pub begin-done : refusal (accepts (lent h slots postings) true []) ≡ none →
-      begin_end (record { answer = Done; header = with_full h true; ticks = 0 }) slots postings ≡ begin (lent h slots postings)
+      begin_end (record { answer = Ok tt; header = with_full h true; ticks = 0 }) slots postings ≡ begin (lent h slots postings)
   unfolding begin ledger_in
   begin-done e =
       rw (e, begin, ledger_in)
-      (ap (λ (l : Lent). record { answer = begin_reply Done; ledger = l; ticks = 0 }) (full-lent (accepted h slots postings true [] e)))
+      (ap (λ (l : Lent). record { answer = begin_reply tt; ledger = l; ticks = 0 }) (full-lent (accepted h slots postings true [] e)))

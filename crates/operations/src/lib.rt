@@ -5,17 +5,16 @@ ghost use Rattle.std.specs.Prelude.{◌≡◌};
 ghost use Rattle.model.specs.Records.{fresh};
 ghost use Rattle.model.specs.Operations.{make, hit, deduce, next_output, begin, decide};
 ghost use Rattle.contents.specs.Lent.{lent};
-ghost use Rattle.operations.specs.Ends.{make_end, hit_end, refused_by, deduced_by, deduce_end, output_end, begin_end, decide_end};
+ghost use Rattle.operations.specs.Ends.{unpriced, under, unpriced_decision, make_end, hit_end, refused_by, deduced_by, stepped_by, deduce_end, output_end, begin_end, decide_end};
 
 use contents::{accept, limits_ok};
 use lists::fill_zero;
 use meter::{Capture, Meter, Sharing};
 use model::{
-    BeginAnswer, BeginResult, DecideAnswer, DecideResult, DeduceAnswer, DeduceResult, Deduction,
-    Header, HitAnswer, HitResult, LearningLimits, MakeAnswer, MakeResult, Mark, NextAnswer,
-    NextResult, OutputCursor, POSTING_WORDS, SLOT_WORDS,
+    BeginResult, DecideResult, DeduceAnswer, DeduceResult, Deduction, Header, HitResult,
+    LearningLimits, MakeResult, Mark, NextResult, OutputCursor, POSTING_WORDS, Refusal, SLOT_WORDS,
 };
-use row_deduce::{Deduced, cursor_ok, deduction, next_publication_output};
+use row_deduce::{Deduced, NextStep, cursor_ok, deduction, next_publication_output};
 use words::is_region;
 
 // The header of a ledger with no rows.
@@ -41,7 +40,32 @@ fn fresh_header(limits: LearningLimits, number: u64) -> Header
     }
 }
 
-// Makes a ledger in two lent buffers, whatever they hold: refused by 1 or 2, or the fresh header, with every word 0.
+// Makes the header, and zeroes the buffers unless it refuses.
+fn try_make(
+    limits: LearningLimits,
+    number: u64,
+    slots: &mut [u64],
+    postings: &mut [u64],
+) -> Result<Header, Refusal>
+    ensures { make_end (unpriced result) slots.new postings.new
+        ≡ make limits number slots.old postings.old }
+{
+    if !limits_ok(limits) {
+        return Err(Refusal::Limits);
+    }
+    let tier = limits.tier_rows as usize;
+    if slots.len() != SLOT_WORDS * tier {
+        return Err(Refusal::Lengths);
+    }
+    if postings.len() != POSTING_WORDS * tier {
+        return Err(Refusal::Lengths);
+    }
+    fill_zero(slots);
+    fill_zero(postings);
+    Ok(fresh_header(limits, number))
+}
+
+// Makes a ledger in two lent buffers, whatever they hold: refused by Limits or Lengths, or the fresh header, with every word 0.
 pub fn make(
     limits: LearningLimits,
     number: u64,
@@ -51,90 +75,68 @@ pub fn make(
     ensures { make_end result slots.new postings.new
         ≡ make limits number slots.old postings.old }
 {
-    if !limits_ok(limits) {
-        return MakeResult {
-            answer: MakeAnswer::Refused(1),
-            ticks: 0,
-        };
-    }
-    let tier = limits.tier_rows as usize;
-    if slots.len() != SLOT_WORDS * tier {
-        return MakeResult {
-            answer: MakeAnswer::Refused(2),
-            ticks: 0,
-        };
-    }
-    if postings.len() != POSTING_WORDS * tier {
-        return MakeResult {
-            answer: MakeAnswer::Refused(2),
-            ticks: 0,
-        };
-    }
-    fill_zero(slots);
-    fill_zero(postings);
     MakeResult {
-        answer: MakeAnswer::Made(fresh_header(limits, number)),
+        answer: try_make(limits, number, slots, postings),
         ticks: 0,
     }
 }
 
-// Begins a search over all rows: refused by 1, 2 or 3, or the header with full true.
+// Begins a search over all rows: refused by Limits, Lengths or Contents, or the header with full true.
 pub fn begin(header: Header, slots: &[u64], postings: &[u64]) -> BeginResult
     ensures { begin_end result slots.now postings.now
         ≡ begin (lent header slots.now postings.now) }
 {
-    let n = accept(header, slots, postings, true);
-    if n != 0 {
-        return BeginResult {
-            answer: BeginAnswer::Refused(n),
-            header,
-            ticks: 0,
-        };
-    }
-    BeginResult {
-        answer: BeginAnswer::Done,
-        header: Header {
+    let answer = accept(header, slots, postings, true);
+    let after = match answer {
+        Ok(()) => Header {
             full: true,
             ..header
         },
+        Err(_) => header,
+    };
+    BeginResult {
+        answer,
+        header: after,
         ticks: 0,
     }
 }
 
-// Counts one hit, not shared yet, for the row at a position: refused by 1, 2, 3, or by 5 if there is no such row.
+// Counts the hit, unless it refuses.
+fn try_hit(
+    header: Header,
+    slots: &mut [u64],
+    postings: &[u64],
+    position: u64,
+) -> Result<(), Refusal>
+    ensures { hit_end (under header result) slots.new postings.now
+        ≡ hit (lent header slots.old postings.now) position }
+{
+    accept(header, slots, postings, true)?;
+    if header.rows <= position {
+        return Err(Refusal::Position);
+    }
+    tier::hit(slots, position as usize);
+    Ok(())
+}
+
+// Counts one hit, not shared yet, for the row at a position: refused by Limits, Lengths, Contents, or by Position if there is no such row.
 pub fn hit(header: Header, slots: &mut [u64], postings: &[u64], position: u64) -> HitResult
     ensures { hit_end result slots.new postings.now
         ≡ hit (lent header slots.old postings.now) position }
 {
-    let n = accept(header, slots, postings, true);
-    if n != 0 {
-        return HitResult {
-            answer: HitAnswer::Refused(n),
-            header,
-            ticks: 0,
-        };
-    }
-    if header.rows <= position {
-        return HitResult {
-            answer: HitAnswer::Refused(5),
-            header,
-            ticks: 0,
-        };
-    }
-    tier::hit(slots, position as usize);
     HitResult {
-        answer: HitAnswer::Done,
+        answer: try_hit(header, slots, postings, position),
         header,
         ticks: 0,
     }
 }
 
 // A deduction that was refused: nothing is deduced, and no tick is made.
-fn deduce_refused(number: u64, work: Meter) -> DeduceResult
-    ensures { result ≡ refused_by number work }
+fn deduce_refused(refusal: Refusal, work: Meter) -> DeduceResult
+    ensures { result ≡ refused_by refusal work }
 {
     DeduceResult {
-        answer: DeduceAnswer::Refused(number),
+        answer: Err(refusal),
         deduction: Deduction::Nothing,
         meter: work,
         ticks: 0,
@@ -153,15 +155,30 @@ fn deduce_done(found: Deduced) -> DeduceResult
         DeduceAnswer::Done
     };
     DeduceResult {
-        answer,
+        answer: Ok(answer),
         deduction: said,
         meter,
         ticks: found.ticks,
     }
 }
 
-// What the row at a position says of a region: refused by 1, 2, 3, by 5 if there is no such row, by 6 if there is no region over the
-// ledger's atoms; Stopped, or the deduction.
+// The next output as the row's own walk gives it.
+fn next_done(found: NextStep) -> NextResult
+    ensures { result ≡ stepped_by found }
+{
+    let answer = found.answer;
+    let cursor = found.cursor;
+    let meter = found.meter;
+    NextResult {
+        answer: Ok(answer),
+        cursor,
+        meter,
+        ticks: found.ticks,
+    }
+}
+
+// What the row at a position says of a region: refused by Limits, Lengths, Contents, by Position if there is no such row, by Region if there is no region over
+// the ledger's atoms; Stopped, or the deduction.
 pub fn deduce(
     header: Header,
     slots: &[u64],
@@ -174,22 +191,21 @@ pub fn deduce(
     ensures { deduce_end result
         ≡ deduce (lent header slots.now postings.now) position held.now cut.now work }
 {
-    let n = accept(header, slots, postings, true);
-    if n != 0 {
-        return deduce_refused(n, work);
+    if let Err(refusal) = accept(header, slots, postings, true) {
+        return deduce_refused(refusal, work);
     }
     if header.rows <= position {
-        return deduce_refused(5, work);
+        return deduce_refused(Refusal::Position, work);
     }
     if !is_region(header.limits.atoms, held, cut) {
-        return deduce_refused(6, work);
+        return deduce_refused(Refusal::Region, work);
     }
     let a = SLOT_WORDS * (position as usize);
     let e = a + SLOT_WORDS;
     deduce_done(deduction(&slots[a..e], held, cut, work))
 }
 
-// The next output of the row at a position, with the cursor past it: refused as `deduce`, and by 8 if the cursor is none of that row's;
+// The next output of the row at a position, with the cursor past it: refused as `deduce`, and by Cursor if the cursor is none of that row's;
 // Stopped, End, or the output.
 pub fn next_output(
     header: Header,
@@ -205,10 +221,9 @@ pub fn next_output(
         ≡ next_output (lent header slots.now postings.now) position cursor held.now cut.now
         work }
 {
-    let n = accept(header, slots, postings, true);
-    if n != 0 {
+    if let Err(refusal) = accept(header, slots, postings, true) {
         return NextResult {
-            answer: NextAnswer::Refused(n),
+            answer: Err(refusal),
             cursor,
             meter: work,
             ticks: 0,
@@ -216,7 +231,7 @@ pub fn next_output(
     }
     if header.rows <= position {
         return NextResult {
-            answer: NextAnswer::Refused(5),
+            answer: Err(Refusal::Position),
             cursor,
             meter: work,
             ticks: 0,
@@ -224,7 +239,7 @@ pub fn next_output(
     }
     if !is_region(header.limits.atoms, held, cut) {
         return NextResult {
-            answer: NextAnswer::Refused(6),
+            answer: Err(Refusal::Region),
             cursor,
             meter: work,
             ticks: 0,
@@ -234,29 +249,39 @@ pub fn next_output(
     let e = a + SLOT_WORDS;
     if !cursor_ok(&slots[a..e], cursor) {
         return NextResult {
-            answer: NextAnswer::Refused(8),
+            answer: Err(Refusal::Cursor),
             cursor,
             meter: work,
             ticks: 0,
         };
     }
-    next_publication_output(&slots[a..e], cursor, held, cut, work)
+    next_done(next_publication_output(&slots[a..e], cursor, held, cut, work))
 }
 
-// Holds or cuts an atom of a region: refused by 6 if there is no region over `atoms` atoms; false, and nothing changed, if the atom is
+// Decides, unless it refuses.
+fn try_decide(
+    atoms: u64,
+    held: &mut [u64],
+    cut: &mut [u64],
+    atom: u64,
+    value: bool,
+) -> Result<bool, Refusal>
+    ensures { decide_end (unpriced_decision result) held.new cut.new
+        ≡ decide atoms held.old cut.old atom value }
+{
+    if !is_region(atoms, held, cut) {
+        return Err(Refusal::Region);
+    }
+    Ok(words::decide(atoms, held, cut, atom, value))
+}
+
+// Holds or cuts an atom of a region: refused by Region if there is no region over `atoms` atoms; false, and nothing changed, if the atom is
 // not below `atoms` or the opposite is marked.
 pub fn decide(atoms: u64, held: &mut [u64], cut: &mut [u64], atom: u64, value: bool) -> DecideResult
     ensures { decide_end result held.new cut.new ≡ decide atoms held.old cut.old atom value }
 {
-    if !is_region(atoms, held, cut) {
-        return DecideResult {
-            answer: DecideAnswer::Refused(6),
-            ticks: 0,
-        };
-    }
-    let done = words::decide(atoms, held, cut, atom, value);
     DecideResult {
-        answer: DecideAnswer::Decided(done),
+        answer: try_decide(atoms, held, cut, atom, value),
         ticks: 0,
     }
 }

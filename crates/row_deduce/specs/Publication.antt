@@ -8,7 +8,7 @@ use Rattle.meter.specs.declared.Tick.TheVariants.{Ticked, Stopped}
 use Rattle.meter.specs.Meter.{tick_of, made}
 use Rattle.model.specs.declared.OutputCursor.{OutputCursor}
 use Rattle.model.specs.declared.NextAnswer.{NextAnswer}
-use Rattle.model.specs.declared.NextResult.{NextResult}
+use Rattle.row_deduce.specs.declared.NextStep.{NextStep}
 use Rattle.model.specs.Records.{Row}
 use Rattle.model.specs.Rows.{groups, packed}
 use Rattle.model.specs.Slots.{index_of, bits_of}
@@ -18,11 +18,11 @@ use Rattle.slots.specs.declared.Side.{Side}
 use Rattle.row_deduce.specs.declared.Group.{Group}
 
 -- an answer that ends a call, with the ticks made since it began
-abbrev pub published_with : NextAnswer → OutputCursor → Meter → Meter → NextResult
+abbrev pub published_with : NextAnswer → OutputCursor → Meter → Meter → NextStep
 published_with x k before after = record { answer = x; cursor = k; meter = after; ticks = made before after }
 
 -- what is published, as the result of a call that began at m
-abbrev pub next_end : Meter → Published → NextResult
+abbrev pub next_end : Meter → Published → NextStep
 next_end m x = published_with (next_answer x.next) x.cursor m x.meter
 
 -- the cursor past group `next`, loaded without what is true in the region

@@ -19,7 +19,7 @@ ghost use Rattle.row_deduce.specs.Walks.{literal, code_in, read_conditions, read
 ghost use Rattle.row_deduce.specs.Walks.{concluded as concluded_with, deduced};
 
 use meter::{Meter, Tick};
-use model::{Deduction, GROUP_WORDS, Literal, NextAnswer, NextResult, OutputCursor};
+use model::{Deduction, GROUP_WORDS, Literal, NextAnswer, OutputCursor};
 use slots::Side;
 use words::WORD_BITS;
 
@@ -58,6 +58,15 @@ pub struct OutputsRead {
 pub struct Deduced {
     pub deduction: Deduction,
     pub stopped: bool,
+    pub meter: Meter,
+    pub ticks: u64,
+}
+
+// The next output, with the cursor past it, the meter after it and the ticks made.
+#[derive(Clone, Copy)]
+pub struct NextStep {
+    pub answer: NextAnswer,
+    pub cursor: OutputCursor,
     pub meter: Meter,
     pub ticks: u64,
 }
@@ -410,10 +419,10 @@ fn loaded(slot: &[u64], side: Side, next: u64, held: &[u64], cut: &[u64]) -> Out
 }
 
 // An answer, with the cursor, the meter and the ticks made since it stood at `before`.
-fn published(answer: NextAnswer, cursor: OutputCursor, before: Meter, after: Meter) -> NextResult
+fn published(answer: NextAnswer, cursor: OutputCursor, before: Meter, after: Meter) -> NextStep
     ensures { result ≡ published_with answer cursor before after }
 {
-    NextResult {
+    NextStep {
         answer: answer,
         cursor: cursor,
         meter: after,
@@ -422,7 +431,7 @@ fn published(answer: NextAnswer, cursor: OutputCursor, before: Meter, after: Met
 }
 
 // The next output of the loaded group, which has one left.
-fn given(cursor: OutputCursor, before: Meter, work: Meter) -> NextResult
+fn given(cursor: OutputCursor, before: Meter, work: Meter) -> NextStep
     requires fact_1 { cursor.word < words_wide code_bits }
     requires fact_2 { 0 < bit_or cursor.absent cursor.present }
     ensures { result ≡ next_end before (given_next cursor work) }
@@ -451,7 +460,7 @@ fn packed_next(
     held: &[u64],
     cut: &[u64],
     work: Meter,
-) -> NextResult
+) -> NextStep
     requires fact_1 { Publishable slot.now side held.now cut.now }
     requires fact_2 { cursor.next ≤ side.count }
     requires fact_3 { cursor.word < words_wide code_bits }
@@ -475,7 +484,7 @@ fn packed_next(
 }
 
 // The next output of a scalar row: the code at the cursor, true in the region or not.
-fn scalar_next(slot: &[u64], side: Side, cursor: OutputCursor, work: Meter) -> NextResult
+fn scalar_next(slot: &[u64], side: Side, cursor: OutputCursor, work: Meter) -> NextStep
     requires fact_1 { side.packed ≡ false }
     requires fact_2 { side.base + side.count ≤ length slot.now }
     requires fact_3 { SmallCodes slot.now side }
@@ -510,7 +519,7 @@ pub fn next_of_side(
     held: &[u64],
     cut: &[u64],
     work: Meter,
-) -> NextResult
+) -> NextStep
     requires fact_1 { Matched slot.now held.now cut.now }
     requires fact_2 { Pointed (row_in slot.now) cursor }
     requires fact_3 { side ≡ output_side slot.now }
@@ -531,7 +540,7 @@ pub fn next_publication_output(
     held: &[u64],
     cut: &[u64],
     work: Meter,
-) -> NextResult
+) -> NextStep
     requires fact_1 { Matched slot.now held.now cut.now }
     requires fact_2 { Pointed (row_in slot.now) cursor }
     ensures { result

@@ -3,9 +3,10 @@ use mathlib.Core.Path.{sym, ap, ◌∙◌}
 use mathlib.Core.Bool.{true}
 use mathlib.Core.List.{[], ◌∷◌}
 use Rattle.model.specs.Slots.{row_in}
+use Rattle.model.specs.declared.Refusal.TheVariants as refuse
 use Rattle.slots.proofs.Rows.{slot-code}
 use Rattle.contents.specs.Lent.{lent}
-use Rattle.contents.proofs.Accepting.{accepted, accept-refused, accept-passed, accept-none}
+use Rattle.contents.proofs.Accepting.{accepted, accept-refused, accept-passed}
 use Rattle.operations.specs.Ends.{deduced_by, deduce_end}
 use Rattle.operations.proofs.Tests.{all-passed, position-no, position-yes, region-no, region-yes}
 use Rattle.model.specs.Operations.{position_ok, region_ok}
@@ -13,23 +14,21 @@ use Rattle.operations.proofs.Deducing.{slot-fits, matched, deduce-refused, deduc
 use borrow.Author.Rules.{rules}
 use Rattle.operations.proofs.deduce.Goals as goal
 
-pub returns-then-n-ne0 : goal.returns-then-n-ne0
-returns-then-n-ne0 c =
+pub returns-in-Err : goal.returns-in-Err
+returns-in-Err c =
     let a = c.args in
     let s = lent a.header a.slots.now a.postings.now in
     ap deduce_end c.deduce_refused.ensures
     ∙ deduce-refused a.header a.slots.now a.postings.now a.position a.held.now a.cut.now a.work _
-    (accept-refused s true ((position_ok s a.position, 5) ∷ (region_ok s a.held.now a.cut.now, 6) ∷ []) _
-    c.accept-n.ensures c.if-n-ne0.true)
+    (accept-refused s true ((position_ok s a.position, 5) ∷ (region_ok s a.held.now a.cut.now, 6) ∷ []) _ c.in-Err.ensures)
 
 pub returns-then-header-position : goal.returns-then-header-position
 returns-then-header-position c =
     let a = c.args in
     let s = lent a.header a.slots.now a.postings.now in
     ap deduce_end c.deduce_refused-then-header-position.ensures
-    ∙ deduce-refused a.header a.slots.now a.postings.now a.position a.held.now a.cut.now a.work 5
-    (accept-passed s true ((position_ok s a.position, 5) ∷ (region_ok s a.held.now a.cut.now, 6) ∷ []) _
-    c.accept-n.ensures c.if-n-ne0.false
+    ∙ deduce-refused a.header a.slots.now a.postings.now a.position a.held.now a.cut.now a.work refuse.Position
+    (accept-passed s true ((position_ok s a.position, 5) ∷ (region_ok s a.held.now a.cut.now, 6) ∷ []) c.in_default.ensures
     ∙ position-no a.header a.slots.now a.postings.now a.position ((region_ok s a.held.now a.cut.now, 6) ∷ [])
     c.if-header-position.true)
 
@@ -38,9 +37,8 @@ returns-then-not-is_region c =
     let a = c.args in
     let s = lent a.header a.slots.now a.postings.now in
     ap deduce_end c.deduce_refused-then-not-is_region.ensures
-    ∙ deduce-refused a.header a.slots.now a.postings.now a.position a.held.now a.cut.now a.work 6
-    (accept-passed s true ((position_ok s a.position, 5) ∷ (region_ok s a.held.now a.cut.now, 6) ∷ []) _
-    c.accept-n.ensures c.if-n-ne0.false
+    ∙ deduce-refused a.header a.slots.now a.postings.now a.position a.held.now a.cut.now a.work refuse.Region
+    (accept-passed s true ((position_ok s a.position, 5) ∷ (region_ok s a.held.now a.cut.now, 6) ∷ []) c.in_default.ensures
     ∙ position-yes a.header a.slots.now a.postings.now a.position ((region_ok s a.held.now a.cut.now, 6) ∷ [])
     c.if-header-position.false
     ∙ region-no a.header a.slots.now a.postings.now a.held.now a.cut.now []
@@ -51,7 +49,7 @@ overflow_mul-a c =
     let a = c.args in
     let s = lent a.header a.slots.now a.postings.now in
     let k = accepted a.header a.slots.now a.postings.now true []
-    (accept-none s true _ c.accept-n.ensures c.if-n-ne0.false) in
+    (sym c.in_default.ensures) in
     let f = slot-fits a.header a.slots.now a.postings.now a.position k c.if-header-position.false in
     search rules
 
@@ -60,7 +58,7 @@ overflow_add-e c =
     let a = c.args in
     let s = lent a.header a.slots.now a.postings.now in
     let k = accepted a.header a.slots.now a.postings.now true []
-    (accept-none s true _ c.accept-n.ensures c.if-n-ne0.false) in
+    (sym c.in_default.ensures) in
     let f = slot-fits a.header a.slots.now a.postings.now a.position k c.if-header-position.false in
     search rules
 
@@ -69,7 +67,7 @@ offset_bounds-slots-a c =
     let a = c.args in
     let s = lent a.header a.slots.now a.postings.now in
     let k = accepted a.header a.slots.now a.postings.now true []
-    (accept-none s true _ c.accept-n.ensures c.if-n-ne0.false) in
+    (sym c.in_default.ensures) in
     let f = slot-fits a.header a.slots.now a.postings.now a.position k c.if-header-position.false in
     search rules
 
@@ -78,7 +76,7 @@ slice_bounds-deduction-end c =
     let a = c.args in
     let s = lent a.header a.slots.now a.postings.now in
     let k = accepted a.header a.slots.now a.postings.now true []
-    (accept-none s true _ c.accept-n.ensures c.if-n-ne0.false) in
+    (sym c.in_default.ensures) in
     let f = slot-fits a.header a.slots.now a.postings.now a.position k c.if-header-position.false in
     search rules
 
@@ -87,8 +85,7 @@ deduction-requires c =
     let a = c.args in
     let s = lent a.header a.slots.now a.postings.now in
     let k = accepted a.header a.slots.now a.postings.now true []
-    (accept-none s true _ c.accept-n.ensures
-    c.if-n-ne0.false) in
+    (sym c.in_default.ensures) in
     matched a.header a.slots.now a.postings.now a.position k c.if-header-position.false a.held.now
     a.cut.now (sym c.is_region.ensures ∙ c.if-not-is_region.false)
 
@@ -98,9 +95,7 @@ returns c =
     let s = lent a.header a.slots.now a.postings.now in
     ap deduce_end (c.deduce_done.ensures ∙ ap deduced_by c.deduction.ensures)
     ∙ deduce-done a.header a.slots.now a.postings.now a.position a.held.now a.cut.now a.work
-    (accept-passed s true ((position_ok s a.position, 5) ∷ (region_ok s a.held.now a.cut.now, 6) ∷ []) _
-    c.accept-n.ensures
-    c.if-n-ne0.false
+    (accept-passed s true ((position_ok s a.position, 5) ∷ (region_ok s a.held.now a.cut.now, 6) ∷ []) c.in_default.ensures
     ∙ position-yes a.header a.slots.now a.postings.now a.position ((region_ok s a.held.now a.cut.now, 6) ∷ [])
     c.if-header-position.false
     ∙ region-yes a.header a.slots.now a.postings.now a.held.now a.cut.now []

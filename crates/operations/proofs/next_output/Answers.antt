@@ -3,36 +3,36 @@ use mathlib.Core.Path.{sym, ap, ◌∙◌}
 use mathlib.Core.Bool.{true}
 use mathlib.Core.List.{[], ◌∷◌}
 use Rattle.model.specs.Slots.{row_in}
+use Rattle.model.specs.declared.Refusal.TheVariants as refuse
 use Rattle.model.specs.Refusals.{ledger_in}
 use Rattle.model.specs.Records.{row_at}
 use Rattle.slots.proofs.Rows.{slot-code}
 use Rattle.contents.specs.Lent.{lent}
-use Rattle.contents.proofs.Accepting.{accepted, accept-refused, accept-passed, accept-none}
-use Rattle.operations.specs.Ends.{output_end}
+use Rattle.contents.proofs.Accepting.{accepted, accept-refused, accept-passed}
+use Rattle.operations.specs.Ends.{stepped_by, output_end}
 use Rattle.operations.proofs.Tests.{position-no, position-yes, region-no, region-yes}
 use Rattle.model.specs.Operations.{position_ok, region_ok, cursor_ok}
 use Rattle.operations.proofs.Deducing.{slot-fits, holds, matched, pointed, cursor-no, cursor-yes, next-refused, next-done}
 use borrow.Author.Rules.{rules}
 use Rattle.operations.proofs.next_output.Goals as goal
 
-pub returns-then-n-ne0 : goal.returns-then-n-ne0
-returns-then-n-ne0 c =
+pub returns-in-Err : goal.returns-in-Err
+returns-in-Err c =
     let a = c.args in
     let s = lent a.header a.slots.now a.postings.now in
     next-refused a.header a.slots.now a.postings.now a.position a.held.now a.cut.now a.work a.cursor _
     (accept-refused s true
     ((position_ok s a.position, 5) ∷ (region_ok s a.held.now a.cut.now, 6)
-    ∷ (cursor_ok (row_at a.position (ledger_in s)) a.cursor, 8) ∷ []) _ c.accept-n.ensures c.if-n-ne0.true)
+    ∷ (cursor_ok (row_at a.position (ledger_in s)) a.cursor, 8) ∷ []) _ c.in-Err.ensures)
 
 pub returns-then-header-position : goal.returns-then-header-position
 returns-then-header-position c =
     let a = c.args in
     let s = lent a.header a.slots.now a.postings.now in
-    next-refused a.header a.slots.now a.postings.now a.position a.held.now a.cut.now a.work a.cursor 5
+    next-refused a.header a.slots.now a.postings.now a.position a.held.now a.cut.now a.work a.cursor refuse.Position
     (accept-passed s true
     ((position_ok s a.position, 5) ∷ (region_ok s a.held.now a.cut.now, 6)
-    ∷ (cursor_ok (row_at a.position (ledger_in s)) a.cursor, 8) ∷ []) _ c.accept-n.ensures
-    c.if-n-ne0.false
+    ∷ (cursor_ok (row_at a.position (ledger_in s)) a.cursor, 8) ∷ []) c.in_default.ensures
     ∙ position-no a.header a.slots.now a.postings.now a.position
     ((region_ok s a.held.now a.cut.now, 6) ∷ (cursor_ok (row_at a.position (ledger_in s)) a.cursor, 8) ∷ []) c.if-header-position.true)
 
@@ -40,11 +40,10 @@ pub returns-then-not-is_region : goal.returns-then-not-is_region
 returns-then-not-is_region c =
     let a = c.args in
     let s = lent a.header a.slots.now a.postings.now in
-    next-refused a.header a.slots.now a.postings.now a.position a.held.now a.cut.now a.work a.cursor 6
+    next-refused a.header a.slots.now a.postings.now a.position a.held.now a.cut.now a.work a.cursor refuse.Region
     (accept-passed s true
     ((position_ok s a.position, 5) ∷ (region_ok s a.held.now a.cut.now, 6)
-    ∷ (cursor_ok (row_at a.position (ledger_in s)) a.cursor, 8) ∷ []) _ c.accept-n.ensures
-    c.if-n-ne0.false
+    ∷ (cursor_ok (row_at a.position (ledger_in s)) a.cursor, 8) ∷ []) c.in_default.ensures
     ∙ position-yes a.header a.slots.now a.postings.now a.position
     ((region_ok s a.held.now a.cut.now, 6) ∷ (cursor_ok (row_at a.position (ledger_in s)) a.cursor, 8) ∷ [])
     c.if-header-position.false
@@ -56,7 +55,7 @@ overflow_mul-a c =
     let a = c.args in
     let s = lent a.header a.slots.now a.postings.now in
     let k = accepted a.header a.slots.now a.postings.now true []
-    (accept-none s true _ c.accept-n.ensures c.if-n-ne0.false) in
+    (sym c.in_default.ensures) in
     let f = slot-fits a.header a.slots.now a.postings.now a.position k c.if-header-position.false in
     search rules
 
@@ -65,7 +64,7 @@ overflow_add-e c =
     let a = c.args in
     let s = lent a.header a.slots.now a.postings.now in
     let k = accepted a.header a.slots.now a.postings.now true []
-    (accept-none s true _ c.accept-n.ensures c.if-n-ne0.false) in
+    (sym c.in_default.ensures) in
     let f = slot-fits a.header a.slots.now a.postings.now a.position k c.if-header-position.false in
     search rules
 
@@ -74,7 +73,7 @@ offset_bounds-slots-a c =
     let a = c.args in
     let s = lent a.header a.slots.now a.postings.now in
     let k = accepted a.header a.slots.now a.postings.now true []
-    (accept-none s true _ c.accept-n.ensures c.if-n-ne0.false) in
+    (sym c.in_default.ensures) in
     let f = slot-fits a.header a.slots.now a.postings.now a.position k c.if-header-position.false in
     search rules
 
@@ -83,7 +82,7 @@ slice_bounds-cursor_ok-end c =
     let a = c.args in
     let s = lent a.header a.slots.now a.postings.now in
     let k = accepted a.header a.slots.now a.postings.now true []
-    (accept-none s true _ c.accept-n.ensures c.if-n-ne0.false) in
+    (sym c.in_default.ensures) in
     let f = slot-fits a.header a.slots.now a.postings.now a.position k c.if-header-position.false in
     search rules
 
@@ -92,20 +91,17 @@ cursor_ok-requires c =
     let a = c.args in
     let s = lent a.header a.slots.now a.postings.now in
     let k = accepted a.header a.slots.now a.postings.now true []
-    (accept-none s true _ c.accept-n.ensures
-    c.if-n-ne0.false) in
+    (sym c.in_default.ensures) in
     holds a.header a.slots.now a.postings.now a.position k c.if-header-position.false
 
 pub returns-then-not-cursor_ok : goal.returns-then-not-cursor_ok
 returns-then-not-cursor_ok c =
     let a = c.args in
     let s = lent a.header a.slots.now a.postings.now in
-    next-refused a.header a.slots.now a.postings.now a.position a.held.now a.cut.now a.work a.cursor 8
+    next-refused a.header a.slots.now a.postings.now a.position a.held.now a.cut.now a.work a.cursor refuse.Cursor
     (accept-passed s true
     ((position_ok s a.position, 5) ∷ (region_ok s a.held.now a.cut.now, 6)
-    ∷ (cursor_ok (row_at a.position (ledger_in s)) a.cursor, 8) ∷ []) _
-    c.accept-n.ensures
-    c.if-n-ne0.false
+    ∷ (cursor_ok (row_at a.position (ledger_in s)) a.cursor, 8) ∷ []) c.in_default.ensures
     ∙ position-yes a.header a.slots.now a.postings.now a.position
     ((region_ok s a.held.now a.cut.now, 6) ∷ (cursor_ok (row_at a.position (ledger_in s)) a.cursor, 8) ∷ [])
     c.if-header-position.false
@@ -121,8 +117,7 @@ offset_bounds-slots-a-2 c =
     let a = c.args in
     let s = lent a.header a.slots.now a.postings.now in
     let k = accepted a.header a.slots.now a.postings.now true []
-    (accept-none s true _ c.accept-n.ensures
-    c.if-n-ne0.false) in
+    (sym c.in_default.ensures) in
     let f = slot-fits a.header a.slots.now a.postings.now a.position k
     c.if-header-position.false in
     search rules
@@ -132,8 +127,7 @@ slice_bounds-next_publication_output-end c =
     let a = c.args in
     let s = lent a.header a.slots.now a.postings.now in
     let k = accepted a.header a.slots.now a.postings.now true []
-    (accept-none s true _ c.accept-n.ensures
-    c.if-n-ne0.false) in
+    (sym c.in_default.ensures) in
     let f = slot-fits a.header a.slots.now a.postings.now a.position k
     c.if-header-position.false in
     search rules
@@ -143,8 +137,7 @@ next_publication_output-requires c =
     let a = c.args in
     let s = lent a.header a.slots.now a.postings.now in
     let k = accepted a.header a.slots.now a.postings.now true []
-    (accept-none s true _ c.accept-n.ensures
-    c.if-n-ne0.false) in record {
+    (sym c.in_default.ensures) in record {
       fact_1 = matched a.header a.slots.now a.postings.now a.position k c.if-header-position.false
           a.held.now a.cut.now (sym c.is_region.ensures
           ∙ c.if-not-is_region.false);
@@ -157,13 +150,11 @@ returns c =
     let a =
     c.args in
     let s = lent a.header a.slots.now a.postings.now in
-    ap output_end c.next_publication_output.ensures
+    ap output_end (c.next_done.ensures ∙ ap stepped_by c.next_publication_output.ensures)
     ∙ next-done a.header a.slots.now a.postings.now a.position a.held.now a.cut.now a.work a.cursor
     (accept-passed s true
     ((position_ok s a.position, 5) ∷ (region_ok s a.held.now a.cut.now, 6)
-    ∷ (cursor_ok (row_at a.position (ledger_in s)) a.cursor, 8) ∷ []) _
-    c.accept-n.ensures
-    c.if-n-ne0.false
+    ∷ (cursor_ok (row_at a.position (ledger_in s)) a.cursor, 8) ∷ []) c.in_default.ensures
     ∙ position-yes a.header a.slots.now a.postings.now a.position
     ((region_ok s a.held.now a.cut.now, 6) ∷ (cursor_ok (row_at a.position (ledger_in s)) a.cursor, 8) ∷ [])
     c.if-header-position.false

@@ -1,11 +1,11 @@
--- `operations::make`. One law for each way out. Assumes nothing.
+-- `operations::try_make`. One law for each way out. Assumes nothing.
 use mathlib.Core.Path.{sym, ◌∙◌}
 use Prim.Native.Nat.{◌≤◌}
 use Rattle.model.specs.Records.{max_rows}
 use Rattle.contents.proofs.Limits.{limits-rows}
 use Rattle.operations.proofs.Making.{make-limits, make-slots, make-postings, make-made}
 use borrow.Author.Rules.{rules}
-use Rattle.operations.proofs.make.Goals as goal
+use Rattle.operations.proofs.try_make.Goals as goal
 
 pub returns-then-not-limits_ok : goal.returns-then-not-limits_ok
 returns-then-not-limits_ok c =
