@@ -17,7 +17,7 @@ use Rattle.contents.specs.Lent.{lent}
 use Rattle.operations.specs.Ends.{make_end, begin_end, hit_end, deduce_end, output_end, decide_end}
 use Rattle.wire.specs.declared.ReplyWords.{ReplyWords}
 use Rattle.wire.specs.Words.{flag_in, limits_in, header_in, header_words, meter_in, meter_words, cursor_in, cursor_words}
-use Rattle.model.specs.Answers.{make_reply, made_header, begin_reply, hit_reply, deduce_reply, next_reply, decide_reply}
+use Rattle.model.specs.Answers.{replied, make_reply, made_header, begin_reply, hit_reply, deduce_reply, next_reply, decide_reply}
 use Rattle.wire.specs.Replies.{left, reply_words, answer_words, made_words}
 use Rattle.boundary.specs.Calls.{make_left, make_call, begin_left, begin_call, hit_left, hit_call, deduce_left, deduce_call, output_left}
 use Rattle.boundary.specs.Calls.{output_call, decide_left, decide_call}
@@ -33,7 +33,7 @@ module _ (w t : ReplyWords) (told : w ≡ t) where
 
 module _ (limits : List ℕ) (n : ℕ) (head answer slots postings : List ℕ) (l : LearningLimits) (read : l ≡ limits_in limits) (r : MakeResult)
     (s p : List ℕ)
-    (ends : make_end r s p ≡ make l n slots postings) (w : ReplyWords) (told : w ≡ reply_words (make_reply r.answer)) where
+    (ends : make_end r s p ≡ make l n slots postings) (w : ReplyWords) (told : w ≡ reply_words (replied make_reply r.answer)) where
   make-end : make_end r s p ≡ make (limits_in limits) n slots postings
   make-end = ends ∙ ap (λ (x : LearningLimits). make x n slots postings) read
 
@@ -52,7 +52,7 @@ module _ (limits : List ℕ) (n : ℕ) (head answer slots postings : List ℕ) (
 
 module _ (head answer slots postings : List ℕ) (h : Header) (read : h ≡ header_in head) (w : ReplyWords) where
   module _ (r : BeginResult) (ends : begin_end r slots postings ≡ begin (lent h slots postings))
-      (told : w ≡ reply_words (begin_reply r.answer)) where
+      (told : w ≡ reply_words (replied begin_reply r.answer)) where
     begin-end : begin_end r slots postings ≡ begin (lent (header_in head) slots postings)
     begin-end = ends ∙ ap (λ (x : Header). begin (lent x slots postings)) read
 
@@ -68,7 +68,7 @@ module _ (head answer slots postings : List ℕ) (h : Header) (read : h ≡ head
         (ap₂ (λ (a b : List ℕ). a ∷ b ∷ []) ex (answer-told w _ told y r.ticks ey))
 
   module _ (p : ℕ) (r : HitResult) (s : List ℕ) (ends : hit_end r s postings ≡ hit (lent h slots postings) p)
-      (told : w ≡ reply_words (hit_reply r.answer)) where
+      (told : w ≡ reply_words (replied hit_reply r.answer)) where
     hit-end : hit_end r s postings ≡ hit (lent (header_in head) slots postings) p
     hit-end = ends ∙ ap (λ (x : Header). hit (lent x slots postings) p) read
 
@@ -87,7 +87,7 @@ module _ (head answer slots postings : List ℕ) (h : Header) (read : h ≡ head
 
   module _ (meter held cut : List ℕ) (p : ℕ) (m : Meter) (metered : m ≡ meter_in meter) where
     module _ (r : DeduceResult) (ends : deduce_end r ≡ deduce (lent h slots postings) p held cut m)
-        (told : w ≡ reply_words (deduce_reply r.answer r.deduction)) where
+        (told : w ≡ reply_words (replied (λ x. deduce_reply x r.deduction) r.answer)) where
       deduce-end : deduce_end r ≡ deduce (lent (header_in head) slots postings) p held cut (meter_in meter)
       deduce-end = ends ∙ ap₂ (λ (x : Header) (y : Meter). deduce (lent x slots postings) p held cut y) read metered
 
@@ -104,7 +104,7 @@ module _ (head answer slots postings : List ℕ) (h : Header) (read : h ≡ head
           (ap₂ (λ (a b : List ℕ). a ∷ b ∷ []) (answer-told w _ told x r.ticks ex) ey)
 
     module _ (cursor : List ℕ) (k : OutputCursor) (placed : k ≡ cursor_in cursor) (r : NextResult)
-        (ends : output_end r ≡ next_output (lent h slots postings) p k held cut m) (told : w ≡ reply_words (next_reply r.answer)) where
+        (ends : output_end r ≡ next_output (lent h slots postings) p k held cut m) (told : w ≡ reply_words (replied next_reply r.answer)) where
       output-end : output_end r ≡ next_output (lent (header_in head) slots postings) p (cursor_in cursor) held cut (meter_in meter)
       output-end =
           ends ∙ ap₂ (λ (x : Header) (y : Meter). next_output (lent x slots postings) p k held cut y) read metered
@@ -125,7 +125,7 @@ module _ (head answer slots postings : List ℕ) (h : Header) (read : h ≡ head
           (ap₂ (λ (a b : List ℕ). a ∷ b ∷ []) ey ev))
 
 module _ (answer : List ℕ) (n : ℕ) (held cut : List ℕ) (a value : ℕ) (r : DecideResult) (x y : List ℕ)
-    (ends : decide_end r x y ≡ decide n held cut a (flag_in value)) (w : ReplyWords) (told : w ≡ reply_words (decide_reply r.answer)) where
+    (ends : decide_end r x y ≡ decide n held cut a (flag_in value)) (w : ReplyWords) (told : w ≡ reply_words (replied decide_reply r.answer)) where
   pub decide-refused : (w.refusal ≡ 0 → ⊥) → left w.refusal (answer ∷ x ∷ y ∷ []) ≡ decide_call answer n held cut a value
   unfolding decide_call
   decide-refused f =

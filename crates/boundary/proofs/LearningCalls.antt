@@ -14,7 +14,7 @@ use Rattle.postings_search.specs.Ends.{candidates_end}
 use Rattle.close.specs.Ends.{closed_end}
 use Rattle.wire.specs.declared.ReplyWords.{ReplyWords}
 use Rattle.wire.specs.Words.{header_in, header_words, meter_in, meter_words}
-use Rattle.model.specs.Answers.{offer_reply, candidates_reply, close_reply, contradicted_reply}
+use Rattle.model.specs.Answers.{replied, offer_reply, candidates_reply, close_reply, contradicted_reply}
 use Rattle.wire.specs.Replies.{left, reply_words, close_words, answer_words}
 use Rattle.boundary.specs.Learning.{offer_left, offer_call, candidates_left, candidates_call, close_left, close_call}
 use Rattle.boundary.proofs.Leaving.{refused-way, done-way}
@@ -31,7 +31,7 @@ module _ (head answer meter slots postings : List ℕ) (h : Header) (read : h �
     (w : ReplyWords) where
   module _ (atoms found : List ℕ) (r : CandidatesResult) (p f : List ℕ)
       (ends : candidates_end r slots p f ≡ candidates (lent h slots postings) atoms found m)
-      (told : w ≡ reply_words (candidates_reply r.answer)) where
+      (told : w ≡ reply_words (replied candidates_reply r.answer)) where
     candidates-end : candidates_end r slots p f ≡ candidates (lent (header_in head) slots postings) atoms found (meter_in meter)
     candidates-end = ends ∙ ap₂ (λ (x : Header) (y : Meter). candidates (lent x slots postings) atoms found y) read metered
 
@@ -53,7 +53,7 @@ module _ (head answer meter slots postings : List ℕ) (h : Header) (read : h �
 
   module _ (conditions outputs : List ℕ) (source : ℕ) (r : OfferResult) (s p : List ℕ)
       (ends : offer_end r s p ≡ (offer (lent h slots postings) conditions outputs source m).seen)
-      (told : w ≡ reply_words (offer_reply r.answer)) where
+      (told : w ≡ reply_words (replied offer_reply r.answer)) where
     offer-end : offer_end r s p ≡ (offer (lent (header_in head) slots postings) conditions outputs source (meter_in meter)).seen
     offer-end = ends ∙ ap₂ (λ (x : Header) (y : Meter). (offer (lent x slots postings) conditions outputs source y).seen) read metered
 
@@ -75,7 +75,7 @@ module _ (head answer meter slots postings : List ℕ) (h : Header) (read : h �
 
   module _ (held cut rows atoms : List ℕ) (r : CloseResult) (s p a b i j : List ℕ)
       (ends : closed_end r s p a b i j ≡ close (lent h slots postings) held cut rows atoms m)
-      (told : w ≡ close_words (close_reply r.answer) (contradicted_reply r.contradicted)) where
+      (told : w ≡ close_words (replied close_reply r.answer) (contradicted_reply r.contradicted)) where
     close-end : closed_end r s p a b i j ≡ close (lent (header_in head) slots postings) held cut rows atoms (meter_in meter)
     close-end = ends ∙ ap₂ (λ (x : Header) (y : Meter). close (lent x slots postings) held cut rows atoms y) read metered
 

@@ -14,7 +14,7 @@ use Rattle.model.specs.Refusals.{Lent, refusal, accepts, ledger_in}
 use Rattle.model.specs.Operations.{OfferEnd, Offered, CandidatesEnd, CloseEnd}
 use Rattle.model.specs.Operations.{offer, capture, unoffered, offer_answer, offer_tests, candidates}
 use Rattle.model.specs.Operations.{candidates_answer, close, close_end, closed_by, region_ok}
-use Rattle.model.specs.Answers.{offer_reply, candidates_reply}
+use Rattle.model.specs.Answers.{replied, offer_reply, candidates_reply}
 use Rattle.wire.specs.Replies.{reply_words, close_words}
 use Rattle.boundary.proofs.Leaving.{keeps}
 

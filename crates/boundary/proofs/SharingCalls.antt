@@ -10,7 +10,7 @@ use Rattle.contents.specs.Lent.{lent}
 use Rattle.transfers.specs.Ends.{transfer_end}
 use Rattle.wire.specs.declared.ReplyWords.{ReplyWords}
 use Rattle.wire.specs.Words.{header_in, header_words, meter_in, meter_words}
-use Rattle.model.specs.Answers.{transfer_reply}
+use Rattle.model.specs.Answers.{replied, transfer_reply}
 use Rattle.wire.specs.Replies.{left, reply_words, answer_words}
 use Rattle.boundary.specs.Sharing.{seed_left, seed_call, deliver_left, deliver_call}
 use Rattle.boundary.proofs.Leaving.{refused-way, done-way}
@@ -41,7 +41,7 @@ module _ (tier store meter tier_slots tier_postings store_slots store_postings :
       ∙ ap (λ (x : Meter). (deliver (lent (header_in tier) tier_slots tier_postings) (lent (header_in store) store_slots store_postings) x).seen)
       metered
 
-  module _ (answer : List ℕ) (w : ReplyWords) (r : TransferResult) (told : w ≡ reply_words (transfer_reply r.answer)) where
+  module _ (answer : List ℕ) (w : ReplyWords) (r : TransferResult) (told : w ≡ reply_words (replied transfer_reply r.answer)) where
     module _ (s p : List ℕ)
         (ends : transfer_end r s p store_slots store_postings
         ≡ (seed (lent h tier_slots tier_postings) (lent g store_slots store_postings) m).seen) where

@@ -6,7 +6,7 @@ use Rattle.meter.specs.declared.Meter.{Meter}
 use Rattle.model.specs.Transfers.{Progress, whole, declined, stopped}
 use Rattle.model.specs.Refusals.{Lent}
 use Rattle.model.specs.Operations.{TransferEnd, Transferred, seed, deliver, transfer_refusal, untransferred, transferred, transfer_answer}
-use Rattle.model.specs.Answers.{transfer_reply}
+use Rattle.model.specs.Answers.{replied, transfer_reply}
 use Rattle.wire.specs.Replies.{reply_words}
 use Rattle.boundary.proofs.Leaving.{keeps}
 

@@ -14,9 +14,8 @@ use operations::{begin, decide, deduce, hit, make, next_output};
 use postings_search::candidates;
 use transfers::{deliver, seed};
 use wire::{
-    ANSWER_WORDS, CURSOR_WORDS, HEADER_WORDS, LIMITS_WORDS, METER_WORDS, begin_reply,
-    candidates_reply, close_reply, cursor_of, decide_reply, deduce_reply, header_of, hit_reply,
-    limits_of, make_reply, meter_of, next_reply, offer_reply, put_answer, put_cursor, put_header,
+    ANSWER_WORDS, CURSOR_WORDS, HEADER_WORDS, LIMITS_WORDS, METER_WORDS, candidates_reply,
+    close_reply, cursor_of, decide_reply, deduce_reply, done_reply, header_of, limits_of, make_reply, meter_of, next_reply, offer_reply, put_answer, put_cursor, put_header,
     put_made, put_meter, transfer_reply,
 };
 
@@ -55,7 +54,7 @@ pub fn ledger_begin(
 {
     let begun = begin(header_of(head), slots, postings);
     let a = begun.answer;
-    let reply = begin_reply(a);
+    let reply = done_reply(a);
     if reply.refusal != 0 {
         return reply.refusal;
     }
@@ -78,7 +77,7 @@ pub fn ledger_hit(
 {
     let done = hit(header_of(head), slots, postings, position);
     let a = done.answer;
-    let reply = hit_reply(a);
+    let reply = done_reply(a);
     if reply.refusal != 0 {
         return reply.refusal;
     }

@@ -19,12 +19,13 @@ use Rattle.model.specs.declared.Header.{Header}
 use Rattle.model.specs.declared.Contradicted.TheVariants.{None}
 use Rattle.model.specs.declared.CloseResult.{CloseResult}
 use Rattle.model.specs.declared.CloseAnswer.{CloseAnswer}
-use Rattle.model.specs.declared.CloseAnswer.TheVariants as answer
+use Rattle.std.specs.Prelude.{Ok, Err}
+use Rattle.model.specs.declared.Refusal.{Refusal}
 use Rattle.model.specs.Records.{with_full, founded_rows}
 use Rattle.model.specs.Slots.{entries_in}
 use Rattle.model.specs.Postings.{filed}
 use Rattle.model.specs.Refusals.{Lent, refusal, accepts, lengths_ok, ledger_in}
-use Rattle.model.specs.Answers.{close_reply, contradicted_reply}
+use Rattle.model.specs.Answers.{number_of, close_reply, contradicted_reply}
 use Rattle.model.specs.Operations.{CloseEnd, close_end, closed_by, close, region_ok}
 use Rattle.model.specs.Closing.{State, Turn, rounds, closing}
 use Rattle.model.proofs.Priority.Steps.{refusal-cons}
@@ -62,26 +63,26 @@ module _ (h : Header) (slots postings held₀ cut x y : List ℕ) (m : Meter) wh
   abbrev tests : List (Bool × ℕ)
   tests = accepts s others ((region_ok s held₀ cut, 6) ∷ [])
 
-  -- the tests in order, by the code's number
-  module _ (b : Bool) (n : ℕ) (o : b ≡ others) (v : refused_by n ≡ refusal (accepts s b [])) where
-    number : refused_by n ≡ refusal (accepts s others [])
-    number = v ∙ ap (λ (c : Bool). refusal (accepts s c [])) o
+  -- the tests in order, by the code's refusal
+  module _ (b : Bool) (o : b ≡ others) where
+    same-tests : refusal (accepts s b []) ≡ refusal (accepts s others [])
+    same-tests = ap (λ (c : Bool). refusal (accepts s c [])) o
 
-    pub close-first : (n ≡ 0 → ⊥) → refusal tests ≡ some n
-    close-first f = accept-refused s others ((region_ok s held₀ cut, 6) ∷ []) n number f
+    pub close-first : (r : Refusal) → refused_by (Err r) ≡ refusal (accepts s b []) → refusal tests ≡ some (number_of r)
+    close-first r v = accept-refused s others ((region_ok s held₀ cut, 6) ∷ []) r (v ∙ same-tests)
 
-    pub close-sixth : n ≡ 0 → is_region h.limits.atoms (region held₀ cut) ≡ false → refusal tests ≡ some 6
-    close-sixth z q = accept-passed s others ((region_ok s held₀ cut, 6) ∷ []) n number z ∙ region-no h slots postings held₀ cut [] q
+    pub close-sixth : none ≡ refusal (accepts s b []) → is_region h.limits.atoms (region held₀ cut) ≡ false → refusal tests ≡ some 6
+    close-sixth v q = accept-passed s others ((region_ok s held₀ cut, 6) ∷ []) (v ∙ same-tests) ∙ region-no h slots postings held₀ cut [] q
 
-    pub close_passed : n ≡ 0 → is_region h.limits.atoms (region held₀ cut) ≡ true → refusal tests ≡ none
-    close_passed z q =
-        accept-passed s others ((region_ok s held₀ cut, 6) ∷ []) n number z ∙ region-yes h slots postings held₀ cut [] q ∙ all-passed
+    pub close_passed : none ≡ refusal (accepts s b []) → is_region h.limits.atoms (region held₀ cut) ≡ true → refusal tests ≡ none
+    close_passed v q =
+        accept-passed s others ((region_ok s held₀ cut, 6) ∷ []) (v ∙ same-tests) ∙ region-yes h slots postings held₀ cut [] q ∙ all-passed
 
-  pub close-refused : (n : ℕ) → refusal tests ≡ some n
-      → closed_end (record { answer = answer.Refused n; contradicted = None; header = h; meter = m; ticks = 0 }) slots postings held₀ cut x y
+  pub close-refused : (r : Refusal) → refusal tests ≡ some (number_of r)
+      → closed_end (record { answer = Err r; contradicted = None; header = h; meter = m; ticks = 0 }) slots postings held₀ cut x y
       ≡ close s held₀ cut x y m
   unfolding close
-  close-refused n e = rw (e, close)
+  close-refused r e = rw (e, close)
 
   module _ (e : refusal tests ≡ none) where
     scratches : (length x ≡ h.limits.tier_rows) × (length y ≡ h.limits.atoms)
@@ -136,7 +137,7 @@ module _ (h : Header) (slots postings held₀ cut x y : List ℕ) (m : Meter) wh
 
     -- the result of rounds that ended so
     abbrev ending : RoundEnd → CloseAnswer → ℕ → CloseResult
-    ending r z k = record { answer = z; contradicted = r.contradicted; header = r.header; meter = r.meter; ticks = k }
+    ending r z k = record { answer = Ok z; contradicted = r.contradicted; header = r.header; meter = r.meter; ticks = k }
 
     pub close-done : (r : RoundEnd) (slots' postings' held' cut' x₁ y₁ x' y' : List ℕ)
         → round_turn r slots' held' cut'

@@ -5,7 +5,7 @@ use Rattle.model.specs.declared.LearningLimits.{LearningLimits}
 use Rattle.model.specs.declared.CloseAnswer.{CloseAnswer}
 use Rattle.model.specs.declared.CloseAnswer.TheVariants as answer
 use Rattle.model.specs.declared.CloseResult.{CloseResult}
-use Rattle.model.specs.Answers.{close_reply, contradicted_reply}
+use Rattle.model.specs.Answers.{replied, close_reply, contradicted_reply}
 use Rattle.model.specs.Operations.{CloseEnd}
 use Rattle.contents.specs.Lent.{lent}
 use Rattle.close_publish.specs.declared.Flow.{Flow}
@@ -23,7 +23,7 @@ answer_of Stopped = answer.Stopped
 
 abbrev pub closed_end : CloseResult → List ℕ → List ℕ → List ℕ → List ℕ → List ℕ → List ℕ → CloseEnd
 closed_end r slots postings held cut x y = record {
-  answer = close_reply r.answer;
+  answer = replied close_reply r.answer;
   contradicted = contradicted_reply r.contradicted;
   ledger = lent r.header slots postings;
   region = region held cut;

@@ -11,7 +11,7 @@ use close_rounds::rounds;
 use contents::accept;
 use lists::fill_zero;
 use meter::Meter;
-use model::{CloseAnswer, CloseResult, Contradicted, Header, LearningLimits};
+use model::{CloseAnswer, CloseResult, Contradicted, Header, LearningLimits, Refusal};
 use words::is_region;
 
 // Whether the scratches have a word for each row and each atom.
@@ -35,8 +35,8 @@ fn answer_of(flow: Flow) -> CloseAnswer
     }
 }
 
-// Closes a region under the rows of a ledger: refused by 1, 2 or 3, or by 6 if there is no region over the ledger's atoms; Closed if no row
-// forces or requires a literal that the region lacks, Conflict if a row decides against it, Stopped if a tick was not made. Conflict and
+// Closes a region under the rows of a ledger: refused by Limits, Lengths or Contents, or by Region if there is no region over the
+// ledger's atoms; Closed if no row forces or requires a literal that the region lacks, Conflict if a row decides against it, Stopped if a tick was not made. Conflict and
 // Stopped keep what was decided. Beside it the contradicted output of the last Require that was acted on. Both scratches end as zeros.
 pub fn close(
     header: Header,
@@ -55,10 +55,9 @@ pub fn close(
 {
     let limits = header.limits;
     let others = scratch_ok(limits, rows_scratch, atoms_scratch);
-    let n = accept(header, slots, postings, others);
-    if n != 0 {
+    if let Err(refusal) = accept(header, slots, postings, others) {
         return CloseResult {
-            answer: CloseAnswer::Refused(n),
+            answer: Err(refusal),
             contradicted: Contradicted::None,
             header,
             meter: work,
@@ -67,7 +66,7 @@ pub fn close(
     }
     if !is_region(limits.atoms, held, cut) {
         return CloseResult {
-            answer: CloseAnswer::Refused(6),
+            answer: Err(Refusal::Region),
             contradicted: Contradicted::None,
             header,
             meter: work,
@@ -95,7 +94,7 @@ pub fn close(
     let meter = end.meter;
     let contradicted = end.contradicted;
     CloseResult {
-        answer: answer_of(flow),
+        answer: Ok(answer_of(flow)),
         contradicted: contradicted,
         header: after,
         meter: meter,

@@ -167,7 +167,6 @@ output-next (output d) c e = ap output (ap code_in e)
   where
     code_in : NextAnswer → ℕ
     code_in (next-answer.Output c) = c.0
-    code_in (next-answer.Refused k) = 0
     code_in next-answer.Stopped = 0
     code_in next-answer.End = 0
 

@@ -56,7 +56,6 @@ abbrev pub judged_words : Judged → List ℕ
 judged_words j = verdict_number j.verdict ∷ flag_word (is_share j.account) ∷ reads_left j.account ∷ j.meter.charged ∷ []
 
 abbrev pub next_words : NextAnswer → ℕ → List ℕ
-next_words (next-answer.Refused n) charged = 3 ∷ n ∷ 0 ∷ charged ∷ []
 next_words next-answer.Stopped charged = 0 ∷ 0 ∷ 0 ∷ charged ∷ []
 next_words next-answer.End charged = 1 ∷ 0 ∷ 0 ∷ charged ∷ []
 next_words (next-answer.Output l) charged = 2 ∷ l.0 ∷ 0 ∷ charged ∷ []

@@ -146,9 +146,6 @@ fn put_next(given: NextAnswer, charged: u64, answer: &mut [u64; 4])
     ensures { answer.new ≡ next_words given charged }
 {
     match given {
-        NextAnswer::Refused(number) => {
-            *answer = [3, number, 0, charged];
-        }
         NextAnswer::Stopped => {
             *answer = [0, 0, 0, charged];
         }

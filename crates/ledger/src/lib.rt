@@ -5,10 +5,10 @@
 pub use close::close;
 pub use meter::{Account, Capture, Meter, Sharing};
 pub use model::{
-    BeginAnswer, BeginResult, CandidatesAnswer, CandidatesResult, CloseAnswer, CloseResult,
-    Contradicted, DecideAnswer, DecideResult, DeduceAnswer, DeduceResult, Deduction, Header,
-    HitAnswer, HitResult, LearningLimits, Literal, MakeAnswer, MakeResult, Mark, NextAnswer,
-    NextResult, OfferAnswer, OfferResult, OutputCursor, TransferAnswer, TransferResult,
+    BeginResult, CandidatesAnswer, CandidatesResult, CloseAnswer, CloseResult, Contradicted,
+    DecideResult, DeduceAnswer, DeduceResult, Deduction, Header, HitResult, LearningLimits, Literal,
+    MakeResult, Mark, NextAnswer, NextResult, OfferAnswer, OfferResult, OutputCursor, Refusal,
+    TransferAnswer, TransferResult,
 };
 pub use offer::offer;
 pub use operations::{begin, decide, deduce, hit, make, next_output};

@@ -16,7 +16,9 @@ use Rattle.meter.specs.Meter.{made}
 use Rattle.model.specs.declared.Header.{Header}
 use Rattle.model.specs.declared.Source.{Source}
 use Rattle.model.specs.declared.OfferAnswer.{OfferAnswer}
-use Rattle.model.specs.declared.OfferAnswer.TheVariants.{Refused, Shut}
+use Rattle.model.specs.declared.OfferAnswer.TheVariants.{Shut}
+use Rattle.model.specs.declared.Refusal.{Refusal}
+use Rattle.std.specs.Prelude.{Ok, Err}
 use Rattle.model.specs.declared.OfferResult.{OfferResult}
 use Rattle.model.specs.Records.{Row, Entry, Ledger, attempted, with_account, within, is_row_over, source_in, founded_rows}
 use Rattle.model.specs.Slots.{entries_in, row_in}
@@ -24,7 +26,7 @@ use Rattle.slots.specs.Layout.{proposal}
 use Rattle.slots.proofs.Storing.{row-proposal}
 use Rattle.model.specs.Retention.{Retention as Kept, retain, protects, full_shuts, can_capture}
 use Rattle.model.specs.Refusals.{Lent, refusal, accepts, ledger_in, lent_of}
-use Rattle.model.specs.Answers.{offer_reply}
+use Rattle.model.specs.Answers.{number_of, offer_reply}
 use Rattle.model.specs.Operations.{OfferEnd, Offered, offer, capture, offer_answer, unoffered, fits_offer, source_ok, offer_tests}
 use Rattle.contents.specs.Lent.{lent}
 use Rattle.model.proofs.Slots.{entries-length}
@@ -90,14 +92,14 @@ module _ (h : Header) (slots postings cs os : List ℕ) (source : ℕ) (m : Mete
   abbrev later : List (Bool × ℕ)
   later = offer_tests h.limits t source
 
-  refused : (n : ℕ) → refusal (accepts s true later) ≡ some n
-      → offer_end (unoffered_by (Refused n) h m) slots postings ≡ (offer s cs os source m).seen
+  refused : (x : Refusal) → refusal (accepts s true later) ≡ some (number_of x)
+      → offer_end (unoffered_by (Err x) h m) slots postings ≡ (offer s cs os source m).seen
   unfolding offer unoffered
-  refused n e = rw (e, offer, unoffered)
+  refused x e = rw (e, offer, unoffered)
 
-  pub offer-refused : (n : ℕ) (r : OfferResult) → r ≡ unoffered_by (Refused n) h m → refusal (accepts s true later) ≡ some n
+  pub offer-refused : (x : Refusal) (r : OfferResult) → r ≡ unoffered_by (Err x) h m → refusal (accepts s true later) ≡ some (number_of x)
       → offer_end r slots postings ≡ (offer s cs os source m).seen
-  offer-refused n r q e = ap (λ (x : OfferResult). offer_end x slots postings) q ∙ refused n e
+  offer-refused x r q e = ap (λ (y : OfferResult). offer_end y slots postings) q ∙ refused x e
 
   fits-is : (within h.limits.founded_conditions h.limits.founded_outputs t && is_row_over h.limits.atoms t)
       ≡ fits_offer h.limits t
@@ -127,11 +129,11 @@ module _ (h : Header) (slots postings cs os : List ℕ) (source : ℕ) (m : Mete
     held : Accepted h slots postings
     held = accepted h slots postings true later e
 
-    shut : can_capture (ledger_in s) ≡ false → offer_end (unoffered_by Shut h m) slots postings ≡ (offer s cs os source m).seen
+    shut : can_capture (ledger_in s) ≡ false → offer_end (unoffered_by (Ok Shut) h m) slots postings ≡ (offer s cs os source m).seen
     unfolding offer unoffered
     shut f = rw (e, f, offer, unoffered)
 
-    pub offer-shut : (b : Bool) (r : OfferResult) → r ≡ unoffered_by Shut h m → b ≡ may_capture h → b ≡ false
+    pub offer-shut : (b : Bool) (r : OfferResult) → r ≡ unoffered_by (Ok Shut) h m → b ≡ may_capture h → b ≡ false
         → offer_end r slots postings ≡ (offer s cs os source m).seen
     offer-shut b r q g f =
         ap (λ (x : OfferResult). offer_end x slots postings) q ∙ shut (sym (may-capture h slots postings held) ∙ sym g ∙ f)
@@ -206,10 +208,10 @@ capture-retained h slots postings source t m r x ws ps q e =
 
 pub captured-is : (k : Retention) (m : Meter) (a : OfferAnswer) (h : Header) (n : ℕ) → a ≡ answer_of k.answer
     → h ≡ with_account k.header k.account → n ≡ made m k.meter
-    → record { answer = a; header = h; meter = k.meter; ticks = n } ≡ captured_by k m
+    → record { answer = Ok a; header = h; meter = k.meter; ticks = n } ≡ captured_by k m
 captured-is k m a h n e f g =
-    ap₂ {C = OfferResult} (λ (x : OfferAnswer) (y : Header). record { answer = x; header = y; meter = k.meter; ticks = n }) e f
-    ∙ ap (λ (x : ℕ). record { answer = answer_of k.answer; header = with_account k.header k.account; meter = k.meter; ticks = x }) g
+    ap₂ {C = OfferResult} (λ (x : OfferAnswer) (y : Header). record { answer = Ok x; header = y; meter = k.meter; ticks = n }) e f
+    ∙ ap (λ (x : ℕ). record { answer = Ok (answer_of k.answer); header = with_account k.header k.account; meter = k.meter; ticks = x }) g
 
 -- a proposal of the offered row is captured as the row
 pub capture-proposed : (l : Ledger) (source : Source) (t : Row) (m : Meter) (r : OfferResult) (ws ps p : List ℕ) → p ≡ proposal t →

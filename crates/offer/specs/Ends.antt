@@ -1,5 +1,6 @@
 -- 01, Offer: its end, from what the code gives back and leaves in the lent slices. Assumes nothing.
-use Rattle.std.specs.Prelude.{Bool, ◌&&◌, not, List, ℕ, ltb, leb}
+use Rattle.std.specs.Prelude.{Bool, ◌&&◌, not, List, ℕ, ltb, leb, Result, Ok}
+use Rattle.model.specs.declared.Refusal.{Refusal}
 use Rattle.meter.specs.declared.Meter.{Meter}
 use Rattle.meter.specs.Meter.{made}
 use Rattle.model.specs.declared.Header.{Header}
@@ -7,7 +8,7 @@ use Rattle.model.specs.declared.OfferAnswer.{OfferAnswer}
 use Rattle.model.specs.declared.OfferAnswer.TheVariants as offer-answer
 use Rattle.model.specs.declared.OfferResult.{OfferResult}
 use Rattle.model.specs.Records.{with_account}
-use Rattle.model.specs.Answers.{offer_reply}
+use Rattle.model.specs.Answers.{replied, offer_reply}
 use Rattle.model.specs.Operations.{OfferEnd}
 use Rattle.contents.specs.Lent.{lent}
 use Rattle.retain.specs.declared.Retained.{Retained}
@@ -16,9 +17,9 @@ use Rattle.retain.specs.declared.Retention.{Retention}
 
 abbrev pub offer_end : OfferResult → List ℕ → List ℕ → OfferEnd
 offer_end r slots postings = record
-    { answer = offer_reply r.answer; ledger = lent r.header slots postings; meter = r.meter; ticks = r.ticks }
+    { answer = replied offer_reply r.answer; ledger = lent r.header slots postings; meter = r.meter; ticks = r.ticks }
 
-abbrev pub unoffered_by : OfferAnswer → Header → Meter → OfferResult
+abbrev pub unoffered_by : Result OfferAnswer Refusal → Header → Meter → OfferResult
 unoffered_by a h m = record { answer = a; header = h; meter = m; ticks = 0 }
 
 -- `can_capture`, of a header whose counts are right: full, no Tip, and no more Founded rows than the floor
@@ -37,4 +38,4 @@ answer_of (Added p) = offer-answer.Added p
 
 abbrev pub captured_by : Retention → Meter → OfferResult
 captured_by k m = record
-    { answer = answer_of k.answer; header = with_account k.header k.account; meter = k.meter; ticks = made m k.meter }
+    { answer = Ok (answer_of k.answer); header = with_account k.header k.account; meter = k.meter; ticks = made m k.meter }

@@ -14,13 +14,13 @@ ghost use Rattle.offer.specs.Ends.{offer_end, unoffered_by, answer_of, captured_
 
 use contents::accept;
 use meter::{Account, Meter};
-use model::{Header, OfferAnswer, OfferResult, SLOT_WORDS, Source, source_of};
+use model::{Header, OfferAnswer, OfferResult, Refusal, SLOT_WORDS, Source, source_of};
 use retain::{Retained, Retention, retain};
 use retain_keep::put_account;
 use row_propose::{is_row, propose};
 
 // The result of an offer that changes nothing and costs nothing.
-fn unoffered(answer: OfferAnswer, header: Header, work: Meter) -> OfferResult
+fn unoffered(answer: Result<OfferAnswer, Refusal>, header: Header, work: Meter) -> OfferResult
     ensures { result ≡ unoffered_by answer header work }
 {
     OfferResult {
@@ -83,7 +83,7 @@ fn captured(kept: Retention, work: Meter) -> OfferResult
     let header = put_account(before, account);
     let answer = answer_of(answer);
     OfferResult {
-        answer,
+        answer: Ok(answer),
         header,
         meter,
         ticks,
@@ -153,8 +153,8 @@ fn capture(
     capture_row(header, slots, postings, &mut p, source, work)
 }
 
-// Offers a row to a ledger: refused by 1, 2, 3, by 4 if the lists are no row over its atoms within its limits, or by 11 if the source is
-// neither 0, Founded, nor 1, a Tip; Shut if it takes no offers; Stopped or Declined where a read is not paid; Subsumed, and the position
+// Offers a row to a ledger: refused by Limits, Lengths, Contents, by Row if the lists are no row over its atoms within its limits, or by
+// Source if the source is neither 0, Founded, nor 1, a Tip; Shut if it takes no offers; Stopped or Declined where a read is not paid; Subsumed, and the position
 // of the row that says as much; or Added, and its own.
 pub fn offer(
     header: Header,
@@ -169,9 +169,8 @@ pub fn offer(
         ≡ (offer (lent header slots.old postings.old) conditions.now outputs.now source work
         ).seen }
 {
-    let n = accept(header, slots, postings, true);
-    if n != 0 {
-        return unoffered(OfferAnswer::Refused(n), header, work);
+    if let Err(refusal) = accept(header, slots, postings, true) {
+        return unoffered(Err(refusal), header, work);
     }
     let limits = header.limits;
     if !is_row(
@@ -181,13 +180,13 @@ pub fn offer(
         conditions,
         outputs,
     ) {
-        return unoffered(OfferAnswer::Refused(4), header, work);
+        return unoffered(Err(Refusal::Row), header, work);
     }
     if 1 < source {
-        return unoffered(OfferAnswer::Refused(11), header, work);
+        return unoffered(Err(Refusal::Source), header, work);
     }
     if !can_capture(header) {
-        return unoffered(OfferAnswer::Shut, header, work);
+        return unoffered(Ok(OfferAnswer::Shut), header, work);
     }
     capture(
         header,

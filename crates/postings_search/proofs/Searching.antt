@@ -11,13 +11,14 @@ use borrow.Author.Tests.{eqb-true}
 use Rattle.meter.specs.declared.Meter.{Meter}
 use Rattle.meter.specs.Meter.{made}
 use Rattle.model.specs.declared.Header.{Header}
-use Rattle.model.specs.declared.CandidatesAnswer.TheVariants.{Refused}
+use Rattle.std.specs.Prelude.{Ok, Err}
+use Rattle.model.specs.declared.Refusal.{Refusal}
 use Rattle.model.specs.Records.{limits_ok}
 use Rattle.model.specs.Slots.{entries_in}
 use Rattle.model.specs.Postings.{Search, filed}
 use Rattle.model.specs.Postings as model
 use Rattle.model.specs.Refusals.{Lent, refusal, accepts, lengths_ok, contents_ok, ledger_in, lent_of}
-use Rattle.model.specs.Answers.{candidates_reply}
+use Rattle.model.specs.Answers.{number_of, candidates_reply}
 use Rattle.model.specs.Operations.{CandidatesEnd, candidates}
 use Rattle.contents.specs.Lent.{lent}
 use Rattle.contents.proofs.Accepting.{accepted}
@@ -61,10 +62,10 @@ module _ (h : Header) (slots words answer : List ℕ) where
       omega arith
 
   module _ (atoms : List ℕ) (m : Meter) where
-    pub candidates-refused : (n : ℕ) → refusal (accepts s (others h answer) []) ≡ some n →
-        candidates_end (record { answer = Refused n; header = h; meter = m; ticks = 0 }) slots words answer ≡ candidates s atoms answer m
+    pub candidates-refused : (r : Refusal) → refusal (accepts s (others h answer) []) ≡ some (number_of r) →
+        candidates_end (record { answer = Err r; header = h; meter = m; ticks = 0 }) slots words answer ≡ candidates s atoms answer m
     unfolding candidates
-    candidates-refused n e = rw (e, candidates)
+    candidates-refused r e = rw (e, candidates)
 
     -- the end of a search, with the ledger after it
     ended : SearchEnd → Lent → CandidatesEnd
@@ -73,7 +74,7 @@ module _ (h : Header) (slots words answer : List ℕ) where
     pub candidates-done : refusal (accepts s (others h answer) []) ≡ none → (r : Searched) (ps found : List ℕ) (t : ℕ) →
         found_end r found ≡ search_end (model.candidates (ledger_in s) atoms m) (length answer) →
         ps ≡ filed h.limits.tier_rows r.header.stale (rows_in h.rows slots) → t ≡ made m r.meter →
-        candidates_end (record { answer = r.answer; header = r.header; meter = r.meter; ticks = t }) slots ps found
+        candidates_end (record { answer = Ok r.answer; header = r.header; meter = r.meter; ticks = t }) slots ps found
         ≡ candidates s atoms answer m
     unfolding candidates ledger_in ended
     candidates-done e r ps found t q p u =
@@ -85,5 +86,5 @@ module _ (h : Header) (slots words answer : List ℕ) where
         (ap (λ (y : Header). y.limits) same ∙ k.0) (ap (λ (y : Header). y.rows) same ∙ k.1)
         (ap (λ (y : Header). y.founded) same ∙ (search-ok (ledger_in s) atoms m).counted) p
         ∙ ap (λ (y : Header). lent_of (record { header = y; entries = entries_in h.rows slots })) same in
-        ap (λ (n : ℕ). candidates_end (record { answer = r.answer; header = r.header; meter = r.meter; ticks = n }) slots ps found) u
+        ap (λ (n : ℕ). candidates_end (record { answer = Ok r.answer; header = r.header; meter = r.meter; ticks = n }) slots ps found) u
         ∙ ap₂ ended q after ∙ sym (rw (e, candidates))

@@ -8,10 +8,10 @@ ghost use Rattle.postings_search.specs.Ends.{candidates_end};
 
 use contents::accept;
 use meter::Meter;
-use model::{CandidatesAnswer, CandidatesResult, Header};
+use model::{CandidatesResult, Header};
 
-// The rows to be looked at after the atoms given were decided, ascending in the answer, then zeros: refused by 1, by 2, also if the
-// answer is not of tier_rows words, or by 3; Stopped, and every word of the answer 0; or their count.
+// The rows to be looked at after the atoms given were decided, ascending in the answer, then zeros: refused by Limits, by Lengths, also if
+// the answer is not of tier_rows words, or by Contents; Stopped, and every word of the answer 0; or their count.
 pub fn candidates(
     header: Header,
     slots: &[u64],
@@ -24,10 +24,9 @@ pub fn candidates(
         ≡ candidates (lent header slots.now postings.old) atoms.now answer.old work }
 {
     let others = answer.len() == header.limits.tier_rows as usize;
-    let n = accept(header, slots, postings, others);
-    if n != 0 {
+    if let Err(refusal) = accept(header, slots, postings, others) {
         return CandidatesResult {
-            answer: CandidatesAnswer::Refused(n),
+            answer: Err(refusal),
             header,
             meter: work,
             ticks: 0,
@@ -38,7 +37,7 @@ pub fn candidates(
     let after = found.header;
     let meter = found.meter;
     CandidatesResult {
-        answer: given,
+        answer: Ok(given),
         header: after,
         meter,
         ticks: meter.made(work),

@@ -12,6 +12,9 @@ use Rattle.meter.specs.declared.Account.{Account}
 use Rattle.meter.specs.declared.Account.TheVariants.{Share}
 use Rattle.meter.specs.Meter.{made}
 use Rattle.model.specs.declared.Header.{Header}
+use Rattle.std.specs.Prelude.{Ok, Err}
+use Rattle.model.specs.declared.Refusal.{Refusal}
+use Rattle.model.specs.declared.Refusal.TheVariants.{Atoms}
 use Rattle.model.specs.declared.TransferAnswer.{TransferAnswer}
 use Rattle.model.specs.declared.TransferResult.{TransferResult}
 use Rattle.model.specs.Records.{saturating_add, with_account, with_seeded, with_deliveries}
@@ -20,14 +23,14 @@ use Rattle.model.specs.Transfers.{Transfer, starting, seed_rows, mark_for, seedi
 use Rattle.model.specs.Transfers.{delivering, delivered_tier, delivered_store}
 use Rattle.model.specs.Transfers as transfers
 use Rattle.model.specs.Refusals.{Lent, refusal, accepts, ledger_in, lent_of}
-use Rattle.model.specs.Answers.{transfer_reply}
+use Rattle.model.specs.Answers.{number_of, transfer_reply}
 use Rattle.model.specs.Operations.{TransferEnd, Transferred, transfer_refusal, untransferred, transfer_answer}
 use Rattle.model.specs.Operations.{transferred as end_of, seed, deliver}
 use Rattle.slots.specs.Layout.{RowsOver}
 use Rattle.model.proofs.Headers.{set_deliveries, set_seeded, deliveries-in, seeded-in}
 use Rattle.contents.specs.Lent.{lent, refused_by}
 use Rattle.contents.specs.Accepted.{Accepted}
-use Rattle.contents.proofs.Accepting.{or_else, accepts-later, accept-refused, accept-passed, refused_by-some}
+use Rattle.contents.proofs.Accepting.{or_else, accepts-later, accept-refused, accept-passed}
 use Rattle.retain_keep.specs.Stood.{Stood}
 use Rattle.retain_keep.proofs.Headers.{account-lent, mark-lent, seeded-lent, deliveries-lent}
 use Rattle.transfers.specs.declared.receiving.Progress.{Progress}
@@ -42,28 +45,27 @@ module _ (t s : Lent) where
   abbrev seven : List (Bool × ℕ)
   seven = (eqb t.header.limits.atoms s.header.limits.atoms, 7) ∷ []
 
-  module _ (n : ℕ) (e : refused_by n ≡ refusal (accepts t true [])) where
-    pub tier-refused : (n ≡ 0 → ⊥) → refused_by n ≡ transfer_refusal t s
+  pub tier-refused : (r : Refusal) → refused_by (Err r) ≡ refusal (accepts t true []) → refused_by (Err r) ≡ transfer_refusal t s
+  unfolding transfer_refusal
+  tier-refused r e = sym (accept-refused t true (accepts s true seven) r e)
+
+  module _ (e : none ≡ refusal (accepts t true [])) where
+    pub store-refused : (r : Refusal) → refused_by (Err r) ≡ refusal (accepts s true []) → refused_by (Err r) ≡ transfer_refusal t s
     unfolding transfer_refusal
-    tier-refused f = refused_by-some n f ∙ sym (accept-refused t true (accepts s true seven) n e f)
+    store-refused r g = sym (accept-passed t true (accepts s true seven) e ∙ accept-refused s true seven r g)
 
-    module _ (z : n ≡ 0) (m : ℕ) (g : refused_by m ≡ refusal (accepts s true [])) where
-      pub store-refused : (m ≡ 0 → ⊥) → refused_by m ≡ transfer_refusal t s
+    module _ (g : none ≡ refusal (accepts s true [])) where
+      last : transfer_refusal t s ≡ refusal seven
       unfolding transfer_refusal
-      store-refused f = refused_by-some m f ∙ sym (accept-passed t true (accepts s true seven) n e z ∙ accept-refused s true seven m g f)
+      last = accept-passed t true (accepts s true seven) e ∙ accept-passed s true seven g
 
-      module _ (y : m ≡ 0) where
-        last : transfer_refusal t s ≡ refusal seven
-        unfolding transfer_refusal
-        last = accept-passed t true (accepts s true seven) n e z ∙ accept-passed s true seven m g y
+      pub atoms-refused : (t.header.limits.atoms ≡ s.header.limits.atoms → ⊥) → refused_by (Err Atoms) ≡ transfer_refusal t s
+      unfolding refusal
+      atoms-refused f = sym (last ∙ rw (ne_eqb t.header.limits.atoms s.header.limits.atoms f))
 
-        pub atoms-refused : (t.header.limits.atoms ≡ s.header.limits.atoms → ⊥) → refused_by 7 ≡ transfer_refusal t s
-        unfolding refusal
-        atoms-refused f = sym (last ∙ rw (ne_eqb t.header.limits.atoms s.header.limits.atoms f))
-
-        pub none-refused : t.header.limits.atoms ≡ s.header.limits.atoms → refused_by 0 ≡ transfer_refusal t s
-        unfolding refusal
-        none-refused f = sym (last ∙ rw (eq-eqb t.header.limits.atoms s.header.limits.atoms f))
+      pub none-refused : t.header.limits.atoms ≡ s.header.limits.atoms → none ≡ transfer_refusal t s
+      unfolding refusal
+      none-refused f = sym (last ∙ rw (eq-eqb t.header.limits.atoms s.header.limits.atoms f))
 
 -- ---- no refusal: both ledgers are accepted, over as many atoms
 or-none : (x y : Option ℕ) → or_else x y ≡ none → (x ≡ none) × (y ≡ none)
@@ -123,7 +125,7 @@ module _ (p : TransferState) (h : Header) (m : Meter) {a : TransferAnswer} {s k 
   pub seeded-is : {t u : Header} → u ≡ with_account p.header p.account → t ≡ marked_by p.progress h u
       → s ≡ saturating_add h.seeded p.added →
       ◌≡◌ {A = TransferResult} (record {
-        answer = a;
+        answer = Ok a;
         tier = t;
         store = set_seeded h s;
         meter = p.meter;
@@ -131,14 +133,14 @@ module _ (p : TransferState) (h : Header) (m : Meter) {a : TransferAnswer} {s k 
       }) (seeded_by p h m)
   seeded-is eu et es =
       ap₂ {C = TransferResult} (λ (x : TransferAnswer) (y : Header). record {
-        answer = x;
+        answer = Ok x;
         tier = y;
         store = set_seeded h s;
         meter = p.meter;
         ticks = k;
       }) ea (et ∙ ap (marked_by p.progress h) eu)
       ∙ ap₂ {C = TransferResult} (λ (x : Header) (y : ℕ). record {
-        answer = answer_of p.progress;
+        answer = Ok (answer_of p.progress);
         tier = marked_by p.progress h (with_account p.header p.account);
         store = x;
         meter = p.meter;
@@ -147,7 +149,7 @@ module _ (p : TransferState) (h : Header) (m : Meter) {a : TransferAnswer} {s k 
 
   pub delivered-is : {t : Header} → t ≡ with_account h p.account → s ≡ saturating_add p.header.deliveries p.added →
       ◌≡◌ {A = TransferResult} (record {
-        answer = a;
+        answer = Ok a;
         tier = t;
         store = set_deliveries p.header s;
         meter = p.meter;
@@ -156,14 +158,14 @@ module _ (p : TransferState) (h : Header) (m : Meter) {a : TransferAnswer} {s k 
   delivered-is et es =
       let u : Header = p.header in
       ap₂ {C = TransferResult} (λ (x : TransferAnswer) (y : Header). record {
-        answer = x;
+        answer = Ok x;
         tier = y;
         store = set_deliveries u s;
         meter = p.meter;
         ticks = k;
       }) ea et
       ∙ ap₂ {C = TransferResult} (λ (x : Header) (y : ℕ). record {
-        answer = answer_of p.progress;
+        answer = Ok (answer_of p.progress);
         tier = with_account h p.account;
         store = x;
         meter = p.meter;
@@ -178,9 +180,9 @@ module _ (t s : Header) (ts tp ss sp : List ℕ) (m : Meter) where
   abbrev S : Lent
   S = lent s ss sp
 
-  pub seed-refused : (n : ℕ) → transfer_refusal T S ≡ some n → transfer_end (untransferred_by n t s m) ts tp ss sp ≡ (seed T S m).seen
+  pub seed-refused : (r : Refusal) → transfer_refusal T S ≡ some (number_of r) → transfer_end (untransferred_by r t s m) ts tp ss sp ≡ (seed T S m).seen
   unfolding seed untransferred
-  seed-refused n e = rw (e, seed, untransferred)
+  seed-refused r e = rw (e, seed, untransferred)
 
   -- the transfer that is over
   abbrev done : ℕ → Transfer
@@ -254,10 +256,10 @@ module _ (t s : Header) (ts tp ss sp : List ℕ) (m : Meter) where
         ap (λ (r : TransferResult). transfer_end r ws ps ss sp) q ∙ end_is l ∙ sym (ap (λ (x : Transferred). x.seen) (is-end e))
 
   -- ---- Deliver
-  pub deliver-refused : (n : ℕ) → transfer_refusal T S ≡ some n
-      → transfer_end (untransferred_by n t s m) ts tp ss sp ≡ (deliver T S m).seen
+  pub deliver-refused : (r : Refusal) → transfer_refusal T S ≡ some (number_of r)
+      → transfer_end (untransferred_by r t s m) ts tp ss sp ≡ (deliver T S m).seen
   unfolding deliver untransferred
-  deliver-refused n e = rw (e, deliver, untransferred)
+  deliver-refused r e = rw (e, deliver, untransferred)
 
   -- the delivery that is over
   abbrev over : Delivery

@@ -1,5 +1,6 @@
 -- 01, Seed and Deliver: their end, from what the code gives back and leaves in the lent slices. Assumes nothing.
-use Rattle.std.specs.Prelude.{List, ℕ}
+use Rattle.std.specs.Prelude.{List, ℕ, Ok, Err}
+use Rattle.model.specs.declared.Refusal.{Refusal}
 use Rattle.meter.specs.declared.Meter.{Meter}
 use Rattle.meter.specs.Meter.{made}
 use Rattle.model.specs.declared.Header.{Header}
@@ -7,7 +8,7 @@ use Rattle.model.specs.declared.TransferAnswer.{TransferAnswer}
 use Rattle.model.specs.declared.TransferAnswer.TheVariants as transfer-answer
 use Rattle.model.specs.declared.TransferResult.{TransferResult}
 use Rattle.model.specs.Records.{with_account, with_mark, with_seeded, with_deliveries}
-use Rattle.model.specs.Answers.{transfer_reply}
+use Rattle.model.specs.Answers.{replied, transfer_reply}
 use Rattle.model.specs.Operations.{TransferEnd}
 use Rattle.contents.specs.Lent.{lent}
 use Rattle.transfers.specs.declared.receiving.Progress.{Progress}
@@ -16,7 +17,7 @@ use Rattle.transfers.specs.declared.receiving.TransferState.{TransferState}
 
 abbrev pub transfer_end : TransferResult → List ℕ → List ℕ → List ℕ → List ℕ → TransferEnd
 transfer_end r tier_slots tier_postings store_slots store_postings = record {
-  answer = transfer_reply r.answer;
+  answer = replied transfer_reply r.answer;
   tier = lent r.tier tier_slots tier_postings;
   store = lent r.store store_slots store_postings;
   meter = r.meter;
@@ -24,8 +25,8 @@ transfer_end r tier_slots tier_postings store_slots store_postings = record {
 }
 
 -- refused
-abbrev pub untransferred_by : ℕ → Header → Header → Meter → TransferResult
-untransferred_by n tier store m = record { answer = transfer-answer.Refused n; tier = tier; store = store; meter = m; ticks = 0 }
+abbrev pub untransferred_by : Refusal → Header → Header → Meter → TransferResult
+untransferred_by r tier store m = record { answer = Err r; tier = tier; store = store; meter = m; ticks = 0 }
 
 -- Done, also after a Declined row, or Stopped
 abbrev pub answer_of : Progress → TransferAnswer
@@ -42,7 +43,7 @@ marked_by Stopped store h = h
 -- a seeding that is over, from the meter m on
 abbrev pub seeded_by : TransferState → Header → Meter → TransferResult
 seeded_by p store m = record {
-  answer = answer_of p.progress;
+  answer = Ok (answer_of p.progress);
   tier = marked_by p.progress store (with_account p.header p.account);
   store = with_seeded store p.added;
   meter = p.meter;
@@ -52,7 +53,7 @@ seeded_by p store m = record {
 -- a delivery that is over
 abbrev pub delivered_by : TransferState → Header → Meter → TransferResult
 delivered_by p tier m = record {
-  answer = answer_of p.progress;
+  answer = Ok (answer_of p.progress);
   tier = with_account tier p.account;
   store = with_deliveries p.header p.added;
   meter = p.meter;

@@ -192,7 +192,7 @@ fn delivered(transfer: TransferState, tier: Header, work: Meter) -> TransferResu
     let account = transfer.account;
     let meter = transfer.meter;
     let added = transfer.added;
-    let answer = answer(progress);
+    let answer = Ok(answer(progress));
     let tier = put_account(tier, account);
     let deliveries = saturating_add(header.deliveries, added);
     let ticks = meter.made(work);
@@ -209,7 +209,7 @@ fn delivered(transfer: TransferState, tier: Header, work: Meter) -> TransferResu
     }
 }
 
-// Delivers a tier's rows to a store: refused by the tier's 1, 2, 3, the store's 1, 2, 3, or 7 if they are over different numbers of atoms;
+// Delivers a tier's rows to a store: refused for the tier, then the store, by Limits, Lengths or Contents, or by Atoms if they are over different numbers;
 // Done, also after a row Declined, or Stopped. The tier's postings are only read.
 pub fn deliver(
     tier: Header,
@@ -225,16 +225,15 @@ pub fn deliver(
         ≡ (deliver (lent tier tier_slots.old tier_postings.now)
         (lent store store_slots.old store_postings.old) work).seen }
 {
-    let n = refusal(
+    if let Err(refusal) = refusal(
         tier,
         tier_slots,
         tier_postings,
         store,
         store_slots,
         store_postings,
-    );
-    if n != 0 {
-        return untransferred(n, tier, store, work);
+    ) {
+        return untransferred(refusal, tier, store, work);
     }
     let transfer = deliver_rows(tier, tier_slots, store, store_slots, store_postings, work);
     delivered(transfer, tier, work)

@@ -1,4 +1,5 @@
-// What a transfer refuses: either ledger by 1, 2 or 3, the tier first; then 7 for ledgers over different numbers of atoms.
+// What a transfer refuses: either ledger by Limits, Lengths or Contents, the tier first; then by Atoms, ledgers over different numbers of
+// atoms.
 ghost use Rattle.std.specs.Prelude.{◌≡◌};
 ghost use Rattle.model.specs.Operations.{transfer_refusal};
 ghost use Rattle.contents.specs.Lent.{lent, refused_by};
@@ -6,9 +7,9 @@ ghost use Rattle.transfers.specs.Ends.{untransferred_by};
 
 use contents::accept;
 use meter::Meter;
-use model::{Header, TransferAnswer, TransferResult};
+use model::{Header, Refusal, TransferResult};
 
-// 0, or the number of the first refusal.
+// The first refusal, if there is one.
 pub fn refusal(
     tier: Header,
     tier_slots: &[u64],
@@ -16,30 +17,24 @@ pub fn refusal(
     store: Header,
     store_slots: &[u64],
     store_postings: &[u64],
-) -> u64
+) -> Result<(), Refusal>
     ensures { refused_by result ≡ transfer_refusal (lent tier tier_slots.now tier_postings.now)
         (lent store store_slots.now store_postings.now) }
 {
-    let n = accept(tier, tier_slots, tier_postings, true);
-    if n != 0 {
-        return n;
-    }
-    let n = accept(store, store_slots, store_postings, true);
-    if n != 0 {
-        return n;
-    }
+    accept(tier, tier_slots, tier_postings, true)?;
+    accept(store, store_slots, store_postings, true)?;
     if tier.limits.atoms != store.limits.atoms {
-        return 7;
+        return Err(Refusal::Atoms);
     }
-    0
+    Ok(())
 }
 
 // The result of a transfer that is refused: it changes nothing and costs nothing.
-pub fn untransferred(number: u64, tier: Header, store: Header, work: Meter) -> TransferResult
-    ensures { result ≡ untransferred_by number tier store work }
+pub fn untransferred(refusal: Refusal, tier: Header, store: Header, work: Meter) -> TransferResult
+    ensures { result ≡ untransferred_by refusal tier store work }
 {
     TransferResult {
-        answer: TransferAnswer::Refused(number),
+        answer: Err(refusal),
         tier,
         store,
         meter: work,

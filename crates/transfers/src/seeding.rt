@@ -138,7 +138,7 @@ fn seeded(transfer: TransferState, store: Header, work: Meter) -> TransferResult
     let account = transfer.account;
     let meter = transfer.meter;
     let added = transfer.added;
-    let answer = answer(progress);
+    let answer = Ok(answer(progress));
     let tier = mark_moved(progress, store, put_account(header, account));
     let seeded = saturating_add(store.seeded, added);
     let ticks = meter.made(work);
@@ -152,7 +152,7 @@ fn seeded(transfer: TransferState, store: Header, work: Meter) -> TransferResult
     }
 }
 
-// Seeds a tier from a store: refused by the tier's 1, 2, 3, the store's 1, 2, 3, or 7 if they are over different numbers of atoms;
+// Seeds a tier from a store: refused for the tier, then the store, by Limits, Lengths or Contents, or by Atoms if they are over different numbers;
 // Done, also after a row Declined, or Stopped. The store's slices are only read.
 pub fn seed(
     tier: Header,
@@ -168,16 +168,15 @@ pub fn seed(
         ≡ (seed (lent tier tier_slots.old tier_postings.old)
         (lent store store_slots.now store_postings.now) work).seen }
 {
-    let n = refusal(
+    if let Err(refusal) = refusal(
         tier,
         tier_slots,
         tier_postings,
         store,
         store_slots,
         store_postings,
-    );
-    if n != 0 {
-        return untransferred(n, tier, store, work);
+    ) {
+        return untransferred(refusal, tier, store, work);
     }
     let mark = tier.mark;
     let upto = mark_for(store.number, mark);

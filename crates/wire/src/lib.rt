@@ -5,16 +5,15 @@
 ghost use Rattle.std.specs.Prelude.{◌≡◌};
 ghost use Rattle.wire.specs.Words.{limits_in, mark_words, mark_in, header_words, header_in, meter_words, meter_in, cursor_words};
 ghost use Rattle.wire.specs.Words.{cursor_in};
-ghost use Rattle.model.specs.Answers.{refused as refused_by, answered as answered_by, named as named_by, flag_word, make_reply};
+ghost use Rattle.model.specs.Answers.{number_of, replied, refused as refused_by, answered as answered_by, named as named_by, flag_word, make_reply};
 ghost use Rattle.model.specs.Answers.{made_header, offer_reply, hit_reply, begin_reply, deduce_reply, next_reply, candidates_reply, close_reply};
 ghost use Rattle.model.specs.Answers.{contradicted_reply, transfer_reply, deduction_reply, decide_reply};
 ghost use Rattle.wire.specs.Replies.{reply_words, close_words, answer_words, made_words};
 
 use meter::{Capture, Meter, Sharing};
 use model::{
-    BeginAnswer, CandidatesAnswer, CloseAnswer, Contradicted, DecideAnswer, DeduceAnswer,
-    Deduction, Header, HitAnswer, LearningLimits, MakeAnswer, Mark, NextAnswer, OfferAnswer,
-    OutputCursor, TransferAnswer,
+    CandidatesAnswer, CloseAnswer, Contradicted, DeduceAnswer, Deduction, Header, LearningLimits,
+    Mark, NextAnswer, OfferAnswer, OutputCursor, Refusal, TransferAnswer,
 };
 
 // The words of the limits, the header, the meter, the cursor, and an answer.
@@ -264,21 +263,21 @@ pub fn put_answer(reply: ReplyWords, ticks: u64, words: &mut [u64; ANSWER_WORDS]
 }
 
 // Writes the header that was made; a refused Make leaves the words.
-pub fn put_made(answer: MakeAnswer, words: &mut [u64; HEADER_WORDS])
+pub fn put_made(answer: Result<Header, Refusal>, words: &mut [u64; HEADER_WORDS])
     ensures { words.new ≡ made_words (made_header answer) words.old }
 {
-    if let MakeAnswer::Made(h) = answer {
+    if let Ok(h) = answer {
         put_header(h, words);
     }
 }
 
 // ---- The number and the value of each answer.
 // A refusal, by its number.
-fn refused(n: u64) -> ReplyWords
-    ensures { result ≡ reply_words (refused_by n) }
+fn refused(refusal: Refusal) -> ReplyWords
+    ensures { result ≡ reply_words (refused_by (number_of refusal)) }
 {
     ReplyWords {
-        refusal: n,
+        refusal: u64::from(refusal),
         case: 0,
         value: 0,
         contradicted: 0,
@@ -305,57 +304,48 @@ fn named(case: u64, value: u64, contradicted: u64) -> ReplyWords
 }
 
 // Refused by a number; 0 for a header made.
-pub fn make_reply(a: MakeAnswer) -> ReplyWords
-    ensures { result ≡ reply_words (make_reply a) }
+pub fn make_reply(a: Result<Header, Refusal>) -> ReplyWords
+    ensures { result ≡ reply_words (replied make_reply a) }
 {
     match a {
-        MakeAnswer::Refused(n) => refused(n),
-        MakeAnswer::Made(_) => answered(0, 0),
+        Ok(_) => answered(0, 0),
+        Err(refusal) => refused(refusal),
     }
 }
 
 // Refused by a number; 1 Shut, 2 Stopped, 3 Declined, 4 Subsumed and 5 Added with the row's position.
-pub fn offer_reply(a: OfferAnswer) -> ReplyWords
-    ensures { result ≡ reply_words (offer_reply a) }
+pub fn offer_reply(a: Result<OfferAnswer, Refusal>) -> ReplyWords
+    ensures { result ≡ reply_words (replied offer_reply a) }
 {
     match a {
-        OfferAnswer::Refused(n) => refused(n),
-        OfferAnswer::Shut => answered(1, 0),
-        OfferAnswer::Stopped => answered(2, 0),
-        OfferAnswer::Declined => answered(3, 0),
-        OfferAnswer::Subsumed(p) => answered(4, p),
-        OfferAnswer::Added(p) => answered(5, p),
+        Ok(OfferAnswer::Shut) => answered(1, 0),
+        Ok(OfferAnswer::Stopped) => answered(2, 0),
+        Ok(OfferAnswer::Declined) => answered(3, 0),
+        Ok(OfferAnswer::Subsumed(p)) => answered(4, p),
+        Ok(OfferAnswer::Added(p)) => answered(5, p),
+        Err(refusal) => refused(refusal),
     }
 }
 
-// Refused by a number; 0 for done.
-pub fn hit_reply(a: HitAnswer) -> ReplyWords
-    ensures { result ≡ reply_words (hit_reply a) }
+// Hit and Begin. Refused by a number; 0 for done.
+pub fn done_reply(a: Result<(), Refusal>) -> ReplyWords
+    ensures hit { result ≡ reply_words (replied hit_reply a) }
+    ensures begin { result ≡ reply_words (replied begin_reply a) }
 {
     match a {
-        HitAnswer::Refused(n) => refused(n),
-        HitAnswer::Done => answered(0, 0),
-    }
-}
-
-// Refused by a number; 0 for done.
-pub fn begin_reply(a: BeginAnswer) -> ReplyWords
-    ensures { result ≡ reply_words (begin_reply a) }
-{
-    match a {
-        BeginAnswer::Refused(n) => refused(n),
-        BeginAnswer::Done => answered(0, 0),
+        Ok(()) => answered(0, 0),
+        Err(refusal) => refused(refusal),
     }
 }
 
 // Refused by a number; 2 Stopped, or the deduction's number.
-pub fn deduce_reply(a: DeduceAnswer, d: Deduction) -> ReplyWords
-    ensures { result ≡ reply_words (deduce_reply a d) }
+pub fn deduce_reply(a: Result<DeduceAnswer, Refusal>, d: Deduction) -> ReplyWords
+    ensures { result ≡ reply_words (replied (λ x. deduce_reply x d) a) }
 {
     match a {
-        DeduceAnswer::Refused(n) => refused(n),
-        DeduceAnswer::Stopped => answered(2, 0),
-        DeduceAnswer::Done => deduction_reply(d),
+        Ok(DeduceAnswer::Stopped) => answered(2, 0),
+        Ok(DeduceAnswer::Done) => deduction_reply(d),
+        Err(refusal) => refused(refusal),
     }
 }
 
@@ -374,37 +364,37 @@ fn deduction_reply(d: Deduction) -> ReplyWords
 }
 
 // Refused by a number; 0 End, 1 Output with the code, 2 Stopped.
-pub fn next_reply(a: NextAnswer) -> ReplyWords
-    ensures { result ≡ reply_words (next_reply a) }
+pub fn next_reply(a: Result<NextAnswer, Refusal>) -> ReplyWords
+    ensures { result ≡ reply_words (replied next_reply a) }
 {
     match a {
-        NextAnswer::Refused(n) => refused(n),
-        NextAnswer::Stopped => answered(2, 0),
-        NextAnswer::End => answered(0, 0),
-        NextAnswer::Output(l) => answered(1, l.0 as u64),
+        Ok(NextAnswer::Stopped) => answered(2, 0),
+        Ok(NextAnswer::End) => answered(0, 0),
+        Ok(NextAnswer::Output(l)) => answered(1, l.0 as u64),
+        Err(refusal) => refused(refusal),
     }
 }
 
 // Refused by a number; 0 with the count, 2 Stopped.
-pub fn candidates_reply(a: CandidatesAnswer) -> ReplyWords
-    ensures { result ≡ reply_words (candidates_reply a) }
+pub fn candidates_reply(a: Result<CandidatesAnswer, Refusal>) -> ReplyWords
+    ensures { result ≡ reply_words (replied candidates_reply a) }
 {
     match a {
-        CandidatesAnswer::Refused(n) => refused(n),
-        CandidatesAnswer::Stopped => answered(2, 0),
-        CandidatesAnswer::Count(n) => answered(0, n),
+        Ok(CandidatesAnswer::Stopped) => answered(2, 0),
+        Ok(CandidatesAnswer::Count(n)) => answered(0, n),
+        Err(refusal) => refused(refusal),
     }
 }
 
 // Refused by a number; 0 Closed, 1 Conflict, 2 Stopped; the value is 1 if an output is named, and else 0.
-pub fn close_reply(a: CloseAnswer, o: Contradicted) -> ReplyWords
-    ensures { result ≡ close_words (close_reply a) (contradicted_reply o) }
+pub fn close_reply(a: Result<CloseAnswer, Refusal>, o: Contradicted) -> ReplyWords
+    ensures { result ≡ close_words (replied close_reply a) (contradicted_reply o) }
 {
     match a {
-        CloseAnswer::Refused(n) => refused(n),
-        CloseAnswer::Stopped => closed(2, o),
-        CloseAnswer::Conflict => closed(1, o),
-        CloseAnswer::Closed => closed(0, o),
+        Ok(CloseAnswer::Stopped) => closed(2, o),
+        Ok(CloseAnswer::Conflict) => closed(1, o),
+        Ok(CloseAnswer::Closed) => closed(0, o),
+        Err(refusal) => refused(refusal),
     }
 }
 
@@ -419,22 +409,22 @@ fn closed(case: u64, o: Contradicted) -> ReplyWords
 }
 
 // Seed and deliver. Refused by a number; 0 Done, 2 Stopped.
-pub fn transfer_reply(a: TransferAnswer) -> ReplyWords
-    ensures { result ≡ reply_words (transfer_reply a) }
+pub fn transfer_reply(a: Result<TransferAnswer, Refusal>) -> ReplyWords
+    ensures { result ≡ reply_words (replied transfer_reply a) }
 {
     match a {
-        TransferAnswer::Refused(n) => refused(n),
-        TransferAnswer::Stopped => answered(2, 0),
-        TransferAnswer::Done => answered(0, 0),
+        Ok(TransferAnswer::Stopped) => answered(2, 0),
+        Ok(TransferAnswer::Done) => answered(0, 0),
+        Err(refusal) => refused(refusal),
     }
 }
 
 // Refused by a number; 0 false, 1 true.
-pub fn decide_reply(a: DecideAnswer) -> ReplyWords
-    ensures { result ≡ reply_words (decide_reply a) }
+pub fn decide_reply(a: Result<bool, Refusal>) -> ReplyWords
+    ensures { result ≡ reply_words (replied decide_reply a) }
 {
     match a {
-        DecideAnswer::Refused(n) => refused(n),
-        DecideAnswer::Decided(b) => answered(flag_word(b), 0),
+        Ok(b) => answered(flag_word(b), 0),
+        Err(refusal) => refused(refusal),
     }
 }

@@ -1,27 +1,26 @@
 -- `close::close`. One law for each way out. Assumes nothing.
 use mathlib.Core.Path.{sym, ◌∙◌}
 use Rattle.model.specs.Records.{with_full}
+use Rattle.model.specs.declared.Refusal.TheVariants.{Region}
 use Rattle.close.proofs.Finishing.{close-first, close-sixth, close_passed, close-refused, close-runs, close-room, close-long}
 use Rattle.close.proofs.Finishing.{close-done}
 use Rattle.close.proofs.close.Goals as goal
 
-pub returns-then-n-ne0 : goal.returns-then-n-ne0
-returns-then-n-ne0 c =
+pub returns-in-Err : goal.returns-in-Err
+returns-in-Err c =
     let a = c.args in
     close-refused a.header a.slots.now a.postings.now a.held.now a.cut.now a.rows_scratch.now
     a.atoms_scratch.now a.work _
     (close-first a.header a.slots.now a.postings.now a.held.now a.cut.now a.rows_scratch.now
-    a.atoms_scratch.now a.work _ _ c.scratch_ok-others.ensures c.accept-n.ensures
-    c.if-n-ne0.true)
+    a.atoms_scratch.now a.work _ c.scratch_ok-others.ensures _ c.in-Err.ensures)
 
 pub returns-then-not-is_region : goal.returns-then-not-is_region
 returns-then-not-is_region c =
     let a = c.args in
     close-refused a.header a.slots.now a.postings.now a.held.now a.cut.now a.rows_scratch.now
-    a.atoms_scratch.now a.work 6
+    a.atoms_scratch.now a.work Region
     (close-sixth a.header a.slots.now a.postings.now a.held.now a.cut.now a.rows_scratch.now
-    a.atoms_scratch.now a.work _ _ c.scratch_ok-others.ensures
-    c.accept-n.ensures c.if-n-ne0.false
+    a.atoms_scratch.now a.work _ c.scratch_ok-others.ensures c.in_default.ensures
     (sym c.is_region.ensures ∙ c.if-not-is_region.true))
 
 pub rounds-end-requires : goal.rounds-end-requires
@@ -30,8 +29,7 @@ rounds-end-requires c =
     let a = c.args in
     let q = sym c.is_region.ensures ∙ c.if-not-is_region.false in
     let e = close_passed a.header a.slots.now a.postings.now a.held.now a.cut.now a.rows_scratch.now
-    a.atoms_scratch.now a.work _ _
-    c.scratch_ok-others.ensures c.accept-n.ensures c.if-n-ne0.false q in record {
+    a.atoms_scratch.now a.work _ c.scratch_ok-others.ensures c.in_default.ensures q in record {
       fact_1 = close-runs a.header a.slots.now a.postings.now a.held.now a.cut.now a.rows_scratch.now
           a.atoms_scratch.now a.work e q;
       fact_2 = close-room a.header a.slots.now a.postings.now a.held.now a.cut.now a.rows_scratch.now
@@ -47,8 +45,7 @@ returns c =
     let g = c.rounds-end in
     let q = sym c.is_region.ensures ∙ c.if-not-is_region.false in
     let e = close_passed a.header a.slots.now a.postings.now a.held.now a.cut.now a.rows_scratch.now
-    a.atoms_scratch.now a.work _ _
-    c.scratch_ok-others.ensures c.accept-n.ensures c.if-n-ne0.false q in
+    a.atoms_scratch.now a.work _ c.scratch_ok-others.ensures c.in_default.ensures q in
     close-done a.header a.slots.now a.postings.now a.held.now a.cut.now a.rows_scratch.now
     a.atoms_scratch.now a.work e g.result _ _ _ _ _ _ _ _ g.ensures.turn g.ensures.runs g.auto.places
     g.auto.noted c.fill_zero.ensures

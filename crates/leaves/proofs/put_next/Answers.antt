@@ -2,9 +2,6 @@
 use Rattle.leaves.proofs.Leaving.{next-as}
 use Rattle.leaves.proofs.put_next.Goals as goal
 
-pub returns-in-Refused : goal.returns-in-Refused
-returns-in-Refused c = next-as _ c.in-Refused.is
-
 pub returns-in-Stopped : goal.returns-in-Stopped
 returns-in-Stopped c = next-as _ c.in-Stopped.is
 

@@ -4,33 +4,34 @@ use mathlib.Core.Bool.{true}
 use mathlib.Core.List.{[]}
 use mathlib.Core.Option.{none}
 use borrow.Author.Tests.{not-false}
+use Rattle.model.specs.declared.Refusal.TheVariants.{Row, Source}
 use Rattle.model.specs.Refusals.{refusal, accepts}
 use Rattle.model.specs.Operations.{fits_offer, offer_tests}
 use Rattle.slots.specs.Layout.{row_of}
 use Rattle.contents.specs.Lent.{lent}
-use Rattle.contents.proofs.Accepting.{accepted, accept-refused, accept-passed, accept-none}
+use Rattle.contents.proofs.Accepting.{accepted, accept-refused, accept-passed}
 use Rattle.offer.proofs.Fitting.{may-attempts, limits-passed}
 use Rattle.offer.proofs.Offering.{offer-refused, offer-shut, offer-captured, unfit, fit, unsourced}
 use Rattle.offer.proofs.Offering.{fit-passes}
 use Rattle.offer.proofs.offer.Goals.{Else-source-gt1}
 use Rattle.offer.proofs.offer.Goals as goal
 
-pub returns-then-n-ne0 : goal.returns-then-n-ne0
-returns-then-n-ne0 c =
+pub returns-in-Err : goal.returns-in-Err
+returns-in-Err c =
     let a = c.args in
     let s = lent a.header a.slots.now a.postings.now in
     let ts = offer_tests a.header.limits (row_of a.conditions.now a.outputs.now) a.source in
     offer-refused a.header a.slots.now a.postings.now a.conditions.now a.outputs.now a.source a.work _ _
-    c.unoffered.ensures (accept-refused s true ts _ c.accept-n.ensures c.if-n-ne0.true)
+    c.unoffered.ensures (accept-refused s true ts _ c.in-Err.ensures)
 
 pub returns-then-not-is_row : goal.returns-then-not-is_row
 returns-then-not-is_row c =
     let a = c.args in
     let s = lent a.header a.slots.now a.postings.now in
     let ts = offer_tests a.header.limits (row_of a.conditions.now a.outputs.now) a.source in
-    offer-refused a.header a.slots.now a.postings.now a.conditions.now a.outputs.now a.source a.work 4 _
+    offer-refused a.header a.slots.now a.postings.now a.conditions.now a.outputs.now a.source a.work Row _
     c.unoffered-then-not-is_row.ensures
-    (accept-passed s true ts _ c.accept-n.ensures c.if-n-ne0.false
+    (accept-passed s true ts c.in_default.ensures
     ∙ unfit a.header a.slots.now a.postings.now a.conditions.now a.outputs.now a.source a.work _
     c.is_row.ensures (c.if-not-is_row.true))
 
@@ -47,8 +48,7 @@ module _ (c : Else-source-gt1) where
       ≡ none
   passes =
       let a = c.args in
-      accept-passed (lent a.header a.slots.now a.postings.now) true _ _ c.accept-n.ensures
-      c.if-n-ne0.false
+      accept-passed (lent a.header a.slots.now a.postings.now) true _ c.in_default.ensures
       ∙ fit-passes a.header a.slots.now a.postings.now a.conditions.now a.outputs.now a.source a.work fits
       c.if-source-gt1.false
 
@@ -57,9 +57,9 @@ returns-then-source-gt1 c =
     let a = c.args in
     let s = lent a.header a.slots.now a.postings.now in
     let ts = offer_tests a.header.limits (row_of a.conditions.now a.outputs.now) a.source in
-    offer-refused a.header a.slots.now a.postings.now a.conditions.now a.outputs.now a.source a.work 11 _
+    offer-refused a.header a.slots.now a.postings.now a.conditions.now a.outputs.now a.source a.work Source _
     c.unoffered-then-source-gt1.ensures
-    (accept-passed s true ts _ c.accept-n.ensures c.if-n-ne0.false
+    (accept-passed s true ts c.in_default.ensures
     ∙ unsourced a.header a.slots.now a.postings.now a.conditions.now a.outputs.now a.source a.work
     (fit a.header a.slots.now a.postings.now a.conditions.now a.outputs.now a.source a.work _
     c.is_row.ensures (c.if-not-is_row.false)) c.if-source-gt1.true)
@@ -74,7 +74,7 @@ pub capture-requires : goal.capture-requires
 capture-requires c =
     let a = c.args in
     let s = lent a.header a.slots.now a.postings.now in
-    let none = accept-none s true _ c.accept-n.ensures c.if-n-ne0.false in record {
+    let none = sym c.in_default.ensures in record {
       fact_1 = accepted a.header a.slots.now a.postings.now true [] none;
       fact_2 = may-attempts a.header (sym c.can_capture.ensures ∙ c.if-not-can_capture.false);
       fact_3 = limits-passed s true none;

@@ -8,13 +8,12 @@ use Prim.Native.Nat.{◌≤◌}
 use Rattle.words.specs.Bit.{max_word}
 use Rattle.model.specs.Refusals.{Lent, ledger_in}
 use Rattle.model.specs.Operations.{transfer_refusal}
-use Rattle.contents.specs.Lent.{lent, refused_by}
-use Rattle.contents.proofs.Accepting.{refused_by-some}
+use Rattle.contents.specs.Lent.{lent}
 use Rattle.retain_keep.specs.Stood.{Stood}
 use Rattle.retain_keep.proofs.Standing.{accepted-stood}
 use Rattle.transfers.specs.Ends.{transfer_end}
 use Rattle.transfers.proofs.Ending.{tier-accepted, store-accepted, atoms-same, stood-now, deliver-refused, deliver-done}
-use Rattle.transfers.proofs.delivering.deliver.Goals.{Else-n-ne0, Start}
+use Rattle.transfers.proofs.delivering.deliver.Goals.{In_default, Start}
 use Rattle.transfers.proofs.delivering.deliver.Goals as goal
 
 module _ (t : Start) where
@@ -42,24 +41,24 @@ module _ (t : Start) where
         store-born
 
 -- neither is refused
-module _ (c : Else-n-ne0) where
-  none_is : transfer_refusal (T (goal.at.Else-n-ne0 c).Start) (S (goal.at.Else-n-ne0 c).Start) ≡ none
-  none_is = sym c.refusal-n.ensures ∙ ap refused_by c.if-n-ne0.false
+module _ (c : In_default) where
+  none_is : transfer_refusal (T (goal.at.In_default c).Start) (S (goal.at.In_default c).Start) ≡ none
+  none_is = sym c.in_default.ensures
 
-pub returns-then-n-ne0 : goal.returns-then-n-ne0
-returns-then-n-ne0 c =
+pub returns-in-Err : goal.returns-in-Err
+returns-in-Err c =
     let a = c.args in
     ap (λ r. transfer_end r a.tier_slots.now a.tier_postings.now a.store_slots.now a.store_postings.now)
     c.untransferred.ensures
     ∙ deliver-refused a.tier a.store a.tier_slots.now a.tier_postings.now a.store_slots.now a.store_postings.now
     a.work _
-    (sym c.refusal-n.ensures ∙ refused_by-some _ c.if-n-ne0.true)
+    (sym c.in-Err.ensures)
 
 pub deliver_rows-transfer-requires : goal.deliver_rows-transfer-requires
 deliver_rows-transfer-requires c =
     let at_start = (goal.at.deliver_rows-transfer-requires c).Start in
     let a = c.args in
-    let z = none_is (goal.at.deliver_rows-transfer-requires c).Else-n-ne0 in record {
+    let z = none_is (goal.at.deliver_rows-transfer-requires c).In_default in record {
       fact_1 = record {
         postings = a.tier_postings.now;
         stood = stood-now a.tier a.tier_slots.now a.tier_postings.now (tier-stood at_start z);
@@ -70,10 +69,10 @@ deliver_rows-transfer-requires c =
 
 pub returns : goal.returns
 returns c =
-    let at_else_n_ne0 = (goal.at.returns c).Else-n-ne0 in
+    let at_passed = (goal.at.returns c).In_default in
     let a = c.args in
     deliver-done a.tier a.store a.tier_slots.now a.tier_postings.now a.store_slots.now a.store_postings.now
     a.work
     a.tier.limits.atoms a.tier.rows c.deliver_rows-transfer.result c.deliver_rows-transfer.new.tier_slots c.deliver_rows-transfer.new.store_slots
     c.deliver_rows-transfer.new.store_postings c.deliver_rows-transfer.ensures
-    (stood-now a.tier a.tier_slots.now a.tier_postings.now (tier-stood (goal.at.returns c).Start (none_is at_else_n_ne0))) (none_is at_else_n_ne0) c.delivered.ensures
+    (stood-now a.tier a.tier_slots.now a.tier_postings.now (tier-stood (goal.at.returns c).Start (none_is at_passed))) (none_is at_passed) c.delivered.ensures

@@ -1,4 +1,5 @@
 -- `refusal` meets its contract. One law for each way out. Assumes nothing.
+use Rattle.std.proofs.lemmas.Result.{err_from_is_err_and}
 use Rattle.model.specs.Refusals.{Lent}
 use Rattle.contents.specs.Lent.{lent}
 use Rattle.transfers.proofs.Ending.{tier-refused, store-refused, atoms-refused, none-refused}
@@ -12,27 +13,24 @@ module _ (t : Start) where
   abbrev S : Lent
   S = lent t.args.store t.args.store_slots.now t.args.store_postings.now
 
-pub returns-then-n-ne0 : goal.returns-then-n-ne0
-returns-then-n-ne0 c =
-    let at_start = (goal.at.returns-then-n-ne0 c).Start in
-    tier-refused (T at_start) (S at_start) _ c.accept-n.ensures c.if-n-ne0.true
+pub returns-in_err-accept : goal.returns-in_err-accept
+returns-in_err-accept c =
+    let start = (goal.at.returns-in_err-accept c).Start in
+    let p = err_from_is_err_and c.from_residual.result c.from_residual.ensures.1 in
+    rw (p.1, p.2) (tier-refused (T start) (S start) _ c.in_err-accept.ensures)
 
-pub returns-then-n-ne0-2 : goal.returns-then-n-ne0-2
-returns-then-n-ne0-2 c =
-    let at_start = (goal.at.returns-then-n-ne0-2 c).Start in
-    store-refused (T at_start) (S at_start) _ c.accept-n.ensures c.if-n-ne0.false _ c.accept-n-2.ensures
-    c.if-n-ne0-2.true
+pub returns-in_err-accept-2 : goal.returns-in_err-accept-2
+returns-in_err-accept-2 c =
+    let start = (goal.at.returns-in_err-accept-2 c).Start in
+    let p = err_from_is_err_and c.from_residual-in_err-accept-2.result c.from_residual-in_err-accept-2.ensures.1 in
+    rw (p.1, p.2) (store-refused (T start) (S start) c.in_ok-accept.ensures _ c.in_err-accept-2.ensures)
 
 pub returns-then-tier-store : goal.returns-then-tier-store
 returns-then-tier-store c =
-    let at_start = (goal.at.returns-then-tier-store c).Start in
-    atoms-refused (T at_start) (S at_start) _ c.accept-n.ensures
-    c.if-n-ne0.false _ c.accept-n-2.ensures
-    c.if-n-ne0-2.false c.if-tier-store.true
+    let start = (goal.at.returns-then-tier-store c).Start in
+    atoms-refused (T start) (S start) c.in_ok-accept.ensures c.in_ok-accept-2.ensures c.if-tier-store.true
 
 pub returns : goal.returns
 returns c =
-    let at_start = (goal.at.returns c).Start in
-    none-refused (T at_start) (S at_start) _ c.accept-n.ensures
-    c.if-n-ne0.false _ c.accept-n-2.ensures
-    c.if-n-ne0-2.false c.if-tier-store.false
+    let start = (goal.at.returns c).Start in
+    none-refused (T start) (S start) c.in_ok-accept.ensures c.in_ok-accept-2.ensures c.if-tier-store.false

@@ -8,14 +8,14 @@ use Prim.Native.Nat.{◌≤◌}
 use Rattle.words.specs.Bit.{max_word}
 use Rattle.model.specs.Refusals.{Lent}
 use Rattle.model.specs.Operations.{transfer_refusal}
-use Rattle.contents.specs.Lent.{lent, refused_by}
+use Rattle.contents.specs.Lent.{lent}
 use Rattle.contents.specs.Accepted.{Accepted}
-use Rattle.contents.proofs.Accepting.{accepted, refused_by-some}
+use Rattle.contents.proofs.Accepting.{accepted}
 use Rattle.contents.proofs.Lending.{accepted-lent}
 use Rattle.retain_keep.proofs.Standing.{accepted-stood}
 use Rattle.transfers.specs.Ends.{transfer_end}
 use Rattle.transfers.proofs.Ending.{tier-accepted, store-accepted, atoms-same, giving, seed-refused, seed-done}
-use Rattle.transfers.proofs.seeding.seed.Goals.{Else-n-ne0, Start}
+use Rattle.transfers.proofs.seeding.seed.Goals.{In_default, Start}
 use Rattle.transfers.proofs.seeding.seed.Goals as goal
 
 module _ (t : Start) where
@@ -33,35 +33,35 @@ module _ (t : Start) where
   store-taken e = accepted t.args.store t.args.store_slots.now t.args.store_postings.now true [] (store-accepted T S e)
 
 -- neither is refused
-module _ (c : Else-n-ne0) where
-  none_is : transfer_refusal (T (goal.at.Else-n-ne0 c).Start) (S (goal.at.Else-n-ne0 c).Start) ≡ none
-  none_is = sym c.refusal-n.ensures ∙ ap refused_by c.if-n-ne0.false
+module _ (c : In_default) where
+  none_is : transfer_refusal (T (goal.at.In_default c).Start) (S (goal.at.In_default c).Start) ≡ none
+  none_is = sym c.in_default.ensures
 
-pub returns-then-n-ne0 : goal.returns-then-n-ne0
-returns-then-n-ne0 c =
+pub returns-in-Err : goal.returns-in-Err
+returns-in-Err c =
     let a = c.args in
     ap (λ r. transfer_end r a.tier_slots.now a.tier_postings.now a.store_slots.now a.store_postings.now)
     c.untransferred.ensures
     ∙ seed-refused a.tier a.store a.tier_slots.now a.tier_postings.now a.store_slots.now a.store_postings.now
     a.work _
-    (sym c.refusal-n.ensures ∙ refused_by-some _ c.if-n-ne0.true)
+    (sym c.in-Err.ensures)
 
 pub seed_rows-transfer-requires : goal.seed_rows-transfer-requires
 seed_rows-transfer-requires c =
-    let at_else_n_ne0 = (goal.at.seed_rows-transfer-requires c).Else-n-ne0 in
+    let at_passed = (goal.at.seed_rows-transfer-requires c).In_default in
     let at_start = (goal.at.seed_rows-transfer-requires c).Start in
     let a = c.args in record {
-      fact_1 = accepted-stood a.tier a.tier_slots.now a.tier_postings.now true [] (tier-accepted (T at_start) (S at_start) (none_is at_else_n_ne0)) (born-fits at_start);
-      fact_2 = giving a.tier.limits.atoms a.store a.store_slots.now a.store_postings.now (store-taken at_start (none_is at_else_n_ne0))
-          (atoms-same (T at_start) (S at_start) (none_is at_else_n_ne0));
+      fact_1 = accepted-stood a.tier a.tier_slots.now a.tier_postings.now true [] (tier-accepted (T at_start) (S at_start) (none_is at_passed)) (born-fits at_start);
+      fact_2 = giving a.tier.limits.atoms a.store a.store_slots.now a.store_postings.now (store-taken at_start (none_is at_passed))
+          (atoms-same (T at_start) (S at_start) (none_is at_passed));
     }
 
 pub returns : goal.returns
 returns c =
-    let at_else_n_ne0 = (goal.at.returns c).Else-n-ne0 in
+    let at_passed = (goal.at.returns c).In_default in
     let a = c.args in
     seed-done a.tier a.store a.tier_slots.now a.tier_postings.now a.store_slots.now a.store_postings.now a.work
     a.tier.limits.atoms a.store.rows c.mark_for-upto.result c.mark_for-upto.ensures c.seed_rows-transfer.result c.seed_rows-transfer.new.slots
     c.seed_rows-transfer.new.postings c.seed_rows-transfer.ensures
-    (none_is at_else_n_ne0) (accepted-lent a.store a.store_slots.now a.store_postings.now (store-taken (goal.at.returns c).Start (none_is at_else_n_ne0)))
+    (none_is at_passed) (accepted-lent a.store a.store_slots.now a.store_postings.now (store-taken (goal.at.returns c).Start (none_is at_passed)))
     c.seeded.ensures

@@ -5,6 +5,6 @@ use Rattle.transfers.proofs.seeding.seeded.Goals as goal
 pub returns : goal.returns
 returns c =
     seeded-is c.args.transfer c.args.store c.args.work
-    c.answer-answer.ensures c.made-ticks.ensures
+    c.answer.ensures c.made-ticks.ensures
     c.put_account.ensures
     c.mark_moved-tier.ensures c.saturating_add-seeded.ensures
