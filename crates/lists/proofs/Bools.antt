@@ -65,10 +65,6 @@ pub false_of : (x : Bool) → (x ≡ true → ⊥) → x ≡ false
 false_of true f = absurd (f refl)
 false_of false f = refl
 
-pub true_of : (x : Bool) → (x ≡ false → ⊥) → x ≡ true
-true_of true f = refl
-true_of false f = absurd (f refl)
-
 -- ---- a test as a fact, and back
 pub T_true : (x : Bool) → T x → x ≡ true
 T_true true t = refl

@@ -164,14 +164,8 @@ each_map P f [] h = λ v k. absurd (omega arith)
 each_map P f (x ∷ xs) h =
     each-cons P (f x) (map f xs) (each-head (λ y. P (f y)) x xs h) (each_map P f xs (each_tail (λ y. P (f y)) x xs h))
 
-pub each_take : (P : ℕ → Type 0) (n : ℕ) (xs : List ℕ) → Each P xs → Each P (take n xs)
-each_take P n xs f v h = f v (omega (arith, times-split v n xs))
-
 pub each-drop : (P : ℕ → Type 0) (n : ℕ) (xs : List ℕ) → Each P xs → Each P (drop n xs)
 each-drop P n xs f v h = f v (omega (arith, times-split v n xs))
-
-pub each-perm : (P : ℕ → Type 0) (xs ys : List ℕ) → Perm xs ys → Each P xs → Each P ys
-each-perm P xs ys p f v h = f v (omega (arith, p v))
 
 -- what lacks the property does not stand there
 pub each_none : (P : ℕ → Type 0) (v : ℕ) (xs : List ℕ) → Each P xs → (P v → ⊥) → times v xs ≡ 0

@@ -27,10 +27,6 @@ pub get_or-zeroed : (xs : List ℕ) (i : ℕ) → get_or (zeroed xs) i 0 ≡ 0
 unfolding zeroed
 get_or-zeroed xs i = get_or-zeros (length xs) i
 
-pub zeroed-of : (xs : List ℕ) → ((i : ℕ) → i < length xs → get_or xs i 0 ≡ 0) → xs ≡ zeroed xs
-zeroed-of xs h =
-    ext_get_or 0 xs (zeroed xs) (sym (length-zeroed xs)) (λ i l. h i l ∙ sym (get_or-zeroed xs i))
-
 pub zeroed-cong : (xs ys : List ℕ) → length xs ≡ length ys → zeroed xs ≡ zeroed ys
 unfolding zeroed
 zeroed-cong xs ys e = ap (λ (n : ℕ). replicate n 0) e
@@ -55,10 +51,6 @@ unfolding zeroed
 take-zeroed zero xs = refl
 take-zeroed (suc k) [] = refl
 take-zeroed (suc k) (x ∷ xs) = ap (λ (r : List ℕ). 0 ∷ r) (take-zeroed k xs)
-
-pub drop-zeroed : (k : ℕ) (xs : List ℕ) → drop k (zeroed xs) ≡ zeroed (drop k xs)
-unfolding zeroed
-drop-zeroed k xs = drop-zeros (length xs) k ∙ ap (λ (n : ℕ). replicate n 0) (sym (length-drop k xs))
 
 -- ---- `pad`
 pub pad-nil : (n : ℕ) → pad n [] ≡ replicate n 0
@@ -86,10 +78,6 @@ shorter-pad m n xs l h =
     ∙ take-append-add xs (replicate (n - length xs) 0) (m - length xs)
     ∙ ap (λ (z : List ℕ). xs ++ z) (take-zeros (n - length xs) (m - length xs) (omega arith))
 
-pub drop-pad : (n : ℕ) (xs : List ℕ) → drop (length xs) (pad n xs) ≡ replicate (n - length xs) 0
-unfolding pad
-drop-pad n xs = drop_at xs (replicate (n - length xs) 0) (length xs) refl
-
 pub get_or-pad : (n : ℕ) (xs : List ℕ) (i : ℕ) → get_or (pad n xs) i 0 ≡ get_or xs i 0
 unfolding pad
 get_or-pad n xs i = go (n - length xs) xs i
@@ -99,30 +87,6 @@ get_or-pad n xs i = go (n - length xs) xs i
     go k (x ∷ xs) zero = refl
     go k (x ∷ xs) (suc i) = go k xs i
 
-pub set-pad : (n : ℕ) (xs : List ℕ) (i a : ℕ) → i < length xs → set (pad n xs) i a ≡ pad n (set xs i a)
-unfolding pad
-set-pad n xs i a l =
-    set-append_left xs (replicate (n - length xs) 0) i a l
-    ∙ ap (λ (k : ℕ). set xs i a ++ replicate (n - k) 0) (sym (length-set xs i a))
-
-pub pad-append : (n : ℕ) (xs ys : List ℕ) → pad n (xs ++ ys) ≡ xs ++ pad (n - length xs) ys
-unfolding pad
-pad-append n xs ys =
-    let e : n - length (xs ++ ys) ≡ n - length xs - length ys = omega (arith, length-append xs ys) in
-    append_assoc xs ys (replicate (n - length (xs ++ ys)) 0)
-    ∙ ap (λ (k : ℕ). xs ++ (ys ++ replicate k 0)) e
-
-pub pad-full : (n : ℕ) (xs : List ℕ) → n ≤ length xs → pad n xs ≡ xs
-unfolding pad
-pad-full n xs l = let e : n - length xs ≡ 0 = omega arith in ap (λ (k : ℕ). xs ++ replicate k 0) e ∙ append-nil xs
-
--- a list whose first part is xs and whose rest is zeros
-pub pad-of : (ws xs : List ℕ) (n : ℕ) → length xs ≡ n → take n ws ≡ xs → drop n ws ≡ zeroed (drop n ws) → ws ≡ pad (length ws) xs
-unfolding pad zeroed
-pad-of ws xs n l t d =
-    let e : length (drop n ws) ≡ length ws - length xs = omega (arith, length-drop n ws) in
-    sym (take-append-drop n ws) ∙ ap₂ (λ (x y : List ℕ). x ++ y) t (d ∙ ap (λ (k : ℕ). replicate k 0) e)
-
 -- the test of a padded list, in two parts
 pub same-pad : (ws xs : List ℕ) (n : ℕ) → length xs ≡ n → n ≤ length ws →
     same ws (pad (length ws) xs) ≡ (same (take n ws) xs && same (drop n ws) (zeroed (drop n ws)))
@@ -131,10 +95,6 @@ same-pad ws xs n e l =
     let k : length ws - length xs ≡ length (drop n ws) = omega (arith, length-drop n ws) in
     same-append n ws xs (replicate (length ws - length xs) 0) l e
     ∙ ap (λ (m : ℕ). same (take n ws) xs && same (drop n ws) (replicate m 0)) k
-
-pub same-pad-short : (ws xs : List ℕ) → length ws < length xs → same ws (pad (length ws) xs) ≡ false
-same-pad-short ws xs l =
-    same-no ws (pad (length ws) xs) (λ e. let k = ap length (e ∙ pad-full (length ws) xs (omega arith)) in omega arith)
 
 -- ---- a lent part that came back as ys
 pub put-at : (a e : ℕ) (xs ys : List ℕ) → a ≤ e → put_mid a (e - a) xs ys ≡ take a xs ++ (ys ++ drop e xs)
@@ -159,14 +119,6 @@ put-zeroed xs ys a e t =
     ∙ ap₂ (λ (x y : List ℕ). x ++ y) t (ap zeroed (rest_part xs a) ∙ ap (λ (n : ℕ). replicate n 0) k)
 
 -- ---- a list that a loop fills from the front
-pub copy_more : (s d : List ℕ) (i : ℕ) → i < length s → length d ≡ length s →
-    set (take i s ++ drop i d) i (get_or s i 0) ≡ take (i + 1) s ++ drop (i + 1) d
-copy_more s d i h e =
-    let k : i < length d = omega arith in
-    let l : length (take i s) ≡ i = length-take-le i s (omega arith) in
-    rw (add-one, drop-cons d i 0, set_at (take i s) _ _ _ i l, take-suc s i 0)
-    (sym (append_snoc (take i s) (get_or s i 0) (drop (suc i) d)))
-
 -- stores from the front on, as many as there are
 pub sets-all : (vs l : List ℕ) → length vs ≡ length l → sets l 0 vs ≡ vs
 sets-all vs l e =

@@ -71,12 +71,6 @@ module _ {A : Type 0} (f : A → Bool) where
       ap (select f) (drop-cons xs i d l) ∙ select_yes (get_or xs i d) (drop (suc i) xs) e
       ∙ ap (λ (k : ℕ). get_or xs i d ∷ select f (drop k xs)) (sym (add-one i))
 
-  pub select-drop-no : (xs : List A) (i : ℕ) (d : A) → i < length xs → f (get_or xs i d) ≡ false →
-      select f (drop i xs) ≡ select f (drop (i + 1) xs)
-  select-drop-no xs i d l e =
-      ap (select f) (drop-cons xs i d l) ∙ select_no (get_or xs i d) (drop (suc i) xs) e
-      ∙ ap (λ (k : ℕ). select f (drop k xs)) (sym (add-one i))
-
 pub select-map : {A B : Type 0} (f : B → Bool) (g : A → B) (xs : List A) →
     select f (map g xs) ≡ map g (select (λ x. f (g x)) xs)
 unfolding select

@@ -107,9 +107,6 @@ same-no xs ys n = go (same xs ys) refl
     go true e = absurd (n (same_true xs ys e))
     go false e = refl
 
-pub same_false : (xs ys : List ℕ) → same xs ys ≡ false → xs ≡ ys → ⊥
-same_false xs ys e f = false≢true (sym e ∙ same-yes xs ys f)
-
 -- of a list in two parts
 pub same-append : (n : ℕ) (ws xs ys : List ℕ) → n ≤ length ws → length xs ≡ n →
     same ws (xs ++ ys) ≡ (same (take n ws) xs && same (drop n ws) ys)

@@ -11,17 +11,7 @@ pub fn partition_point(xs: &[u64], bound: u64) -> usize
     requires { Sorted xs.now }
     ensures { result ≡ lower_bound bound xs.now }
 {
-    let mut lo: usize = 0;
-    let mut hi: usize = xs.len();
-    while lo < hi {
-        let mid = lo + (hi - lo) / 2;
-        if xs[mid] < bound {
-            lo = mid + 1;
-        } else {
-            hi = mid;
-        }
-    }
-    lo
+    xs.partition_point(|x| *x < bound)
 }
 
 // The positions of the words that are not 0 come to the front, ascending, and zeros after them. Returns their number.
@@ -30,15 +20,13 @@ pub fn gather(out: &mut [u64]) -> usize
     ensures out_after { out.new ≡ pad (length out.old) (marked out.old) }
 {
     let mut k: usize = 0;
-    let mut p: usize = 0;
-    while p < out.len() {
+    for p in 0..out.len() {
         let x = out[p];
         // Stored in any case: what stood at k is read already, and a branch on x is dear.
         out[k] = p as u64;
         if x != 0 {
             k += 1;
         }
-        p += 1;
     }
     fill_zero(&mut out[k..]);
     k
@@ -49,10 +37,8 @@ pub fn up_to(out: &mut [u64], n: usize)
     requires { n ≤ length out.old }
     ensures { out.new ≡ pad (length out.old) (up_to n) }
 {
-    let mut i: usize = 0;
-    while i < n {
-        out[i] = i as u64;
-        i += 1;
+    for (i, x) in out[..n].iter_mut().enumerate() {
+        *x = i as u64;
     }
     fill_zero(&mut out[n..]);
 }

@@ -1,80 +1,48 @@
--- The loops of `all_zero` and `equal`: bits that are 0 as long as two lists agree. Assumes nothing.
-use mathlib.Core.List.{List}
-use mathlib.Core.Logic.{◌⊎◌, inl, inr}
+-- `same` beside what the library's methods give: `==` of two slices, and the bits of all the words of one. Assumes nothing.
+use mathlib.Core.Bool.{Bool, true, false, ◌&&◌}
+use mathlib.Core.List.{List, [], ◌∷◌}
 use mathlib.Core.Path.{◌≡◌, refl, sym, ap, ◌∙◌}
-use Prim.Native.Nat.{ℕ, ◌+◌, ◌≤◌, ◌<◌}
+use Prim.Native.Nat.{ℕ, zero, suc}
 use native.Mathlib.Omega.{arith}
-use lib.Bits.{bit_or, bit_xor, or_add_and, xor_add_and, and_le_l, and_le_r, xor_self}
+use lib.Bits.{bit_or, or_add_and, and_le_l, and_le_r}
 use lib.Dec.{eqb}
-use lib.ListN.{length, get_or}
-use lib.Seq.{ext_get_or}
+use lib.Pointwise.{pointwise}
 use borrow.Author.Tests.{eq-eqb, ne_eqb}
-use Rattle.lists.specs.Lists.{same}
-use Rattle.lists.proofs.Counts.{same_or}
-use Rattle.lists.proofs.Tests.{same-yes, same-no}
+use Rattle.std.specs.List.{fold}
+use Rattle.lists.specs.Lists.{same, zeroed}
+use Rattle.lists.proofs.Bools.{and_assoc}
 
-or-none : (a b : ℕ) → bit_or a b ≡ 0 → (a ≡ 0) × (b ≡ 0)
-or-none a b e =
+same-cons : (x y : ℕ) (xs ys : List ℕ) → (eqb x y && same xs ys) ≡ same (x ∷ xs) (y ∷ ys)
+unfolding same
+same-cons x y xs ys = go (eqb x y)
+  where
+    go : (b : Bool) → (b && same xs ys) ≡ (elim b as (λ k. Bool) [ true ↦ same xs ys | false ↦ false ])
+    go true = refl
+    go false = refl
+
+pub same-pointwise : (xs ys : List ℕ) → pointwise eqb xs ys ≡ same xs ys
+unfolding same
+same-pointwise [] [] = refl
+same-pointwise [] (y ∷ ys) = refl
+same-pointwise (x ∷ xs) [] = refl
+same-pointwise (x ∷ xs) (y ∷ ys) = ap (λ (b : Bool). eqb x y && b) (same-pointwise xs ys) ∙ same-cons x y xs ys
+
+or-none : (a b : ℕ) → eqb (bit_or a b) 0 ≡ (eqb a 0 && eqb b 0)
+or-none a b =
     let s = or_add_and a b in
     let l = and_le_l a b in
     let r = and_le_r a b in
-    (omega arith, omega arith)
+    grind arith
 
-xor-none : (a b : ℕ) → bit_xor a b ≡ 0 → a ≡ b
-xor-none a b e =
-    let s = xor_add_and a b in
-    let l = and_le_l a b in
-    let r = and_le_r a b in
-    omega arith
+and-true : (b : Bool) → b ≡ (b && true)
+and-true true = refl
+and-true false = refl
 
--- after the first i words of two lists
-pub record ComparedTo (xs ys : List ℕ) (bits i : ℕ) : Type 0 where
-  pub far : i ≤ length xs
-  pub long : length xs ≡ length ys
-  pub agree : bits ≡ 0 → (k : ℕ) → k < i → get_or xs k 0 ≡ get_or ys k 0
-  pub differ : (bits ≡ 0 → ⊥) → xs ≡ ys → ⊥
-
-pub compared-start : (xs ys : List ℕ) → length xs ≡ length ys → ComparedTo xs ys 0 0
-compared-start xs ys e = record {
-  far = omega arith;
-  long = e;
-  agree = λ z k l. absurd (omega arith);
-  differ = λ n e'. n refl;
-}
-
-module _ (xs ys : List ℕ) (bits i : ℕ) where
-  more : ComparedTo xs ys bits i → i < length xs → (word : ℕ) → (word ≡ 0 → get_or xs i 0 ≡ get_or ys i 0) →
-      (get_or xs i 0 ≡ get_or ys i 0 → word ≡ 0) → ComparedTo xs ys (bit_or bits word) (i + 1)
-  more c l word f g = record { far = omega arith; long = c.long; agree = agree; differ = differ }
-    where
-      agree : bit_or bits word ≡ 0 → (k : ℕ) → k < i + 1 → get_or xs k 0 ≡ get_or ys k 0
-      agree z k h = go (same_or k i)
-        where
-          go : (k ≡ i) ⊎ (k ≡ i → ⊥) → get_or xs k 0 ≡ get_or ys k 0
-          go (inl e) = rw e (f (or-none bits word z).1)
-          go (inr n) = c.agree (or-none bits word z).0 k (omega (arith, n))
-
-      differ : (bit_or bits word ≡ 0 → ⊥) → xs ≡ ys → ⊥
-      differ n e = go (same_or bits 0)
-        where
-          go : (bits ≡ 0) ⊎ (bits ≡ 0 → ⊥) → ⊥
-          go (inl z) = n (rw (z, g (ap (λ (r : List ℕ). get_or r i 0) e)))
-          go (inr m) = c.differ m e
-
-  pub compared-xor : ComparedTo xs ys bits i → i < length xs →
-      ComparedTo xs ys (bit_or bits (bit_xor (get_or xs i 0) (get_or ys i 0))) (i + 1)
-  compared-xor c l =
-      more c l (bit_xor (get_or xs i 0) (get_or ys i 0)) (xor-none (get_or xs i 0) (get_or ys i 0))
-      (λ e. rw e (xor_self (get_or ys i 0)))
-
-  pub compared-zero : ComparedTo xs ys bits i → i < length xs → get_or ys i 0 ≡ 0 →
-      ComparedTo xs ys (bit_or bits (get_or xs i 0)) (i + 1)
-  compared-zero c l z = more c l (get_or xs i 0) (λ e. e ∙ sym z) (λ e. e ∙ z)
-
-pub compared-end : (xs ys : List ℕ) (bits i : ℕ) → ComparedTo xs ys bits i → length xs ≤ i → eqb bits 0 ≡ same xs ys
-compared-end xs ys bits i c l = go (same_or bits 0)
-  where
-    go : (bits ≡ 0) ⊎ (bits ≡ 0 → ⊥) → eqb bits 0 ≡ same xs ys
-    go (inl z) =
-        eq-eqb bits 0 z ∙ sym (same-yes xs ys (ext_get_or 0 xs ys c.long (λ k h. c.agree z k (omega arith))))
-    go (inr n) = ne_eqb bits 0 n ∙ sym (same-no xs ys (c.differ n))
+-- the bits of all the words are none where every word is 0
+pub bits-none : (xs : List ℕ) (bits : ℕ) → eqb (fold bit_or bits xs) 0 ≡ (eqb bits 0 && same xs (zeroed xs))
+unfolding same zeroed
+bits-none [] bits = and-true (eqb bits 0)
+bits-none (x ∷ xs) bits =
+    bits-none xs (bit_or bits x) ∙ ap (λ (b : Bool). b && same xs (zeroed xs)) (or-none bits x)
+    ∙ and_assoc (eqb bits 0) (eqb x 0) (same xs (zeroed xs))
+    ∙ ap (λ (b : Bool). eqb bits 0 && b) (same-cons x 0 xs (zeroed xs))

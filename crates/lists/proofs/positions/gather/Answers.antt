@@ -1,4 +1,5 @@
-use mathlib.Core.Path.{sym, ap, ◌∙◌}
+use mathlib.Core.Path.{◌≡◌, sym, ap, ◌∙◌}
+use native.Mathlib.Omega.{arith}
 use Prim.Native.Nat.{ℕ, ◌-◌}
 use lib.ListN.{length}
 use borrow.Rule.Slice.PartMut.{put_mid}
@@ -26,7 +27,7 @@ returns c =
     let ms = c.args.out.now in
     let out = c.loop-p.out in
     let k = c.loop-p.k in
-    let left = c.loop-p-test.false in
+    let left : c.loop-p.p ≡ length ms = omega arith in
     let n = gathered-count _ _ _ _ c.loop-p.invariant left in record {
       value = n;
       out_after = ap (put_mid k (length out - k) out) c.fill_zero.ensures
