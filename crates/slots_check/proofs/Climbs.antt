@@ -11,14 +11,15 @@ use lib.ListN.{length, get_or, drop, drop_of_length-le}
 use lib.Pow.{pow_pos}
 use lib.Seq.{drop-cons}
 use borrow.Author.Tests.{lt-ltb, le-ltb, ltb-true}
+use Rattle.std.specs.Prelude.{Some, None, slice_get}
+use Rattle.std.proofs.lemmas.Option.{get_or_from_slice_get, slice_get-get_or}
 use Rattle.lists.specs.Lists.{all, above, ascending, below}
 use Rattle.lists.proofs.Bools.{and_both, and_yes, and-false}
 use Rattle.lists.proofs.Counts.{lt-or-ge}
 use Rattle.lists.proofs.Tests.{above-yes, above-no}
 use Rattle.words.specs.Codes.{shifted, climbs, runs}
-use Rattle.words.proofs.Codes.{runs_none, runs-one, runs_same, runs_other, runs-le}
-use Rattle.model.specs.Records.{slot_words}
-use Rattle.slots_check.specs.Check.{no_side, side_groups}
+use Rattle.words.proofs.Codes.{runs_none, runs-one, runs_same, runs_other}
+use Rattle.slots_check.specs.Check.{side_groups}
 
 -- without its low bits less, less at all
 less-whole : (bits x y : ℕ) → x / 2 ^ bits < y / 2 ^ bits → x < y
@@ -26,6 +27,15 @@ less-whole bits x y h =
     let p = (div-lt_iff_lt-mul {k = 2 ^ bits} {x = x} {y = y / 2 ^ bits} (pow_pos bits)).0 h in
     let q = div-mul-le_self y (2 ^ bits) in
     omega arith
+
+-- the last code, if there is one
+pub last-there : (cs : List ℕ) (y : ℕ) → slice_get cs (length cs - 1) ≡ Some y → (0 < length cs) × (get_or cs (length cs - 1) 0 ≡ y)
+last-there [] y e = absurd cc
+last-there (c ∷ cs) y e = (omega arith, get_or_from_slice_get (c ∷ cs) (length (c ∷ cs) - 1) y 0 e)
+
+pub last-none : (cs : List ℕ) → slice_get cs (length cs - 1) ≡ None → length cs ≡ 0
+last-none [] e = refl
+last-none (c ∷ cs) e = let f = slice_get-get_or (c ∷ cs) (length (c ∷ cs) - 1) 0 (omega arith) in absurd cc
 
 module _ (n bits : ℕ) where
   pub climbs-one : (c : ℕ) → c / 2 < n → climbs n bits (c ∷ []) ≡ true
@@ -89,37 +99,34 @@ module _ (n bits : ℕ) where
   climbs-drop (suc i) (c ∷ cs) e = climbs-behind c cs (climbs-drop i cs e)
 
   -- ---- the answer
-  pub groups-yes : (cs : List ℕ) (r : ℕ) → climbs n bits cs ≡ true → r ≡ runs 7 cs → r ≡ side_groups n bits cs
+  pub groups-yes : (cs : List ℕ) (r : ℕ) → climbs n bits cs ≡ true → r ≡ runs 7 cs → Some r ≡ side_groups n bits cs
   unfolding side_groups
-  groups-yes cs r e q = q ∙ sym (ap (λ (b : Bool). elim b as (λ k. ℕ) [ true ↦ runs 7 cs | false ↦ no_side ]) e)
+  groups-yes cs r e q = rw (e, side_groups) (ap Some q)
 
-  groups-no : (cs : List ℕ) → climbs n bits cs ≡ false → no_side ≡ side_groups n bits cs
+  groups-no : (cs : List ℕ) → climbs n bits cs ≡ false → None ≡ side_groups n bits cs
   unfolding side_groups
-  groups-no cs e = sym (ap (λ (b : Bool). elim b as (λ k. ℕ) [ true ↦ runs 7 cs | false ↦ no_side ]) e)
+  groups-no cs e = rw (e, side_groups)
 
-  pub groups_none : (cs : List ℕ) → length cs ≡ 0 → 0 ≡ side_groups n bits cs
+  pub groups_none : (cs : List ℕ) → length cs ≡ 0 → Some 0 ≡ side_groups n bits cs
   groups_none [] e = groups-yes [] 0 climbs-none (sym (runs_none 7))
   groups_none (c ∷ cs) e = absurd (omega arith)
 
-  -- what a number of groups says of the codes
-  module _ (cs : List ℕ) (g : ℕ) (e : g ≡ side_groups n bits cs) (few : length cs ≤ slot_words) where
-    told : (b : Bool) → climbs n bits cs ≡ b → g ≡ (elim b as (λ k. ℕ) [ true ↦ runs 7 cs | false ↦ no_side ])
-    unfolding side_groups
-    told b q = e ∙ ap (λ (b : Bool). elim b as (λ k. ℕ) [ true ↦ runs 7 cs | false ↦ no_side ]) q
+  -- what the answer says of the codes
+  pub groups-fail : (cs : List ℕ) → None ≡ side_groups n bits cs → climbs n bits cs ≡ false
+  unfolding side_groups
+  groups-fail cs e = go (climbs n bits cs) refl
+    where
+      go : (b : Bool) → climbs n bits cs ≡ b → climbs n bits cs ≡ false
+      go true q = let f : None ≡ Some (runs 7 cs) = e ∙ rw (q, side_groups) refl in absurd cc
+      go false q = q
 
-    pub groups-fail : g ≡ no_side → climbs n bits cs ≡ false
-    groups-fail f = go (climbs n bits cs) refl
-      where
-        go : (b : Bool) → climbs n bits cs ≡ b → climbs n bits cs ≡ false
-        go true q = absurd (omega (arith, told true q, runs-le 7 cs))
-        go false q = q
-
-    pub groups-pass : (g ≡ no_side → ⊥) → (climbs n bits cs ≡ true) × (g ≡ runs 7 cs)
-    groups-pass f = go (climbs n bits cs) refl
-      where
-        go : (b : Bool) → climbs n bits cs ≡ b → (climbs n bits cs ≡ true) × (g ≡ runs 7 cs)
-        go true q = (q, told true q)
-        go false q = absurd (f (told false q))
+  pub groups-pass : (cs : List ℕ) (g : ℕ) → Some g ≡ side_groups n bits cs → (climbs n bits cs ≡ true) × (g ≡ runs 7 cs)
+  unfolding side_groups
+  groups-pass cs g e = go (climbs n bits cs) refl
+    where
+      go : (b : Bool) → climbs n bits cs ≡ b → (climbs n bits cs ≡ true) × (g ≡ runs 7 cs)
+      go true q = let f : Some g ≡ Some (runs 7 cs) = e ∙ rw (q, side_groups) refl in (q, cc)
+      go false q = let f : Some g ≡ None = e ∙ rw (q, side_groups) refl in absurd cc
 
   -- ---- the walk, from the last code down
   module _ (cs : List ℕ) (i : ℕ) (l : i < length cs) where
@@ -132,7 +139,7 @@ module _ (n bits : ℕ) where
     alone : length cs ≡ suc i → drop i cs ≡ y ∷ []
     alone e = let h : length cs ≤ suc i = omega arith in here ∙ ap (λ (r : List ℕ). y ∷ r) (drop_of_length-le cs h)
 
-    pub last-high : length cs ≡ suc i → n ≤ y / 2 → no_side ≡ side_groups n bits cs
+    pub last-high : length cs ≡ suc i → n ≤ y / 2 → None ≡ side_groups n bits cs
     last-high e h = groups-no cs (climbs-drop i cs (ap (climbs n bits) (alone e) ∙ climbs-high y h))
 
     pub last-low : length cs ≡ suc i → y / 2 < n → (climbs n bits (drop i cs) ≡ true) × (1 ≡ runs 7 (drop i cs))
@@ -147,7 +154,7 @@ module _ (n bits : ℕ) where
           let q : suc (i - 1) ≡ i = omega arith in
           drop-cons cs (i - 1) 0 (omega arith) ∙ ap (λ (k : ℕ). x ∷ drop k cs) q ∙ ap (λ (r : List ℕ). x ∷ r) here
 
-      pub down-fall : y / 2 ^ bits ≤ x / 2 ^ bits → no_side ≡ side_groups n bits cs
+      pub down-fall : y / 2 ^ bits ≤ x / 2 ^ bits → None ≡ side_groups n bits cs
       down-fall h = groups-no cs (climbs-drop (i - 1) cs (ap (climbs n bits) pair ∙ climbs-fall x y (drop (suc i) cs) h))
 
       pub down-more : x / 2 ^ bits < y / 2 ^ bits → climbs n bits (drop i cs) ≡ true → climbs n bits (drop (i - 1) cs) ≡ true

@@ -1,93 +1,88 @@
 -- The loops of the slot check, step by step. Assumes nothing.
 use mathlib.Core.Path.{◌≡◌, refl, sym, ap, ap₂, ◌∙◌, subst}
 use mathlib.Core.Bool.{Bool, true, false, ◌&&◌}
-use mathlib.Core.List.{List, [], ◌∷◌}
+use mathlib.Core.List.{List, [], ◌∷◌, ◌++◌}
 use Prim.Native.Nat.{ℕ, zero, suc, ◌+◌, ◌-◌, ◌*◌, ◌/◌, ◌%◌, ◌^◌, ◌≤◌, ◌<◌, min}
 use native.Mathlib.Numerals.{add-one}
 use native.Mathlib.Omega.{arith}
 use lib.Bits.{bit_and, bit_or}
 use lib.Count.{ones}
 use lib.Dec.{eqb, leb, ltb}
-use lib.ListN.{length, get_or, drop, length-drop}
-use borrow.Author.Tests.{eq-eqb, ne_eqb, lt-ltb, le-ltb, le-leb, lt-leb}
-use Rattle.lists.proofs.Concats.{drop-three}
-use Rattle.model.specs.Records.{max_outputs, group_length}
-use Rattle.slots_check.specs.Check.{bits_below, group_ok, groups_ok, code_count, no_side, side_codes}
+use lib.ListN.{length, get_or}
+use borrow.Author.Tests.{lt-ltb, le-ltb, le-leb, lt-leb}
+use Rattle.std.specs.Prelude.{Option, Some, None}
+use Rattle.std.specs.Option.{option_eq}
+use Rattle.model.specs.Records.{group_length}
+use Rattle.slots_check.specs.Check.{bits_below, group_ok, groups_ok, code_count, side_codes}
 use Rattle.slots_check.proofs.Groups.{group-passed}
 
 -- ---- groups
-module _ (apart : Bool) (n least : ℕ) (ws : List ℕ) (at : ℕ) where
-  module _ (l : group_length ≤ length ws - at) where
-    groups-at : groups_ok apart n least (drop at ws)
-        ≡ ((leb least (get_or ws at 0) && group_ok apart n (get_or ws at 0) (get_or ws (at + 1) 0) (get_or ws (at + 2) 0))
-        && groups_ok apart n (suc (get_or ws at 0)) (drop (at + group_length) ws))
-    unfolding groups_ok
-    groups-at = ap (groups_ok apart n least) (drop-three ws at (omega arith))
+-- three words before the others
+pub front-three : (g rest : List ℕ) → length g ≡ group_length → g ++ rest ≡ get_or g 0 0 ∷ get_or g 1 0 ∷ get_or g 2 0 ∷ rest
+front-three [] rest l = absurd (omega arith)
+front-three (x ∷ []) rest l = absurd (omega arith)
+front-three (x ∷ p ∷ []) rest l = absurd (omega arith)
+front-three (x ∷ p ∷ a ∷ []) rest l = refl
+front-three (x ∷ p ∷ a ∷ b ∷ bs) rest l = absurd (omega arith)
 
-    pub groups-low : get_or ws at 0 < least → false ≡ groups_ok apart n least (drop at ws)
-    groups-low h =
-        sym (groups-at
-        ∙ ap (λ (b : Bool). (b && group_ok apart n (get_or ws at 0) (get_or ws (at + 1) 0) (get_or ws (at + 2) 0))
-        && groups_ok apart n (suc (get_or ws at 0)) (drop (at + group_length) ws))
-        (lt-leb least (get_or ws at 0) h))
+module _ (apart : Bool) (n least : ℕ) (ws g rest : List ℕ) (e : ws ≡ g ++ rest) (l : length g ≡ group_length) where
+  abbrev x : ℕ
+  x = get_or g 0 0
 
-    module _ (h : least ≤ get_or ws at 0) where
-      pub groups-bad : group_ok apart n (get_or ws at 0) (get_or ws (at + 1) 0) (get_or ws (at + 2) 0) ≡ false
-          → false ≡ groups_ok apart n least (drop at ws)
-      groups-bad e =
-          sym (groups-at
-          ∙ ap₂ (λ (a b : Bool). (a && b) && groups_ok apart n (suc (get_or ws at 0)) (drop (at + group_length) ws))
-          (le-leb least (get_or ws at 0) h) e)
+  abbrev passes : Bool
+  passes = group_ok apart n x (get_or g 1 0) (get_or g 2 0)
 
-      pub groups-next : group_ok apart n (get_or ws at 0) (get_or ws (at + 1) 0) (get_or ws (at + 2) 0) ≡ true →
-          groups_ok apart n (get_or ws at 0 + 1) (drop (at + group_length) ws) ≡ groups_ok apart n least (drop at ws)
-      groups-next e =
-          ap (λ (k : ℕ). groups_ok apart n k (drop (at + group_length) ws)) (add-one (get_or ws at 0))
-          ∙ sym (groups-at
-          ∙ ap₂ (λ (a b : Bool). (a && b) && groups_ok apart n (suc (get_or ws at 0)) (drop (at + group_length) ws))
-          (le-leb least (get_or ws at 0) h) e)
-
-  pub groups-end : at ≤ length ws → length ws - at < 3 → eqb at (length ws) ≡ groups_ok apart n least (drop at ws)
+  groups-at : groups_ok apart n least ws ≡ ((leb least x && passes) && groups_ok apart n (suc x) rest)
   unfolding groups_ok
-  groups-end h l = ends (drop at ws) (length-drop at ws)
-    where
-      ends : (ds : List ℕ) → length ds ≡ length ws - at → eqb at (length ws) ≡ groups_ok apart n least ds
-      ends [] e = eq-eqb at (length ws) (omega arith)
-      ends (x ∷ []) e = ne_eqb at (length ws) (λ q. omega arith)
-      ends (x ∷ p ∷ []) e = ne_eqb at (length ws) (λ q. omega arith)
-      ends (x ∷ p ∷ a ∷ ds) e = absurd (omega arith)
+  groups-at = ap (groups_ok apart n least) (e ∙ front-three g rest l)
+
+  pub groups-low : x < least → groups_ok apart n least ws ≡ false
+  groups-low h = groups-at ∙ ap (λ (b : Bool). (b && passes) && groups_ok apart n (suc x) rest) (lt-leb least x h)
+
+  module _ (h : least ≤ x) where
+    pub groups-bad : passes ≡ false → groups_ok apart n least ws ≡ false
+    groups-bad q = groups-at ∙ ap₂ (λ (a b : Bool). (a && b) && groups_ok apart n (suc x) rest) (le-leb least x h) q
+
+    pub groups-next : passes ≡ true → groups_ok apart n least ws ≡ groups_ok apart n (x + 1) rest
+    groups-next q =
+        groups-at ∙ ap₂ (λ (a b : Bool). (a && b) && groups_ok apart n (suc x) rest) (le-leb least x h) q
+        ∙ ap (λ (k : ℕ). groups_ok apart n k rest) (sym (add-one x))
+
+pub groups-end : (apart : Bool) (n least : ℕ) (ws : List ℕ) → length ws ≡ 0 → groups_ok apart n least ws ≡ true
+unfolding groups_ok
+groups-end apart n least [] e = refl
+groups-end apart n least (x ∷ ws) e = absurd (omega arith)
 
 -- ---- the number of codes
-pub count_next : (ws : List ℕ) (at : ℕ) → group_length ≤ length ws - at →
-    code_count (drop at ws) ≡ (ones (get_or ws (at + 1) 0) + ones (get_or ws (at + 2) 0)) + code_count (drop (at + group_length) ws)
+pub count_next : (ws g rest : List ℕ) → ws ≡ g ++ rest → length g ≡ group_length →
+    code_count ws ≡ (ones (get_or g 1 0) + ones (get_or g 2 0)) + code_count rest
 unfolding code_count
-count_next ws at l = ap code_count (drop-three ws at (omega arith))
+count_next ws g rest e l = ap code_count (e ∙ front-three g rest l)
 
-pub count-end : (ws : List ℕ) (at : ℕ) → length ws - at < 3 → code_count (drop at ws) ≡ 0
+pub count-end : (ws : List ℕ) → length ws ≡ 0 → code_count ws ≡ 0
 unfolding code_count
-count-end ws at l = ends (drop at ws) (length-drop at ws)
-  where
-    ends : (ds : List ℕ) → length ds ≡ length ws - at → code_count ds ≡ 0
-    ends [] e = refl
-    ends (x ∷ []) e = refl
-    ends (x ∷ p ∷ []) e = refl
-    ends (x ∷ p ∷ a ∷ ds) e = absurd (omega arith)
+count-end [] e = refl
+count-end (x ∷ ws) e = absurd (omega arith)
 
 -- ---- a side
-pub side-is : (apart : Bool) (n : ℕ) (ws : List ℕ) (b : Bool) → b ≡ groups_ok apart n 0 ws →
-    (elim b as (λ k. ℕ) [ true ↦ code_count ws | false ↦ no_side ]) ≡ side_codes apart n ws
-unfolding side_codes
-side-is apart n ws b e = ap (λ (d : Bool). elim d as (λ k. ℕ) [ true ↦ code_count ws | false ↦ no_side ]) e
+module _ (apart : Bool) (n : ℕ) (ws : List ℕ) where
+  pub side-no : groups_ok apart n 0 ws ≡ false → None ≡ side_codes apart n ws
+  unfolding side_codes
+  side-no e = rw (e, side_codes)
 
--- both tests of a side at once
-pub side-test : (apart : Bool) (n m : ℕ) (ws : List ℕ) → m ≤ max_outputs
-    → eqb (side_codes apart n ws) m ≡ (groups_ok apart n 0 ws && eqb (code_count ws) m)
-unfolding side_codes
-side-test apart n m ws h = go (groups_ok apart n 0 ws)
-  where
-    go : (b : Bool) → eqb (elim b as (λ k. ℕ) [ true ↦ code_count ws | false ↦ no_side ]) m ≡ (b && eqb (code_count ws) m)
-    go true = refl
-    go false = ne_eqb no_side m (λ e. omega arith)
+  pub side-yes : (k : ℕ) → groups_ok apart n 0 ws ≡ true → k ≡ code_count ws → Some k ≡ side_codes apart n ws
+  unfolding side_codes
+  side-yes k e q = rw (e, side_codes) (ap Some q)
+
+  -- both tests of a side at once
+  pub side-test : (m : ℕ) → option_eq eqb (side_codes apart n ws) (Some m) ≡ (groups_ok apart n 0 ws && eqb (code_count ws) m)
+  unfolding side_codes
+  side-test m = go (groups_ok apart n 0 ws)
+    where
+      go : (b : Bool) → option_eq eqb (elim b as (λ k. Option ℕ) [ true ↦ Some (code_count ws) | false ↦ None ]) (Some m)
+          ≡ (b && eqb (code_count ws) m)
+      go true = refl
+      go false = refl
 
 -- ---- one group
 pub inside-all : (n x bits : ℕ) → x < n / 64 → bits < 2 ^ 64 → true ≡ ltb bits (2 ^ bits_below n x)

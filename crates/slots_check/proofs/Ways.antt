@@ -1,6 +1,6 @@
 -- The check of a slot by the ways that it ends: one test that fails, or all that pass. Assumes nothing.
 use mathlib.Core.Path.{◌≡◌, refl, sym, ap, ap₂, ◌∙◌}
-use mathlib.Core.Bool.{Bool, true, false, ◌&&◌}
+use mathlib.Core.Bool.{Bool, true, false, ◌&&◌, not}
 use mathlib.Core.List.{List}
 use Prim.Native.Nat.{ℕ, ◌+◌, ◌-◌, ◌*◌, ◌≤◌, ◌<◌}
 use native.Mathlib.Omega.{arith}
@@ -8,6 +8,9 @@ use lib.Dec.{eqb, leb, ltb}
 use lib.ListN.{length, get_or, take, drop}
 use lib.Seq.{drop-drop}
 use borrow.Author.Tests.{eq-eqb, ne_eqb, lt-ltb, le-ltb, le-leb, lt-leb}
+use Rattle.std.specs.Prelude.{Option, Some}
+use Rattle.std.specs.Option.{option_eq}
+use Rattle.std.proofs.lemmas.Bool.{not-false, not-true}
 use Rattle.lists.proofs.Bools.{and_yes, no-left, no-right}
 use Rattle.lists.proofs.Concats.{drop-take}
 use Rattle.words.specs.Codes.{climbs, runs}
@@ -170,10 +173,10 @@ module _ (n : ℕ) (ws : List ℕ) where
 
   -- the tests of both sides, as the code has them
   abbrev u1 : Bool
-  u1 = eqb (side_codes true n ps) kc
+  u1 = option_eq eqb (side_codes true n ps) (Some kc)
 
   abbrev u2 : Bool
-  u2 = eqb (side_codes false n qs) ko
+  u2 = option_eq eqb (side_codes false n qs) (Some ko)
 
   pub packed-parts : w < g → false ≡ packed_ok n ws
   unfolding packed_ok
@@ -189,42 +192,41 @@ module _ (n : ℕ) (ws : List ℕ) where
   next-groups : g ≤ w → take ((body_at + group_length * w) - (body_at + group_length * g)) (drop (body_at + group_length * g) ws) ≡ qs
   next-groups h = next-part ws body_at (group_length * g) (body_at + group_length * w) (group_length * (w - g)) (omega arith)
 
-  module _ (few : kc ≤ max_conditions) (most : ko ≤ max_outputs) where
-    pub packed-many : max_groups < w → false ≡ packed_ok n ws
-    packed-many h = packed-form (omega arith)
+  pub packed-many : kc ≤ max_conditions → ko ≤ max_outputs → max_groups < w → false ≡ packed_ok n ws
+  packed-many few most h = packed-form (omega arith)
 
-    packed-sides : packed_ok n ws ≡ ((t1 && t2) && ((u1 && u2) && t7))
-    unfolding packed_ok
-    packed-sides =
-        let m : kc ≤ max_outputs = omega arith in
-        ap (λ (b : Bool). (t1 && t2) && b)
-        (by-sides t3 t4 t5 t6 t7 ∙ sym (ap₂ (λ (x y : Bool). (x && y) && t7) (side-test true n kc ps m) (side-test false n ko qs most)))
+  packed-sides : packed_ok n ws ≡ ((t1 && t2) && ((u1 && u2) && t7))
+  unfolding packed_ok
+  packed-sides =
+      ap (λ (b : Bool). (t1 && t2) && b)
+      (by-sides t3 t4 t5 t6 t7 ∙ sym (ap₂ (λ (x y : Bool). (x && y) && t7) (side-test true n ps kc) (side-test false n qs ko)))
 
-    sides-no : (u1 && u2) ≡ false → false ≡ packed_ok n ws
-    sides-no e = sym (packed-sides ∙ no-right (t1 && t2) ((u1 && u2) && t7) (no-left (u1 && u2) t7 e))
+  sides-no : (u1 && u2) ≡ false → false ≡ packed_ok n ws
+  sides-no e = sym (packed-sides ∙ no-right (t1 && t2) ((u1 && u2) && t7) (no-left (u1 && u2) t7 e))
 
-    pub packed-conditions : (k : ℕ) → k ≡ side_codes true n (take ((body_at + group_length * g) - body_at) (drop body_at ws)) → (k ≡ kc → ⊥)
-        → false ≡ packed_ok n ws
-    packed-conditions k e f =
-        sides-no (no-left u1 u2 (ne_eqb (side_codes true n ps) kc (λ q. f (e ∙ ap (side_codes true n) first-groups ∙ q))))
+  -- the codes of both sides, as the code counts them in the words that it lends
+  module _ (r : Option ℕ) (e : r ≡ side_codes true n (take ((body_at + group_length * g) - body_at) (drop body_at ws))) where
+    first-test : option_eq eqb r (Some kc) ≡ u1
+    first-test = ap (λ (o : Option ℕ). option_eq eqb o (Some kc)) (e ∙ ap (side_codes true n) first-groups)
 
-    module _ (h : g ≤ w) where
-      pub packed-outputs : (k : ℕ)
-          → k ≡ side_codes false n (take ((body_at + group_length * w) - (body_at + group_length * g)) (drop (body_at + group_length * g) ws))
-          → (k ≡ ko → ⊥) → false ≡ packed_ok n ws
-      packed-outputs k e f =
-          sides-no (no-right u1 u2 (ne_eqb (side_codes false n qs) ko (λ q. f (e ∙ ap (side_codes false n) (next-groups h) ∙ q))))
+    pub packed-conditions : true ≡ not (option_eq eqb r (Some kc)) → false ≡ packed_ok n ws
+    packed-conditions f = sides-no (no-left u1 u2 (sym first-test ∙ not-true _ (sym f)))
 
-      pub packed-rest : (b : Bool) → 3 * w < 2 * (kc + ko)
-          → side_codes true n (take ((body_at + group_length * g) - body_at) (drop body_at ws)) ≡ kc →
-          side_codes false n (take ((body_at + group_length * w) - (body_at + group_length * g)) (drop (body_at + group_length * g) ws)) ≡ ko →
-          b ≡ all_zero (take (source_at - (body_at + group_length * w)) (drop (body_at + group_length * w) ws)) → b ≡ packed_ok n ws
-      packed-rest b l p q e =
+    module _ (q : Option ℕ) (h : g ≤ w)
+        (d : q ≡ side_codes false n (take ((body_at + group_length * w) - (body_at + group_length * g)) (drop (body_at + group_length * g) ws))) where
+      next-test : option_eq eqb q (Some ko) ≡ u2
+      next-test = ap (λ (o : Option ℕ). option_eq eqb o (Some ko)) (d ∙ ap (side_codes false n) (next-groups h))
+
+      pub packed-outputs : true ≡ not (option_eq eqb q (Some ko)) → false ≡ packed_ok n ws
+      packed-outputs f = sides-no (no-right u1 u2 (sym next-test ∙ not-true _ (sym f)))
+
+      pub packed-rest : (b : Bool) → 3 * w < 2 * (kc + ko) → false ≡ not (option_eq eqb r (Some kc)) → false ≡ not (option_eq eqb q (Some ko))
+          → b ≡ all_zero (take (source_at - (body_at + group_length * w)) (drop (body_at + group_length * w) ws)) → b ≡ packed_ok n ws
+      packed-rest b l i j z =
           after (t1 && t2) ((u1 && u2) && t7) b (and_yes t1 t2 (le-leb g w h) (lt-ltb (3 * w) (2 * (kc + ko)) l))
           (after (u1 && u2) t7 b
-          (and_yes u1 u2 (eq-eqb (side_codes true n ps) kc (ap (side_codes true n) (sym first-groups) ∙ p))
-          (eq-eqb (side_codes false n qs) ko (ap (side_codes false n) (sym (next-groups h)) ∙ q)))
-          (e ∙ ap all_zero (last-part ws (group_length * w))))
+          (and_yes u1 u2 (sym first-test ∙ not-false _ (sym i)) (sym next-test ∙ not-false _ (sym j)))
+          (z ∙ ap all_zero (last-part ws (group_length * w))))
           ∙ sym packed-sides
 
 -- ---- a slot

@@ -1,6 +1,6 @@
 -- 01, refusal 3: whether the words of one slot are those of a row over A, born from 1 to the header's. The tests of the code as one Bool,
 -- that speaks of the words alone. Assumes nothing.
-use Rattle.std.specs.Prelude.{Bool, true, false, ◌&&◌, List, [], ◌∷◌, ℕ, suc, ◌+◌, ◌-◌, ◌*◌, ◌^◌, min, eqb, ltb, leb, length, get_or, take, drop}
+use Rattle.std.specs.Prelude.{Bool, true, false, ◌&&◌, Option, Some, None, List, [], ◌∷◌, ℕ, suc, ◌+◌, ◌-◌, ◌*◌, ◌^◌, min, eqb, ltb, leb, length, get_or, take, drop}
 use Rattle.std.specs.Int.Bits.{bit_and, bit_or}
 use Rattle.std.specs.Int.Count.{ones}
 use Rattle.lists.specs.Lists.{same, zeroed}
@@ -48,16 +48,13 @@ code_count (x ∷ []) = 0
 code_count (x ∷ p ∷ []) = 0
 code_count (x ∷ p ∷ a ∷ ws) = (ones p + ones a) + code_count ws
 
--- the codes of a side; words that are not whole groups in order count as more than any side has
-abbrev pub no_side : ℕ
-no_side = 4294967295
+-- how many codes a side has, if its words are groups in order
+unfoldable pub side_codes : Bool → ℕ → List ℕ → Option ℕ
+side_codes apart n ws = elim (groups_ok apart n 0 ws) [ true ↦ Some (code_count ws) | false ↦ None ]
 
-unfoldable pub side_codes : Bool → ℕ → List ℕ → ℕ
-side_codes apart n ws = elim (groups_ok apart n 0 ws) [ true ↦ code_count ws | false ↦ no_side ]
-
--- the groups that the codes of a side would be; codes that are not in order, or of an atom at n or above, count as more than any side has
-unfoldable pub side_groups : ℕ → ℕ → List ℕ → ℕ
-side_groups n bits cs = elim (climbs n bits cs) [ true ↦ runs 7 cs | false ↦ no_side ]
+-- how many groups the codes of a side would be, if they are in order and their atoms are below n
+unfoldable pub side_groups : ℕ → ℕ → List ℕ → Option ℕ
+side_groups n bits cs = elim (climbs n bits cs) [ true ↦ Some (runs 7 cs) | false ↦ None ]
 
 -- ---- one slot
 abbrev pub all_zero : List ℕ → Bool

@@ -1,10 +1,10 @@
 // The check of one slot: whether its words are those of a row. It reads the words where they lie, and lays out no row.
 #![tactic(auto)]
 
-ghost use Rattle.std.specs.Prelude.{◌≡◌, ◌+◌, ◌*◌, ◌^◌, ◌≤◌, ◌<◌, ltb, length, get_or};
+ghost use Rattle.std.specs.Prelude.{◌≡◌, ◌+◌, ◌*◌, ◌%◌, ◌^◌, ◌≤◌, ◌<◌, ltb, length, get_or, IfSome};
 ghost use Rattle.std.specs.Int.Count.{ones};
 ghost use Rattle.words.specs.Region.{max_atoms};
-ghost use Rattle.model.specs.Records.{slot_words, max_conditions, max_outputs, conditions_at, outputs_at};
+ghost use Rattle.model.specs.Records.{slot_words, max_conditions, max_outputs, conditions_at, outputs_at, group_length};
 ghost use Rattle.slots_check.specs.Check.{bits_below, group_ok, side_codes, side_groups, scalar_ok, packed_ok, slot_ok};
 
 use lists::all_zero;
@@ -12,9 +12,6 @@ use model::{
     BODY_AT, BORN_AT, CONDITION_GROUPS_AT, CONDITIONS_AT, DELIVERED_AT, GROUP_WORDS,
     MAX_CONDITIONS, MAX_GROUPS, MAX_OUTPUTS, OUTPUTS_AT, SOURCE_AT, TOTAL_GROUPS_AT,
 };
-
-// The number of codes of words that are no side of a slot: no side has so many.
-const NO_SIDE: usize = 0xffff_ffff;
 
 // Whether the bits of word x belong to atoms below `atoms`.
 fn is_inside(bits: u64, x: u64, atoms: u64) -> bool
@@ -60,58 +57,56 @@ fn codes_in(present: u64, absent: u64) -> usize
     count + u64::count_ones(both) as usize
 }
 
-// How many codes the words hold, if they are whole groups with ascending words; else more than any side has.
-fn group_codes(words: &[u64], apart: bool, atoms: u64) -> usize
-    requires { length words.now ≤ slot_words }
+// How many codes the words hold, if they are groups with ascending words, each of which passes.
+fn group_codes(words: &[u64], apart: bool, atoms: u64) -> Option<usize>
+    requires few { length words.now ≤ slot_words }
+    requires whole { length words.now % group_length ≡ 0 }
     ensures { result ≡ side_codes apart atoms words.now }
 {
     let mut least: u64 = 0;
     let mut count: usize = 0;
-    let mut at = 0;
-    while GROUP_WORDS <= words.len() - at {
-        let x = words[at];
-        let present = words[at + 1];
-        let absent = words[at + 2];
+    for group in words.chunks_exact(GROUP_WORDS) {
+        let x = group[0];
+        let present = group[1];
+        let absent = group[2];
         if x < least {
-            return NO_SIDE;
+            return None;
         }
         if !is_group(x, present, absent, apart, atoms) {
-            return NO_SIDE;
+            return None;
         }
         count += codes_in(present, absent);
         least = x + 1;
-        at += GROUP_WORDS;
     }
-    if at == words.len() { count } else { NO_SIDE }
+    Some(count)
 }
 
-// How many groups the codes would be, if they ascend once the low bits are shifted out and their atoms are below `atoms`; else more than
-// any side has. The last code is the greatest: it alone is held to the bound, and the walk goes from it to the first.
-fn code_groups(codes: &[u64], shift: u32, atoms: u64) -> usize
+// How many groups the codes would be, if they ascend once the low bits are shifted out and their atoms are below `atoms`. The last code is
+// the greatest: it alone is held to the bound, and the walk goes from it to the first.
+fn code_groups(codes: &[u64], shift: u32, atoms: u64) -> Option<usize>
     requires fact_1 { shift < 64 }
     requires fact_2 { length codes.now ≤ slot_words }
-    ensures { result ≡ side_groups atoms shift codes.now }
+    ensures groups { result ≡ side_groups atoms shift codes.now }
+    ensures few { IfSome result (λ count. count ≤ length codes.now) }
 {
-    if codes.len() == 0 {
-        return 0;
-    }
-    let mut i = codes.len() - 1;
-    if atoms <= codes[i] / 2 {
-        return NO_SIDE;
+    let Some(last) = codes.last() else {
+        return Some(0);
+    };
+    if atoms <= *last / 2 {
+        return None;
     }
     let mut count: usize = 1;
-    while 0 < i {
+    for i in (1..codes.len()).rev() {
         let x = codes[i - 1];
         let y = codes[i];
         if y >> shift <= x >> shift {
-            return NO_SIDE;
+            return None;
         }
         if x >> 7 != y >> 7 {
             count += 1;
         }
-        i -= 1;
     }
-    count
+    Some(count)
 }
 
 // The scalar form: the codes in order, too few to be packed, and zeros after them.
@@ -129,14 +124,12 @@ fn is_scalar(slot: &[u64], atoms: u64) -> bool
     let no = slot[OUTPUTS_AT] as usize;
     let from = BODY_AT + nc;
     let end = from + no;
-    let g = code_groups(&slot[BODY_AT..from], 1, atoms);
-    if g == NO_SIDE {
+    let Some(g) = code_groups(&slot[BODY_AT..from], 1, atoms) else {
         return false;
-    }
-    let h = code_groups(&slot[from..end], 0, atoms);
-    if h == NO_SIDE {
+    };
+    let Some(h) = code_groups(&slot[from..end], 0, atoms) else {
         return false;
-    }
+    };
     let w = g + h;
     if 3 * w < 2 * (nc + no) {
         return false;
@@ -166,10 +159,10 @@ fn is_packed(slot: &[u64], atoms: u64) -> bool
     }
     let from = BODY_AT + GROUP_WORDS * g;
     let end = BODY_AT + GROUP_WORDS * w;
-    if group_codes(&slot[BODY_AT..from], true, atoms) != nc {
+    if group_codes(&slot[BODY_AT..from], true, atoms) != Some(nc) {
         return false;
     }
-    if group_codes(&slot[from..end], false, atoms) != no {
+    if group_codes(&slot[from..end], false, atoms) != Some(no) {
         return false;
     }
     all_zero(&slot[end..SOURCE_AT])

@@ -1,51 +1,80 @@
-use mathlib.Core.Path.{◌≡◌, ap, ◌∙◌, subst}
-use mathlib.Core.Bool.{true}
-use Prim.Native.Nat.{ℕ, ◌-◌}
-use native.Mathlib.Omega.{arith}
-use lib.ListN.{length, drop}
+use Rattle.std.proofs.Common.{◌≡◌, true, sym, ap, ◌∙◌, subst, arith, ℕ, ◌-◌, ◌<◌, length, drop}
 use Rattle.words.specs.Codes.{climbs, runs}
-use Rattle.slots_check.proofs.Climbs.{groups_none, groups-yes, last-high, last-low, down-fall, down-more, down-same, down-other}
-use Rattle.slots_check.proofs.code_groups.Goals.{else-x-y, then-x-y}
+use Rattle.slots_check.proofs.Climbs.{last-there, last-none, groups_none, groups-yes, last-high, last-low, down-fall, down-more, down-same, down-other}
 use Rattle.slots_check.proofs.code_groups.Goals as goal
 
-pub returns-then-codes-eq0 : goal.returns-then-codes-eq0
-returns-then-codes-eq0 c = let a = c.args in groups_none a.atoms a.shift a.codes.now c.if-codes-eq0.true
+pub returns-in_default : goal.returns-in_default
+returns-in_default c = let a = c.args in record {
+  groups = groups_none a.atoms a.shift a.codes.now (last-none a.codes.now (sym c.in_default.ensures.value));
+  few = omega arith;
+}
 
-pub returns-then-atoms-codes : goal.returns-then-atoms-codes
-returns-then-atoms-codes c =
+pub returns-then-atoms-last : goal.returns-then-atoms-last
+returns-then-atoms-last c =
     let a = c.args in
-    last-high a.atoms a.shift a.codes.now (length a.codes.now - 1) (omega (arith, c.if-codes-eq0.false))
-    (omega (arith, c.if-codes-eq0.false))
-    c.if-atoms-codes.true
+    let l = last-there a.codes.now c.in-Some.last.now (sym c.in-Some.ensures.value) in record {
+      groups =
+          last-high a.atoms a.shift a.codes.now (length a.codes.now - 1) (omega (arith, l.0)) (omega (arith, l.0))
+          (omega (arith, l.1, c.if-atoms-last.true));
+      few = tt;
+    }
 
 pub loop-i-init : goal.loop-i-init
 loop-i-init c =
     let a = c.args in
-    let h = last-low a.atoms a.shift a.codes.now (length a.codes.now - 1) (omega (arith, c.if-codes-eq0.false))
-    (omega (arith, c.if-codes-eq0.false)) c.if-atoms-codes.false in
-    (omega (arith, c.if-codes-eq0.false), omega (arith, c.if-codes-eq0.false), h.0, h.1)
+    let l = last-there a.codes.now c.in-Some.last.now (sym c.in-Some.ensures.value) in
+    let h = last-low a.atoms a.shift a.codes.now (length a.codes.now - 1) (omega (arith, l.0)) (omega (arith, l.0))
+    (omega (arith, l.1, c.if-atoms-last.false)) in
+    record { some = omega (arith, l.0); few = omega arith; order = h.0; groups = h.1 }
 
 pub returns-then-y-shift : goal.returns-then-y-shift
 returns-then-y-shift c =
+    let a = c.args in record {
+      groups =
+          down-fall a.atoms a.shift a.codes.now (c.loop-i.i - 1) (omega (arith, c.loop-i-test.true, c.loop-i.auto.i)) (omega (arith, c.loop-i-test.true))
+          c.if-y-shift.true;
+      few = tt;
+    }
+
+pub overflow_add-count : goal.overflow_add-count
+overflow_add-count c = omega (arith, c.loop-i.invariant.few, c.requires.fact_2)
+
+pub loop-i-preserved-then-x-y : goal.loop-i-preserved-then-x-y
+loop-i-preserved-then-x-y c =
     let a = c.args in
-    down-fall a.atoms a.shift a.codes.now c.loop-i.i c.loop-i.invariant.0 c.loop-i-test.true c.if-y-shift.true
+    let v = c.loop-i.invariant in
+    let i : ℕ = c.loop-i.i - 1 in
+    let l : i < length a.codes.now = omega (arith, c.loop-i-test.true, c.loop-i.auto.i) in
+    let s : 0 < i = omega (arith, c.loop-i-test.true) in
+    let t = down-other a.atoms a.shift a.codes.now i l s c.if-x-y.true in record {
+      some = omega arith;
+      few = omega (arith, v.few);
+      order = down-more a.atoms a.shift a.codes.now i l s c.if-y-shift.false v.order;
+      groups = omega (arith, v.groups, t);
+    }
 
 pub loop-i-preserved : goal.loop-i-preserved
 loop-i-preserved c =
     let a = c.args in
-    let l = c.loop-i-test.true in
-    let m = down-more a.atoms a.shift a.codes.now c.loop-i.i c.loop-i.invariant.0 l c.if-y-shift.false c.loop-i.invariant.2 in
-    elim c.if-x-y.branch [
-      | then-x-y w ↦ let t = down-other a.atoms a.shift a.codes.now c.loop-i.i c.loop-i.invariant.0 l w.if-x-y.true in
-          (omega arith, omega (arith, w.count-is), m, omega (arith, w.count-is, c.loop-i.invariant.3))
-      | else-x-y w ↦ let t = down-same a.atoms a.shift a.codes.now c.loop-i.i c.loop-i.invariant.0 l w.if-x-y.false in
-          (omega arith, omega (arith, w.count-is), m, omega (arith, w.count-is, c.loop-i.invariant.3))
-    ]
+    let v = c.loop-i.invariant in
+    let i : ℕ = c.loop-i.i - 1 in
+    let l : i < length a.codes.now = omega (arith, c.loop-i-test.true, c.loop-i.auto.i) in
+    let s : 0 < i = omega (arith, c.loop-i-test.true) in
+    let t = down-same a.atoms a.shift a.codes.now i l s c.if-x-y.false in record {
+      some = omega arith;
+      few = omega (arith, v.few);
+      order = down-more a.atoms a.shift a.codes.now i l s c.if-y-shift.false v.order;
+      groups = omega (arith, v.groups, t);
+    }
 
 pub returns : goal.returns
 returns c =
     let a = c.args in
-    let e : c.loop-i.i ≡ 0 = omega (arith, c.loop-i-test.false) in
-    groups-yes a.atoms a.shift a.codes.now c.loop-i.count
-    (subst (λ (k : ℕ). climbs a.atoms a.shift (drop k a.codes.now) ≡ true) e c.loop-i.invariant.2)
-    (c.loop-i.invariant.3 ∙ ap (λ (k : ℕ). runs 7 (drop k a.codes.now)) e)
+    let v = c.loop-i.invariant in
+    let e : c.loop-i.i - 1 ≡ 0 = omega (arith, c.loop-i-test.false) in record {
+      groups =
+          groups-yes a.atoms a.shift a.codes.now c.loop-i.count
+          (subst (λ (k : ℕ). climbs a.atoms a.shift (drop k a.codes.now) ≡ true) e v.order)
+          (v.groups ∙ ap (λ (k : ℕ). runs 7 (drop k a.codes.now)) e);
+      few = omega (arith, v.few, v.some);
+    }

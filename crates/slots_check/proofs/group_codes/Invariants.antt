@@ -1,15 +1,16 @@
 -- `slots_check::group_codes`. The loop: the groups that are left are in order from `least` on exactly if all are, and what is counted, and
 -- what they hold, make the whole. Assumes nothing.
-use mathlib.Core.Path.{◌≡◌}
-use Prim.Native.Nat.{◌+◌, ◌-◌, ◌*◌, ◌≤◌}
-use lib.ListN.{length, drop}
+use Rattle.std.proofs.Common.{◌≡◌, ◌+◌, ◌*◌, ◌%◌, ◌≤◌, length}
+use Rattle.std.specs.Slice.Iter.{chunks_exact_rest, chunks_exact_size}
+use Rattle.model.specs.Records.{group_length}
 use Rattle.slots_check.specs.Check.{groups_ok, code_count}
 use Rattle.slots_check.proofs.group_codes.Given as goal
 
-abbrev pub invariant-loop-at : goal.invariant-loop-at
-invariant-loop-at l =
-    (l.at ≤ length l.words) × (groups_ok l.apart l.atoms l.least (drop l.at l.words) ≡ groups_ok l.apart l.atoms l.initial.least (drop l.initial.at l.words))
-    × (l.count ≤ 64 * l.at) × (l.count + code_count (drop l.at l.words) ≡ l.initial.count + code_count (drop l.initial.at l.words))
-
-abbrev pub decreases-loop-at : goal.decreases-loop-at
-decreases-loop-at l = length l.words - l.at
+abbrev pub invariant-loop-group : goal.invariant-loop-group
+invariant-loop-group l = record {
+  size : chunks_exact_size l.group-iterator ≡ group_length;
+  whole : length (chunks_exact_rest l.group-iterator) % group_length ≡ 0;
+  order : groups_ok l.apart l.atoms l.least (chunks_exact_rest l.group-iterator) ≡ groups_ok l.apart l.atoms 0 l.words;
+  few : l.count + 64 * length (chunks_exact_rest l.group-iterator) ≤ 64 * length l.words;
+  sum : l.count + code_count (chunks_exact_rest l.group-iterator) ≡ code_count l.words;
+}
