@@ -39,23 +39,21 @@ fn count_words(codes: &[u64]) -> usize
     requires { below (2 * max_atoms) codes.now ≡ true }
     ensures { result ≡ length (groups codes.now) }
 {
-    if codes.len() == 0 {
+    let [first, rest @ ..] = codes else {
         return 0;
-    }
+    };
     let mut count = codes.len();
     // The group of the last literal. A proposal's codes are below 2 * MAX_ATOMS, so it is at most MAX_ATOMS / WORD_BITS - 1, which is
     // 16,383: 16 bits hold it.
-    let mut previous = (codes[0] / 2 / WORD_BITS) as u16;
-    let mut i: usize = 1;
-    while i < codes.len() {
+    let mut previous = (*first / 2 / WORD_BITS) as u16;
+    for code in rest {
         // Compared as whole words, which is faster.
         let last = previous as u64;
-        let group = codes[i] / 2 / WORD_BITS;
+        let group = *code / 2 / WORD_BITS;
         if group == last {
             count -= 1;
         }
         previous = group as u16;
-        i += 1;
     }
     count
 }
@@ -169,12 +167,9 @@ fn pack(codes: &[u64], out: &mut [u64])
     ensures { out.new ≡ packs codes.now }
 {
     let mut at = out.len();
-    let mut i = codes.len();
-    while 0 < i {
-        i -= 1;
-        let code = codes[i];
-        at -= GROUP_WORDS * begins(out, at, code / 2 / 64);
-        enter(out, at, code);
+    for code in codes.iter().rev() {
+        at -= GROUP_WORDS * begins(out, at, *code / 2 / 64);
+        enter(out, at, *code);
     }
 }
 
