@@ -57,10 +57,7 @@ fn find_room(
             if (rows as u64) < limits.tier_rows {
                 return Some(Room::After);
             }
-            let victim = tier::victim(slots, rows, founded <= limits.founded_floor);
-            if victim == rows {
-                return None;
-            }
+            let victim = tier::victim(slots, rows, founded <= limits.founded_floor)?;
             Some(Room::Victim(victim))
         }
     }
