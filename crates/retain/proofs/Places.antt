@@ -2,7 +2,7 @@
 use mathlib.Core.Path.{◌≡◌, refl, sym, ap, ap₂, ◌∙◌}
 use mathlib.Core.Bool.{Bool, true, false, ◌||◌}
 use mathlib.Core.List.{List, [], ◌∷◌}
-use mathlib.Core.Option as option
+use mathlib.Core.Option as maybe
 use mathlib.Core.Option.{none, some}
 use Rattle.std.specs.Prelude.{Option, Some, None}
 use Prim.Native.Nat.{ℕ, suc, ◌+◌, ◌-◌, ◌≤◌, ◌<◌}
@@ -22,7 +22,7 @@ use Rattle.retain.specs.declared.Room.TheVariants.{After, First, Victim}
 use Rattle.retain.specs.Places.{room_of}
 
 -- ---- the first position that is marked
-abbrev sought : Bool → ℕ → option.Option ℕ
+abbrev sought : Bool → ℕ → maybe.Option ℕ
 sought true n = some n
 sought false n = none
 
@@ -70,7 +70,7 @@ module _ (ws : List ℕ) (es : List Entry) where
       go false h = refl
 
   -- ---- the room by its tests
-  abbrev tests : Bool → Bool → option.Option ℕ → Option Room
+  abbrev tests : Bool → Bool → maybe.Option ℕ → Option Room
   tests a b x =
       elim a as (λ k. Option Room) [
         | true ↦ Some (First (place_of ks))
@@ -81,7 +81,7 @@ module _ (ws : List ℕ) (es : List Entry) where
       ]
 
   module _ (l : LearningLimits) (rows : ℕ) (e : length es ≡ rows) where
-    tested : {a b : Bool} {x : option.Option ℕ} → any_replaced ks ≡ a → ltb (length es) l.tier_rows ≡ b → victim l es ≡ x
+    tested : {a b : Bool} {x : maybe.Option ℕ} → any_replaced ks ≡ a → ltb (length es) l.tier_rows ≡ b → victim l es ≡ x
         → tests a b x ≡ room_of l es ks
     unfolding room_of
     tested {a} {b} p q s = ap (tests a b) (sym s) ∙ ap₂ (λ (x y : Bool). tests x y (victim l es)) (sym p) (sym q)
@@ -95,7 +95,7 @@ module _ (ws : List ℕ) (es : List Entry) where
 
       -- the tier is full: the victim, if there is one
       pub room-full : l.tier_rows ≤ rows → (founded : ℕ) → founded ≡ founded_rows es
-          → (x : option.Option ℕ) → x ≡ victim_among (leb founded l.founded_floor) es → tests false false x ≡ room_of l es ks
+          → (x : maybe.Option ℕ) → x ≡ victim_among (leb founded l.founded_floor) es → tests false false x ≡ room_of l es ks
       unfolding victim protects
       room-full h founded c x w =
           tested (next-none rows e q) (le-ltb (length es) l.tier_rows (omega arith))

@@ -2,7 +2,7 @@
 use mathlib.Core.Path.{◌≡◌, refl, sym, ap, ◌∙◌, subst}
 use mathlib.Core.Bool.{Bool, true, false, ◌||◌, true≢false, false≢true}
 use mathlib.Core.List.{List, [], ◌∷◌, ◌++◌}
-use mathlib.Core.Option as option
+use mathlib.Core.Option as maybe
 use mathlib.Core.Option.{none, some}
 use Rattle.std.specs.Prelude.{Option, Some, None}
 use Prim.Native.Nat.{ℕ, suc, ◌+◌, ◌<◌}
@@ -31,7 +31,7 @@ pub placement_by-room : (l : LearningLimits) (es : List Entry) (ks : List Examin
 unfolding placement_by room_of
 placement_by-room l es ks p = go (any_replaced ks) (ltb (length es) l.tier_rows) (victim l es)
   where
-    go : (a b : Bool) (x : option.Option ℕ)
+    go : (a b : Bool) (x : maybe.Option ℕ)
         → (elim (a || b) as (λ k. Placement) [
           | true ↦ placing ks p
           | false ↦ elim x as (λ k. Placement) [ none ↦ protected | some v ↦ evicting v p ]
@@ -63,7 +63,7 @@ unfolding room_of
 room-told l es ks {r} e =
     subst (ToldOr l es ks) (sym e) (go (any_replaced ks) (ltb (length es) l.tier_rows) (victim l es) refl refl refl)
   where
-    go : (a b : Bool) (x : option.Option ℕ) → any_replaced ks ≡ a → ltb (length es) l.tier_rows ≡ b → victim l es ≡ x
+    go : (a b : Bool) (x : maybe.Option ℕ) → any_replaced ks ≡ a → ltb (length es) l.tier_rows ≡ b → victim l es ≡ x
         → ToldOr l es ks (elim a as (λ k. Option Room) [
           | true ↦ Some (First (place_of ks))
           | false ↦ elim b as (λ k. Option Room) [
