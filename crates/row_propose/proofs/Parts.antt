@@ -15,9 +15,9 @@ use types.Run.{OneOf}
 use denote.Enum.Declared.{tag_of}
 use Rattle.meter.specs.declared.Meter.{Meter}
 use Rattle.meter.specs.declared.Account.{Account}
-use Rattle.meter.specs.declared.Judged.{Judged}
-use Rattle.meter.specs.declared.Verdict.{Verdict}
-use Rattle.meter.specs.declared.Verdict.TheVariants as verdict
+use Rattle.meter.specs.Judged.{Judged}
+use Rattle.meter.specs.Verdict.{Verdict}
+use Rattle.meter.specs.Verdict as verdict
 use Rattle.meter.specs.contracts.Verdict.{the_type}
 use Rattle.meter.specs.Meter.{pay, judged}
 use Rattle.model.specs.Records.{Row, literals, slot_words, max_conditions, max_outputs, body_at, body_words}

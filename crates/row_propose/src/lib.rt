@@ -8,7 +8,7 @@ ghost use Rattle.model.specs.Records.{within, is_row_over, literals, slot_words,
 ghost use Rattle.model.specs.Slots.{row_in};
 ghost use Rattle.slots.specs.Cursor.{Sound, list_of};
 ghost use Rattle.slots.specs.Layout.{Laid, proposal, row_of};
-ghost use Rattle.meter.specs.Payment.{WhereYes};
+ghost use Rattle.meter.specs.Results.{WhereYes};
 ghost use Rattle.row_propose.specs.Parts.{blank_of};
 
 use lists::{copy, fill_zero};

@@ -6,7 +6,7 @@ use Prim.Native.Nat.{ℕ, suc, ◌<◌, compare, Ordering}
 use native.Mathlib.Omega.{arith}
 use Rattle.meter.specs.declared.Meter.{Meter}
 use Rattle.meter.specs.declared.Account.{Account}
-use Rattle.meter.specs.declared.Judged.{Judged}
+use Rattle.meter.specs.Judged.{Judged}
 use Rattle.meter.specs.Meter.{pay_one, pay, judged}
 use Rattle.model.specs.Rows.{includes, includes_reads}
 use Rattle.meter.specs.declared.Payment.TheVariants.{Paid, Ended}

@@ -7,15 +7,15 @@ use Prim.Native.Nat.{ℕ, ◌+◌, ◌-◌, ◌≤◌}
 use lib.ListN.{length, get_or}
 use borrow.Rule.Slice.PartMut.{mid_of}
 use Rattle.lists.specs.Lists.{put}
-use Rattle.meter.specs.declared.Judged.{Judged}
-use Rattle.meter.specs.declared.Verdict.{Verdict}
-use Rattle.meter.specs.declared.Verdict.TheVariants as verdict
+use Rattle.meter.specs.Judged.{Judged}
+use Rattle.meter.specs.Verdict.{Verdict}
+use Rattle.meter.specs.Verdict as verdict
 use Rattle.meter.specs.Meter.{pay, judged}
 use Rattle.model.specs.Records.{Row, literals, max_conditions, max_outputs, conditions_at, body_at}
 use Rattle.model.specs.Slots.{row_in}
 use Rattle.slots.specs.Cursor.{Sound, list_of}
 use Rattle.row_propose.specs.Parts.{blank_of}
-use Rattle.meter.specs.Payment.{WhereYes}
+use Rattle.meter.specs.Results.{WhereYes}
 use Rattle.meter.proofs.Payments.{on_yes, not_yes, where-map, where-not}
 use Rattle.row_propose.proofs.Parts.{mid-long, others, second_fits, two-parts, literals-both}
 use Rattle.row_propose.proofs.to_literals.Goals.{After-conditions, After-copy_side-first}
