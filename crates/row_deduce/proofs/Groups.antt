@@ -134,12 +134,24 @@ module _ (r : Region) (x present absent : ℕ) (hp : present < 2 ^ 64) (ha : abs
           go : (b : Bool) → test_bit a t ≡ b
               → (c d e : ℕ) × (failing r (codes_of x present absent) ≡ c ∷ codes_of x d e) × (d < 2 ^ 64) × (e < 2 ^ 64)
               × (bit_or e d ≡ bit_and u (u - 1))
-          go true q =
-              (2 * (64 * x + t), p, clear a, group-fails ∙ first_absent x p a p-lt a_lt some q, p-lt,
-              and-lt-l a ((2 ^ 64 - 1) - 2 ^ t) a_lt, rest-absent q)
-          go false q =
-              (2 * (64 * x + t) + 1, clear p, a, group-fails ∙ first-present x p a p-lt a_lt some q,
-              and-lt-l p ((2 ^ 64 - 1) - 2 ^ t) p-lt, a_lt, rest-present q)
+          go true q = (
+            2 * (64 * x + t),
+            p,
+            clear a,
+            group-fails ∙ first_absent x p a p-lt a_lt some q,
+            p-lt,
+            and-lt-l a ((2 ^ 64 - 1) - 2 ^ t) a_lt,
+            rest-absent q,
+          )
+          go false q = (
+            2 * (64 * x + t) + 1,
+            clear p,
+            a,
+            group-fails ∙ first-present x p a p-lt a_lt some q,
+            and-lt-l p ((2 ^ 64 - 1) - 2 ^ t) p-lt,
+            a_lt,
+            rest-present q,
+          )
 
       -- two bits or more
       group-two : (bit_and u (u - 1) ≡ 0 → ⊥) → (k l : ℕ) × (ls : List ℕ) × (failing r (codes_of x present absent) ≡ k ∷ l ∷ ls)

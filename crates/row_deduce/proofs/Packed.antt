@@ -4,19 +4,6 @@ use mathlib.Core.Bool.{true}
 use mathlib.Core.List.{List}
 use Prim.Native.Nat.{ℕ, ◌<◌}
 use native.Mathlib.Omega.{arith}
-<<<<<<< HEAD
-=======
-use lib.Bits.{bit_and, bit_or}
-use lib.Dec.{eqb}
-use lib.ListN.{get_or}
-use native.Mathlib.Decide.{ℕ_discrete}
-use borrow.Author.Tests.{eq-eqb, ne_eqb, eqb-true, eqb-false, not-true, not-false}
-use Rattle.words.specs.Bit.{first_bit}
-use Rattle.words.specs.Region.{Region}
-use Rattle.meter.specs.declared.Meter.{Meter}
-use Rattle.meter.specs.Tick.{Ticked}
-use Rattle.meter.specs.Meter.{tick_of}
->>>>>>> 751e3b3be1c8af29b73921a1c5b496dc890d70b5
 use Rattle.model.specs.Slots.{codes_of}
 use Rattle.slots.specs.declared.Side.{Side}
 use Rattle.row_deduce.specs.declared.Group.{Group}

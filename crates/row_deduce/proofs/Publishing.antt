@@ -12,10 +12,13 @@ use borrow.Author.Tests.{le-leb, lt-leb}
 use Rattle.words.specs.Literal.{code_bits, codes_wide, words_wide}
 use Rattle.words.specs.Region.{Region}
 use Rattle.words.proofs.Widths.{code-in-word}
+use Rattle.std.specs.Prelude.{Option, Result, Err}
 use Rattle.meter.specs.declared.Meter.{Meter}
+use Rattle.meter.specs.declared.Stopped as error
 use Rattle.meter.specs.Tick.{Ticked, Stopped}
 use Rattle.meter.specs.Meter.{tick_of}
 use Rattle.model.specs.Records.{group_length}
+use Rattle.model.specs.declared.Literal.{Literal}
 use Rattle.model.specs.declared.OutputCursor.{OutputCursor}
 use Rattle.model.specs.Slots.{codes_of, index_of, bits_of}
 use Rattle.model.specs.Deduction.{Published, published, output, stopped, end, failing, pending, loaded, give, given_out, packed_next}
@@ -25,10 +28,15 @@ use Rattle.slots.proofs.Codes.{codes-none}
 use Rattle.slots.proofs.Words.{codes-word, codes-index, codes-some, bits-present, bits-absent}
 use Rattle.row_deduce.specs.declared.Group.{Group}
 use Rattle.row_deduce.specs.Chunks.{chunk_at, chunks_from, group_at}
-use Rattle.row_deduce.specs.Publication.{loaded_from, single_given, single_next}
+use Rattle.row_deduce.specs.Publication.{published_as, loaded_from, single_given, single_next}
 use Rattle.row_deduce.proofs.Groups.{unless, publish-codes}
 use Rattle.row_deduce.proofs.Turns.{chunk-group, chunks-step, chunks-end}
 use Rattle.row_deduce.proofs.Packed.{group-chunk}
+
+-- ---- a function that stops where a tick is not made
+pub stops-on : {r : Result (Option Literal) error.Stopped} {e : error.Stopped} (k : OutputCursor) (m : Meter) {w : Published}
+    → r ≡ Err e → published stopped k m ≡ w → published_as r k m ≡ w
+stops-on k m p q = ap (λ (x : Result (Option Literal) error.Stopped). published_as x k m) p ∙ q
 
 -- ---- the group as it is loaded
 pub chunk-index : (ws : List ℕ) (s : Side) (g : ℕ) → s.packed ≡ true → get_or ws (s.base + group_length * g + 1) 0 < 2 ^ 64
@@ -51,7 +59,7 @@ module _ (r : Region) (ws : List ℕ) (s : Side) (g : ℕ) (k : Group) (packed :
   absent = unless k.absent (get_or r.held k.index 0) (get_or r.cut k.index 0)
 
   left_is : failing r (chunk_at ws s g) ≡ codes_of k.index present absent
-  left_is = ap (failing r) (group-chunk ws s g k packed is) ∙ publish-codes r k.index k.present k.absent hh hc apart
+  left_is = ap (failing r) (group-chunk ws s g k is packed) ∙ publish-codes r k.index k.present k.absent hh hc apart
 
   present-lt : present < 2 ^ 64
   present-lt = lt_of_le_of_lt (and_le_l k.present _) hp
@@ -60,7 +68,7 @@ module _ (r : Region) (ws : List ℕ) (s : Side) (g : ℕ) (k : Group) (packed :
   absent-lt = lt_of_le_of_lt (and_le_l k.absent _) ha
 
   index_is : k.index ≡ index_of (chunk_at ws s g)
-  index_is = sym (ap index_of (group-chunk ws s g k packed is) ∙ codes-index k.index k.present k.absent hp ha some)
+  index_is = sym (ap index_of (group-chunk ws s g k is packed) ∙ codes-index k.index k.present k.absent hp ha some)
 
   pub loaded-is : ◌≡◌ {A = OutputCursor} (record { next = g + 1; word = k.index; present = present; absent = absent })
       (loaded_from r (chunk_at ws s g) g)
@@ -147,12 +155,10 @@ module _ (r : Region) (ws : List ℕ) (s : Side) (cursor : OutputCursor) (start 
   on = chunks_from ws s (s.count - k.next) k.next
 
   -- an output of the loaded group is left
-  pub given-stopped : {n : Meter} → k.present < 2 ^ 64 → k.absent < 2 ^ 64 → 0 < bit_or k.absent k.present → Stopped n ≡ tick_of m
+  pub given-stopped : {n : Meter} (c : ℕ) (cs : List ℕ) → codes_of k.word k.present k.absent ≡ c ∷ cs → Stopped n ≡ tick_of m
       → published stopped k n ≡ packed_next r (chunks_from ws s (s.count - cursor.next) cursor.next) cursor start
   unfolding give
-  given-stopped hp ha some e =
-      let q = codes-some k.word k.present k.absent hp ha some in
-      ap (give q.0 q.1 k) e ∙ packed-given r k m on q.0 q.1 q.2 ∙ w.same
+  given-stopped c cs first e = ap (give c cs k) e ∙ packed-given r k m on c cs first ∙ w.same
 
   pub given-ticked : {n : Meter} (c present absent : ℕ) → present < 2 ^ 64 → absent < 2 ^ 64
       → codes_of k.word k.present k.absent ≡ c ∷ codes_of k.word present absent → Ticked n ≡ tick_of m

@@ -6,12 +6,6 @@ use Prim.Native.Nat.{ℕ}
 use Rattle.std.specs.Prelude.{Some, None}
 use Rattle.lists.specs.Lists.{any, select}
 use Rattle.words.specs.Region.{Region, holds, contradicts}
-<<<<<<< HEAD
-=======
-use Rattle.meter.specs.declared.Meter.{Meter}
-use Rattle.meter.specs.Tick.{Ticked}
-use Rattle.meter.specs.Meter.{tick_of}
->>>>>>> 751e3b3be1c8af29b73921a1c5b496dc890d70b5
 use Rattle.model.specs.Deduction.{failing, contradicted, contradictions}
 use Rattle.row_deduce.specs.declared.ConditionState.TheVariants.{Idle, Holds, Undecided}
 use Rattle.row_deduce.specs.Walks.{state_of, first_of}

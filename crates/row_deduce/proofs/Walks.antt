@@ -7,7 +7,7 @@ use native.Mathlib.Omega.{arith}
 use lib.Dec.{leb}
 use lib.ListN.{length}
 use borrow.Author.Tests.{ne_eqb, le-leb}
-use Rattle.std.specs.Prelude.{Option, Some, None}
+use Rattle.std.specs.Prelude.{Option, Some, None, Result, Err}
 use Rattle.lists.specs.Counts.{Sorted}
 use Rattle.lists.specs.Lists.{any, select, filled, concat, least, ascending}
 use Rattle.lists.proofs.Marks.{sorted-select}
@@ -17,6 +17,7 @@ use Rattle.lists.proofs.Tests.{any_append, ascending-sorted}
 use Rattle.words.specs.Literal.{opposite}
 use Rattle.words.specs.Region.{Region, holds, contradicts}
 use Rattle.meter.specs.declared.Meter.{Meter}
+use Rattle.meter.specs.declared.Stopped as error
 use Rattle.meter.specs.Tick.{Tick, Ticked, Stopped}
 use Rattle.meter.specs.Meter.{tick_of, on_tick, ticks}
 use Rattle.meter.proofs.Laws.{ticks-add}
@@ -29,7 +30,7 @@ use Rattle.model.specs.Deduction.{output_looks, looks_on, deduction_ticks}
 use Rattle.model.proofs.Packing.{Under, concat-groups}
 use Rattle.row_deduce.specs.declared.ConditionState.{ConditionState}
 use Rattle.row_deduce.specs.declared.ConditionState.TheVariants.{Idle, Holds, Undecided}
-use Rattle.row_deduce.specs.Walks.{literal, Walked, done, halted, once, first_of, state_of, both_of, read_conditions, read_outputs}
+use Rattle.row_deduce.specs.Walks.{literal, Walked, done, halted, walked, once, first_of, state_of, both_of, read_conditions, read_outputs}
 
 -- what is said of conditions that stand so, given the contradicted outputs; whether one alone is undecided
 abbrev says : ConditionState → List ℕ → Deduction
@@ -42,6 +43,11 @@ abbrev is_open : ConditionState → Bool
 is_open Idle = false
 is_open Holds = false
 is_open (Undecided c) = true
+
+-- ---- a function that stops where it calls one that is stopped
+pub walked-on : {A : Type 0} {r : Result A error.Stopped} {e : error.Stopped} (m : Meter) {w : Walked A}
+    → r ≡ Err e → halted m ≡ w → walked r m ≡ w
+walked-on {A} m p q = ap (λ (x : Result A error.Stopped). walked x m) p ∙ q
 
 -- ---- back from what is said once the ticks are made
 halted-by : {A : Type 0} (a : A) (t : Tick) (k : Meter) → halted k ≡ once a t → t ≡ Stopped k
@@ -186,7 +192,6 @@ module _ (r : Region) where
     clashing-hit {n} {o} e f = go (contradictions r k) refl f
       where
         go : (os : List ℕ) → contradictions r k ≡ os → first_of os ≡ Some o → done (Some o) n ≡ read_outputs r (k ∷ ks) m
-        unfolding read_outputs
         go [] h f = cc
         go (p ∷ ps) h f = rw (sym e, h, read_outputs) (ap (λ (x : Option ℕ). done x n) (sym f))
 
@@ -196,7 +201,6 @@ module _ (r : Region) where
     clashing-on {n} e f = go (contradictions r k) refl f
       where
         go : (os : List ℕ) → contradictions r k ≡ os → first_of os ≡ None → read_outputs r ks n ≡ read_outputs r (k ∷ ks) m
-        unfolding read_outputs
         go [] h f = rw (sym e, h, read_outputs)
         go (p ∷ ps) h f = cc
 

@@ -10,7 +10,7 @@ ghost use Rattle.model.specs.Records.{group_length};
 ghost use Rattle.model.specs.Rows.{packed};
 ghost use Rattle.model.specs.Slots.{row_in, codes_of};
 ghost use Rattle.model.specs.Deduction.{deduction, deduction_ticks, failing, contradictions, chunks, packed_next, next_output};
-ghost use Rattle.model.specs.Operations.{unloaded, cursor_ok};
+ghost use Rattle.model.specs.Operations.{unloaded, bits_among, cursor_ok};
 ghost use Rattle.slots.specs.Layout.{Holds, output_side};
 ghost use Rattle.row_deduce.specs.Chunks.{chunk_at, chunks_from, group_at, Inside, Walkable, OneSigned, Publishable, SmallCodes, Matched};
 ghost use Rattle.row_deduce.specs.Publication.{published_as, loaded_from, single_next, of_words, Pointed};
@@ -130,8 +130,8 @@ fn group_contradicted(k: Group, held: &[u64], cut: &[u64]) -> Option<u64>
     if absent | present == 0 {
         return None;
     }
-    let p = slots::take(index as u64, present, absent);
-    Some(p.code)
+    let least = slots::take(index as u64, present, absent);
+    Some(least.code)
 }
 
 // The least output of chunk `g` of a side that is contradicted.
@@ -284,8 +284,8 @@ fn packed_next(
         meter.tick()?;
         *cursor = loaded(slot, side, cursor.next, held, cut);
     }
-    meter.tick()?;
     let p = slots::take(cursor.word, cursor.present, cursor.absent);
+    meter.tick()?;
     cursor.present = p.present;
     cursor.absent = p.absent;
     let code = p.code as u32;
@@ -367,13 +367,20 @@ fn is_unloaded(cursor: OutputCursor) -> bool
     cursor.word | (cursor.present | cursor.absent) == 0
 }
 
+// Whether bits are among those of a group.
+fn are_among(bits: u64, all: u64) -> bool
+    ensures { result ≡ bits_among bits all }
+{
+    bits & all == bits
+}
+
 // Whether word and bits of a cursor are of a group.
 fn is_of_group(cursor: OutputCursor, k: Group) -> bool
     ensures { result ≡ of_words cursor k }
 {
     cursor.word == k.index as u64
-        && cursor.present & k.present == cursor.present
-        && cursor.absent & k.absent == cursor.absent
+        && are_among(cursor.present, k.present)
+        && are_among(cursor.absent, k.absent)
 }
 
 // Whether a cursor stands in the outputs of a row, as one that the calls give back.
