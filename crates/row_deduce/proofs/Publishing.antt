@@ -1,5 +1,5 @@
 -- The next output of a row, by the tests that the code makes. Assumes nothing.
-use mathlib.Core.Path.{◌≡◌, refl, sym, ap, ap₂, ◌∙◌, subst}
+use mathlib.Core.Path.{◌≡◌, sym, ap, ap₂, ◌∙◌, subst}
 use mathlib.Core.Bool.{true, false}
 use mathlib.Core.List.{List, [], ◌∷◌}
 use Prim.Native.Nat.{ℕ, suc, ◌+◌, ◌-◌, ◌*◌, ◌^◌, ◌≤◌, ◌<◌}
@@ -25,7 +25,7 @@ use Rattle.model.specs.Deduction.{Published, published, output, stopped, end, fa
 use Rattle.model.proofs.Packing.{OneWord}
 use Rattle.slots.specs.declared.Side.{Side}
 use Rattle.slots.proofs.Codes.{codes-none}
-use Rattle.slots.proofs.Words.{codes-word, codes-index, codes-some, bits-present, bits-absent}
+use Rattle.slots.proofs.Words.{codes-word, codes-index, bits-present, bits-absent}
 use Rattle.row_deduce.specs.declared.Group.{Group}
 use Rattle.row_deduce.specs.Chunks.{chunk_at, chunks_from, group_at}
 use Rattle.row_deduce.specs.Publication.{published_as, loaded_from, single_given, single_next}

@@ -10,7 +10,6 @@ use Rattle.model.specs.Rows.{packed}
 use Rattle.model.specs.Slots.{row_in}
 use Rattle.model.specs.Deduction.{chunks}
 use Rattle.slots.specs.declared.Side.{Side}
-use Rattle.slots.specs.Layout.{condition_side}
 use Rattle.slots.proofs.Storing.{laid-stored}
 use Rattle.row_deduce.specs.Chunks.{chunks_of, Walkable, OneSigned}
 use Rattle.row_deduce.specs.declared.ConditionState.{ConditionState}

@@ -1,6 +1,4 @@
 -- `row_deduce::group_state`: the masks of the conditions that fail, by the test that the code makes. Assumes nothing.
-use mathlib.Core.Path.{◌≡◌, sym, ◌∙◌}
-use Prim.Native.Nat.{◌^◌, ◌<◌}
 use native.Mathlib.Omega.{arith}
 use Rattle.words.specs.Region.{region}
 use Rattle.row_deduce.proofs.Groups.{group-all, group-idle-clash, group-idle-two, group-open}

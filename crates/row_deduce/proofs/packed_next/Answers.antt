@@ -1,13 +1,11 @@
 -- `row_deduce::packed_next`: groups are loaded up to one that has an output, which is given. Assumes nothing.
-use mathlib.Core.Path.{◌≡◌, refl, ap}
+use mathlib.Core.Path.{◌≡◌, refl}
 use Prim.Native.Nat.{ℕ, ◌+◌, ◌*◌, ◌<◌}
 use native.Mathlib.Omega.{arith}
 use lib.ListN.{get_or}
 use Rattle.words.specs.Literal.{code_bits, words_wide}
-use Rattle.words.specs.Region.{region}
 use Rattle.meter.proofs.Payments.{passed}
 use Rattle.model.specs.Records.{group_length}
-use Rattle.model.specs.declared.OutputCursor.{OutputCursor}
 use Rattle.model.specs.Slots.{index_of}
 use Rattle.row_deduce.specs.Chunks.{chunk_at}
 use Rattle.row_deduce.proofs.Publishing.{chunk-index, code_lt, stops-on, given-stopped, given-ticked, load-end, load-stopped, load-on}

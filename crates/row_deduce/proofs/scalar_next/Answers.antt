@@ -1,5 +1,4 @@
 -- `row_deduce::scalar_next`: the code at the cursor, or the end. Assumes nothing.
-use native.Mathlib.Omega.{arith}
 use Rattle.meter.proofs.Payments.{passed}
 use Rattle.row_deduce.proofs.Publishing.{stops-on, single-end, single-stopped, single-ticked}
 use Rattle.row_deduce.proofs.scalar_next.Goals as goal
