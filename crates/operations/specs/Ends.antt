@@ -5,8 +5,9 @@ use Rattle.model.specs.declared.Header.{Header}
 use Rattle.model.specs.declared.Refusal.{Refusal}
 use Rattle.words.specs.Region.{region}
 use Rattle.meter.specs.declared.Meter.{Meter}
+use Rattle.meter.specs.Meter.{made}
+use Rattle.model.specs.declared.Deduction.{Deduction}
 use Rattle.model.specs.declared.Deduction.TheVariants.{Nothing}
-use Rattle.model.specs.declared.DeduceAnswer.{DeduceAnswer}
 use Rattle.model.specs.declared.DeduceAnswer.TheVariants as deduce-answer
 use Rattle.model.specs.declared.MakeResult.{MakeResult}
 use Rattle.model.specs.declared.HitResult.{HitResult}
@@ -17,8 +18,7 @@ use Rattle.model.specs.declared.DecideResult.{DecideResult}
 use Rattle.model.specs.Operations.{MakeEnd, HitEnd, DeduceEnd, NextEnd, BeginEnd, DecideEnd}
 use Rattle.model.specs.Answers.{replied, make_reply, made_header, hit_reply, deduce_reply, next_reply, begin_reply, decide_reply}
 use Rattle.contents.specs.Lent.{lent}
-use Rattle.row_deduce.specs.declared.Deduced.{Deduced}
-use Rattle.row_deduce.specs.declared.NextStep.{NextStep}
+use Rattle.row_deduce.specs.Walks.{Walked, done, halted}
 
 -- the result of a call that makes no tick, from its answer
 abbrev pub unpriced : Result Header Refusal → MakeResult
@@ -41,20 +41,13 @@ hit_end r slots postings = record { answer = replied hit_reply r.answer; ledger 
 abbrev pub refused_by : Refusal → Meter → DeduceResult
 refused_by r m = record { answer = Err r; deduction = Nothing; meter = m; ticks = 0 }
 
-abbrev pub stopped_as : Bool → DeduceAnswer
-stopped_as true = deduce-answer.Stopped
-stopped_as false = deduce-answer.Done
-
--- stopped or done, as the row's own deduction was
-abbrev pub deduced_by : Deduced → DeduceResult
-deduced_by d = record { answer = Ok (stopped_as d.stopped); deduction = d.deduction; meter = d.meter; ticks = d.ticks }
+-- done or stopped, as the row's own deduction was, with the ticks made since the meter stood at m
+abbrev pub deduced_by : Meter → Walked Deduction → DeduceResult
+deduced_by m (done d n) = record { answer = Ok deduce-answer.Done; deduction = d; meter = n; ticks = made m n }
+deduced_by m (halted n) = record { answer = Ok deduce-answer.Stopped; deduction = Nothing; meter = n; ticks = made m n }
 
 abbrev pub deduce_end : DeduceResult → DeduceEnd
 deduce_end r = record { answer = replied (λ a. deduce_reply a r.deduction) r.answer; deduction = r.deduction; meter = r.meter; ticks = r.ticks }
-
--- the next output, as the row's own walk gives it
-abbrev pub stepped_by : NextStep → NextResult
-stepped_by n = record { answer = Ok n.answer; cursor = n.cursor; meter = n.meter; ticks = n.ticks }
 
 abbrev pub output_end : NextResult → NextEnd
 output_end r = record { answer = replied next_reply r.answer; cursor = r.cursor; meter = r.meter; ticks = r.ticks }

@@ -50,11 +50,11 @@ pub walked-on : {A : Type 0} {r : Result A error.Stopped} {e : error.Stopped} (m
 walked-on {A} m p q = ap (λ (x : Result A error.Stopped). walked x m) p ∙ q
 
 -- ---- back from what is said once the ticks are made
-halted-by : {A : Type 0} (a : A) (t : Tick) (k : Meter) → halted k ≡ once a t → t ≡ Stopped k
+pub halted-by : {A : Type 0} (a : A) (t : Tick) (k : Meter) → halted k ≡ once a t → t ≡ Stopped k
 halted-by a (Ticked n) k e = cc
 halted-by a (Stopped n) k e = cc
 
-done-by : {A : Type 0} (a b : A) (t : Tick) (k : Meter) → done b k ≡ once a t → (t ≡ Ticked k) × (a ≡ b)
+pub done-by : {A : Type 0} (a b : A) (t : Tick) (k : Meter) → done b k ≡ once a t → (t ≡ Ticked k) × (a ≡ b)
 done-by a b (Ticked n) k e = (cc, cc)
 done-by a b (Stopped n) k e = (cc, cc)
 
