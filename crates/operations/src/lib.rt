@@ -14,7 +14,7 @@ use lists::fill_zero;
 use meter::{Capture, Meter, Sharing, Stopped};
 use model::{
     BeginResult, DecideResult, DeduceAnswer, DeduceResult, Deduction, Header, HitResult,
-    LearningLimits, Literal, MakeResult, Mark, NextAnswer, NextResult, OutputCursor, POSTING_WORDS,
+    LearningLimits, Literal, MakeResult, NextAnswer, NextResult, OutputCursor, POSTING_WORDS,
     Refusal, SLOT_WORDS,
 };
 use row_deduce::{cursor_ok, deduction, next_publication_output};
@@ -39,7 +39,7 @@ fn fresh_header(limits: LearningLimits, number: u64) -> Header
         founded: 0,
         stale: true,
         full: true,
-        mark: Mark::Unmarked,
+        mark: None,
     }
 }
 

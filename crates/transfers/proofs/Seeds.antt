@@ -10,7 +10,7 @@ use Rattle.meter.specs.Tick.{Tick, Ticked, Stopped}
 use Rattle.meter.specs.Meter.{tick_of}
 use Rattle.model.specs.declared.LearningLimits.{LearningLimits}
 use Rattle.model.specs.declared.Mark.{Mark}
-use Rattle.model.specs.declared.Mark.TheVariants.{Unmarked, Marked}
+use Rattle.std.specs.Prelude.{Option, Some, None}
 use Rattle.model.specs.Records.{Entry, Ledger, with_delivered}
 use Rattle.model.specs.Retention.{Outcome, Stops, Declines, Subsumes, Adds, Retention}
 use Rattle.model.specs.Transfers.{Transfer, Progress, whole, declined, stopped, ticked, receive, received, change_at, seed_rows, mark_for}
@@ -104,16 +104,16 @@ module _ (tier : LearningLimits) (mark : ℕ) where
       seed-split = by-mark (leb e.born mark) refl
 
 -- ---- the mark
-module _ (number : ℕ) (x : Mark) where
-  pub mark-none : x ≡ Unmarked → 0 ≡ mark_for number x
+module _ (number : ℕ) (x : Option Mark) where
+  pub mark-none : x ≡ None → 0 ≡ mark_for number x
   unfolding mark_for
   mark-none e = sym (ap (mark_for number) e)
 
-  module _ (n b : ℕ) (e : x ≡ Marked n b) where
-    pub mark-same : n ≡ number → b ≡ mark_for number x
+  module _ (m : Mark) (e : x ≡ Some m) where
+    pub mark-same : m.number ≡ number → m.born ≡ mark_for number x
     unfolding mark_for
-    mark-same q = sym (ap (mark_for number) e ∙ rw (eq-eqb n number q, mark_for))
+    mark-same q = sym (ap (mark_for number) e ∙ rw (eq-eqb m.number number q, mark_for))
 
-    pub mark-other : (n ≡ number → ⊥) → 0 ≡ mark_for number x
+    pub mark-other : (m.number ≡ number → ⊥) → 0 ≡ mark_for number x
     unfolding mark_for
-    mark-other q = sym (ap (mark_for number) e ∙ rw (ne_eqb n number q, mark_for))
+    mark-other q = sym (ap (mark_for number) e ∙ rw (ne_eqb m.number number q, mark_for))

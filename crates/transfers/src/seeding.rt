@@ -98,17 +98,12 @@ fn seed_rows(
 }
 
 // The born of the store's row up to which a tier was seeded: 0 if its mark is none, or another store's.
-fn mark_for(number: u64, mark: Mark) -> u64
+fn mark_for(number: u64, mark: Option<Mark>) -> u64
     ensures { result ≡ mark_for number mark }
 {
     match mark {
-        Mark::Unmarked => 0,
-        Mark::Marked { number: n, born } => {
-            if n == number {
-                return born;
-            }
-            0
-        }
+        Some(mark) if mark.number == number => mark.born,
+        _ => 0,
     }
 }
 
@@ -118,10 +113,10 @@ fn mark_moved(progress: Progress, store: Header, header: Header) -> Header
 {
     match progress {
         Progress::Whole => {
-            let mark = Mark::Marked {
+            let mark = Some(Mark {
                 number: store.number,
                 born: store.born,
-            };
+            });
             Header { mark, ..header }
         }
         Progress::Declined => header,

@@ -9,7 +9,7 @@ use borrow.Author.Tests.{ne_eqb}
 use Rattle.meter.specs.declared.Meter.{Meter}
 use Rattle.model.specs.declared.LearningLimits.{LearningLimits}
 use Rattle.model.specs.declared.Mark.{Mark}
-use Rattle.model.specs.declared.Mark.TheVariants.{Unmarked, Marked}
+use Rattle.std.specs.Prelude.{Option, Some, None}
 use Rattle.model.specs.declared.Header.{Header}
 use Rattle.model.specs.declared.OutputCursor.{OutputCursor}
 use Rattle.model.specs.Answers.{flag_word}
@@ -22,30 +22,30 @@ flag-read : (b : Bool) → flag_in (flag_word b) ≡ b
 flag-read true = refl
 flag-read false = refl
 
-pub mark-none : (w n b : ℕ) → w ≡ 0 → Unmarked ≡ mark_in w n b
+pub mark-none : (w n b : ℕ) → w ≡ 0 → None ≡ mark_in w n b
 mark-none w n b e = ap (λ (k : ℕ). mark_in k n b) (sym e)
 
-pub mark-some : (w n b : ℕ) → (w ≡ 0 → ⊥) → Marked n b ≡ mark_in w n b
+pub mark-some : (w n b : ℕ) → (w ≡ 0 → ⊥) → Some (record { number = n; born = b }) ≡ mark_in w n b
 mark-some w n b f = rw (ne_eqb w 0 f, mark_in)
 
 -- the words of a mark, and one more
-abbrev mark_then : Mark → ℕ → List ℕ
+abbrev mark_then : Option Mark → ℕ → List ℕ
 mark_then m k = mark_words m ++ (k ∷ [])
 
-pub mark-three : (m : Mark) (k : ℕ) → get_or (mark_words m) 0 0 ∷ get_or (mark_words m) 1 0 ∷ get_or (mark_words m) 2 0 ∷ k ∷ [] ≡ mark_then m k
-mark-three Unmarked k = refl
-mark-three (Marked n b) k = refl
+pub mark-three : (m : Option Mark) (k : ℕ) → get_or (mark_words m) 0 0 ∷ get_or (mark_words m) 1 0 ∷ get_or (mark_words m) 2 0 ∷ k ∷ [] ≡ mark_then m k
+mark-three None k = refl
+mark-three (Some x) k = refl
 
-mark-read : (m : Mark) (k : ℕ) → mark_in (get_or (mark_then m k) 0 0) (get_or (mark_then m k) 1 0) (get_or (mark_then m k) 2 0) ≡ m
-mark-read Unmarked k = refl
-mark-read (Marked n b) k = refl
+mark-read : (m : Option Mark) (k : ℕ) → mark_in (get_or (mark_then m k) 0 0) (get_or (mark_then m k) 1 0) (get_or (mark_then m k) 2 0) ≡ m
+mark-read None k = refl
+mark-read (Some x) k = refl
 
-last-read : (m : Mark) (k : ℕ) → get_or (mark_then m k) 3 0 ≡ k
-last-read Unmarked k = refl
-last-read (Marked n b) k = refl
+last-read : (m : Option Mark) (k : ℕ) → get_or (mark_then m k) 3 0 ≡ k
+last-read None k = refl
+last-read (Some x) k = refl
 
 -- a header of limits and a mark that were read, and of the words between
-pub header-parts : (ws : List ℕ) {l : LearningLimits} {m : Mark} → l ≡ limits_in ws → m ≡ mark_in (get_or ws 22 0) (get_or ws 23 0) (get_or ws 24 0)
+pub header-parts : (ws : List ℕ) {l : LearningLimits} {m : Option Mark} → l ≡ limits_in ws → m ≡ mark_in (get_or ws 22 0) (get_or ws 23 0) (get_or ws 24 0)
     →
     header_with l m ws ≡ header_in ws
 unfolding header_in
@@ -63,9 +63,9 @@ pub cursor-read : (k : OutputCursor) → cursor_in (cursor_words k) ≡ k
 cursor-read k = refl
 
 -- ---- as many words as each has
-mark-long : (m : Mark) (k : ℕ) → length (mark_then m k) ≡ 4
-mark-long Unmarked k = refl
-mark-long (Marked n b) k = refl
+mark-long : (m : Option Mark) (k : ℕ) → length (mark_then m k) ≡ 4
+mark-long None k = refl
+mark-long (Some x) k = refl
 
 pub header-long : (h : Header) → length (header_words h) ≡ header_length
 unfolding header_words

@@ -4,7 +4,7 @@ use Rattle.std.specs.Prelude.{Bool, true, false, not, List, [], ◌∷◌, ◌++
 use Rattle.meter.specs.declared.Meter.{Meter}
 use Rattle.model.specs.declared.LearningLimits.{LearningLimits}
 use Rattle.model.specs.declared.Mark.{Mark}
-use Rattle.model.specs.declared.Mark.TheVariants.{Unmarked, Marked}
+use Rattle.std.specs.Prelude.{Option, Some, None}
 use Rattle.model.specs.declared.Header.{Header}
 use Rattle.model.specs.declared.OutputCursor.{OutputCursor}
 use Rattle.model.specs.Records.{header}
@@ -45,12 +45,12 @@ limits_in ws = record {
 }
 
 -- ---- The seed mark: 0 or 1, the store's number, its born; three zeros for none
-abbrev pub mark_words : Mark → List ℕ
-mark_words Unmarked = 0 ∷ 0 ∷ 0 ∷ []
-mark_words (Marked number born) = 1 ∷ number ∷ born ∷ []
+abbrev pub mark_words : Option Mark → List ℕ
+mark_words None = 0 ∷ 0 ∷ 0 ∷ []
+mark_words (Some m) = 1 ∷ m.number ∷ m.born ∷ []
 
-abbrev pub mark_in : ℕ → ℕ → ℕ → Mark
-mark_in w number born = elim (flag_in w) [ true ↦ Marked number born | false ↦ Unmarked ]
+abbrev pub mark_in : ℕ → ℕ → ℕ → Option Mark
+mark_in w number born = elim (flag_in w) [ true ↦ Some (record { number = number; born = born }) | false ↦ None ]
 
 -- ---- Header: the limits first, then 01's order; the count of Founded rows (02, Eight) is the last, so that the others keep their places
 unfoldable pub header_words : Header → List ℕ
@@ -80,7 +80,7 @@ header_words h =
     ∷ (mark_words h.mark ++ (h.founded ∷ []))
 
 -- a header of its limits and its mark, and of the words between
-abbrev pub header_with : LearningLimits → Mark → List ℕ → Header
+abbrev pub header_with : LearningLimits → Option Mark → List ℕ → Header
 header_with l m ws =
     header l (get_or ws 10 0) (get_or ws 11 0) (get_or ws 12 0) (get_or ws 13 0) (get_or ws 14 0)
     (record { 0 = get_or ws 15 0 }) (record { 0 = get_or ws 16 0 }) (get_or ws 17 0) (get_or ws 18 0) (get_or ws 19 0)

@@ -119,22 +119,22 @@ pub fn limits_of(words: &[u64; LIMITS_WORDS]) -> LearningLimits
 }
 
 // The seed mark of three words: none if the first is 0.
-pub fn mark_of(set: u64, number: u64, born: u64) -> Mark
+pub fn mark_of(set: u64, number: u64, born: u64) -> Option<Mark>
     ensures { result ≡ mark_in set number born }
 {
     if set == 0 {
-        return Mark::Unmarked;
+        return None;
     }
-    Mark::Marked { number, born }
+    Some(Mark { number, born })
 }
 
 // The three words of a seed mark.
-pub fn mark_words(mark: Mark) -> [u64; 3]
+pub fn mark_words(mark: Option<Mark>) -> [u64; 3]
     ensures { result ≡ mark_words mark }
 {
     match mark {
-        Mark::Unmarked => [0, 0, 0],
-        Mark::Marked { number, born } => [1, number, born],
+        None => [0, 0, 0],
+        Some(Mark { number, born }) => [1, number, born],
     }
 }
 
