@@ -1,5 +1,7 @@
 // The postings of the rows in slots, counted and compared with lent words, with no sort and no room of its own.
 ghost use Rattle.std.specs.Prelude.{◌≡◌, not, true, false, ◌/◌, ◌%◌, ◌*◌, ◌+◌, ◌≤◌, ◌<◌, eqb, leb, ltb, length, get_or};
+ghost use Rattle.std.specs.Int.Bits.{bit_or};
+ghost use Rattle.std.specs.Int.Count.{ones};
 ghost use Rattle.lists.specs.Lists.{same, sort_of, pad};
 ghost use Rattle.lists.specs.Counts.{times};
 ghost use Rattle.model.specs.Records.{posting_words, slot_words, max_rows, total_groups_at};
@@ -25,6 +27,7 @@ const PACKED: usize = 32768;
 
 const NOWHERE: usize = PACKED + SIDE * MAX_GROUPS;
 
+// The place of no row, past all of these: a table of places holds plain numbers, two bytes for each of MAX_ROWS rows.
 const NO_ROW: u16 = 65535;
 
 // The slots of more rows than these do not stay in a small cache from one walk to the next.
@@ -38,17 +41,21 @@ const MOST_GROUPS: usize = 32;
 // The highest bit of a word.
 const TOP: u64 = 9223372036854775808;
 
+// How many atoms a group holds.
+fn atoms_in(present: u64, absent: u64) -> usize
+    ensures { (result ≡ ones (bit_or present absent)) × (result ≤ 64) }
+{
+    u64::count_ones(present | absent) as usize
+}
+
 // How many atoms the groups hold.
 pub fn atom_count(words: &[u64]) -> usize
     requires { length words.now ≤ slot_words }
     ensures { result ≡ atom_count words.now }
 {
     let mut count: usize = 0;
-    let mut at = 0;
-    while GROUP_WORDS <= words.len() - at {
-        let bits = words[at + 1] | words[at + 2];
-        count += u64::count_ones(bits) as usize;
-        at += GROUP_WORDS;
+    for group in words.chunks_exact(GROUP_WORDS) {
+        count += atoms_in(group[1], group[2]);
     }
     count
 }
@@ -75,12 +82,10 @@ fn posting_total(slots: &[u64], rows: usize) -> usize
     ensures { result ≡ length (postings_of (rows_in rows slots.now)) }
 {
     let mut count: usize = 0;
-    let mut p: usize = 0;
-    while p < rows {
+    for p in 0..rows {
         let a = SLOT_WORDS * p;
         let e = a + SLOT_WORDS;
         count += posting_count(&slots[a..e]);
-        p += 1;
     }
     count
 }
@@ -99,10 +104,8 @@ fn codes_have(codes: &[u64], atom: u64) -> bool
     ensures { result ≡ has_atom atom codes.now }
 {
     let mut bits: u64 = 0;
-    let mut i = 0;
-    while i < codes.len() {
-        bits = bits | code_mark(codes[i], atom);
-        i += 1;
+    for code in codes {
+        bits = bits | code_mark(*code, atom);
     }
     TOP <= bits
 }
@@ -122,10 +125,8 @@ fn groups_have(words: &[u64], atom: u64) -> bool
     ensures { result ≡ has_atom atom (ungroup words.now) }
 {
     let mut bits: u64 = 0;
-    let mut at = 0;
-    while GROUP_WORDS <= words.len() - at {
-        bits = bits | group_mark(words[at], words[at + 1], words[at + 2], atom);
-        at += GROUP_WORDS;
+    for group in words.chunks_exact(GROUP_WORDS) {
+        bits = bits | group_mark(group[0], group[1], group[2], atom);
     }
     bits != 0
 }
@@ -220,13 +221,11 @@ fn mark_rows(slots: &[u64], rows: usize, places: &mut [u16]) -> usize
     ensures marked { Marked rows slots.now places.new }
 {
     let mut count: usize = 0;
-    let mut p: usize = 0;
-    while p < rows {
+    for p in 0..rows {
         let a = SLOT_WORDS * p;
         let e = a + SLOT_WORDS;
         count += literal_count(&slots[a..e]);
         places[p] = first_place(&slots[a..e], MANY_ROWS < rows);
-        p += 1;
     }
     count
 }
@@ -360,12 +359,10 @@ fn walk_on(words: &[u64], slots: &[u64], rows: usize, places: &mut [u16], from: 
     ensures at_le_at { from.at ≤ result.at }
     ensures marked { Marked rows slots.now places.new }
 {
-    let mut at = from.at;
-    let mut word = from.word;
-    let mut often = from.often;
-    while at < words.len() {
-        let x = words[at];
-        if x <= word {
+    let mut walk = from;
+    for word in &words[from.at..] {
+        let x = *word;
+        if x <= walk.word {
             break;
         }
         if !sees(slots, rows, places, x) {
@@ -374,15 +371,13 @@ fn walk_on(words: &[u64], slots: &[u64], rows: usize, places: &mut [u16], from: 
         if x < MAX_ROWS {
             break;
         }
-        at += 1;
-        word = x;
-        often = 1;
+        walk = Walk {
+            at: walk.at + 1,
+            word: x,
+            often: 1,
+        };
     }
-    Walk {
-        at: at,
-        word: word,
-        often: often,
-    }
+    walk
 }
 
 // Whether the words, no fewer than the first rows have postings, are those postings ascending: they ascend, and none stands more often
@@ -400,9 +395,8 @@ fn are_ascending(words: &[u64], slots: &[u64], rows: usize, places: &mut [u16]) 
         often: 0,
     };
     let mut walk = walk_on(words, slots, rows, places, start);
-    while walk.at < words.len() {
-        let at = walk.at;
-        let x = words[at];
+    while let Some(word) = words.get(walk.at) {
+        let x = *word;
         if x < walk.word {
             return false;
         }
@@ -415,7 +409,7 @@ fn are_ascending(words: &[u64], slots: &[u64], rows: usize, places: &mut [u16]) 
             return false;
         }
         let next = Walk {
-            at: at + 1,
+            at: walk.at + 1,
             word: x,
             often: run.times,
         };

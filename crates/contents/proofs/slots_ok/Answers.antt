@@ -18,7 +18,7 @@ pub loop-p-init : goal.loop-p-init
 loop-p-init c =
     let a = c.args in
     let n = founded-start a.rows a.slots.now in
-    (omega arith, slots-start a.atoms a.born a.rows a.slots.now, omega arith, omega arith)
+    (slots-start a.atoms a.born a.rows a.slots.now, omega arith, omega arith)
 
 pub returns-then-not-is_slot : goal.returns-then-not-is_slot
 returns-then-not-is_slot c =
@@ -28,7 +28,7 @@ returns-then-not-is_slot c =
     counted-bad a.rows ws a.atoms a.born a.founded
     (slots-bad a.atoms a.born a.rows ws l.p c.loop-p-test.true
     (sym (ap (slot_ok a.atoms a.born) (slot-code ws l.p)) ∙ sym c.is_slot.ensures ∙ c.if-not-is_slot.true)
-    ∙ l.invariant.1)
+    ∙ l.invariant.0)
 
 -- the slot at hand passes
 good : (c : Else-not-is_slot) → let a = c.args in
@@ -50,9 +50,8 @@ loop-p-preserved c =
     let ws = a.slots.now in
     let l = c.loop-p in
     let n = founded-next a.rows ws a.atoms a.born l.p (good at_else_not_is_slot) c.loop-p-test.true in
-    let h = l.invariant.3 in (
-      omega arith,
-      slots-good a.atoms a.born a.rows ws l.p c.loop-p-test.true (good at_else_not_is_slot) ∙ l.invariant.1,
+    let h = l.invariant.2 in (
+      slots-good a.atoms a.born a.rows ws l.p c.loop-p-test.true (good at_else_not_is_slot) ∙ l.invariant.0,
       omega arith,
       omega arith,
     )
@@ -63,7 +62,7 @@ all-met : (c : After-loop-p) → let a = c.args in
 all-met c =
     let a = c.args in
     let n = founded-last a.rows a.slots.now c.loop-p.p (omega arith) in
-    let h = c.loop-p.invariant.3 in
+    let h = c.loop-p.invariant.2 in
     omega arith
 
 pub returns-then-count-founded : goal.returns-then-count-founded
@@ -79,4 +78,4 @@ returns c =
     let l = c.loop-p in
     counted_same a.rows ws a.atoms a.born a.founded (sym c.if-count-founded.false ∙ all-met (goal.at.returns c).After-loop-p)
     (c.all_zero.ensures ∙ ap all_zero (rest_part ws (slot_words * a.rows))
-    ∙ slots_end a.atoms a.born a.rows ws l.p (omega arith) ∙ l.invariant.1)
+    ∙ slots_end a.atoms a.born a.rows ws l.p (omega arith) ∙ l.invariant.0)

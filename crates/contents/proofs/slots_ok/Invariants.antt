@@ -11,8 +11,5 @@ use Rattle.contents.proofs.slots_ok.Given as goal
 
 abbrev pub invariant-loop-p : goal.invariant-loop-p
 invariant-loop-p l =
-    (l.p ≤ l.rows) × (slots_ok l.atoms l.born (l.rows - l.p) (drop (slot_words * l.p) l.slots) ≡ slots_ok l.atoms l.born l.rows l.slots)
+    (slots_ok l.atoms l.born (l.rows - l.p) (drop (slot_words * l.p) l.slots) ≡ slots_ok l.atoms l.born l.rows l.slots)
     × (l.count ≤ l.p) × (l.count + founded_rows (left l.rows l.slots l.p) ≡ founded_rows (entries_in l.rows l.slots))
-
-abbrev pub decreases-loop-p : goal.decreases-loop-p
-decreases-loop-p l = l.rows - l.p

@@ -1,69 +1,86 @@
-use mathlib.Core.Path.{sym, ap, ◌∙◌}
-use mathlib.Core.List.{List}
-use Prim.Native.Nat.{ℕ}
-use native.Mathlib.Omega.{arith}
-use lib.ListN.{get_or}
+use Rattle.std.proofs.Common.{◌≡◌, sym, ap, ◌∙◌, subst, arith, ℕ, List, ◌+◌, ◌≤◌, ◌<◌, length, get_or}
+use Rattle.std.proofs.lemmas.Grind.{get_or_default_zero}
 use borrow.Author.Tests.{ltb-true, ltb-false}
 use Rattle.lists.specs.Counts.{times}
+use Rattle.lists.specs.Runs.{run_after}
 use Rattle.lists.proofs.Tests.{same-yes, same-no}
 use Rattle.model.specs.Postings.{postings_of}
 use Rattle.slots.specs.Layout.{rows_in}
+use Rattle.contents.specs.Marked.{Walked}
 use Rattle.contents.proofs.Marks.{walked_start, walked-small, walked-back, walked_more, walked_many, walked_end}
-use Rattle.contents.proofs.by_postings.are_ascending.Goals.{After-next-run, At-loop-walk}
-use borrow.Author.Rules.{rules}
+use Rattle.contents.proofs.by_postings.are_ascending.Goals.{In-Some, At-loop-word, After-next-run}
 use Rattle.contents.proofs.by_postings.are_ascending.Goals as goal
 
--- the word met, and how often in a row
-abbrev met : After-next-run → ℕ
-met c = get_or c.args.words.now c.loop-walk.walk.at 0
-
-abbrev due : At-loop-walk → List ℕ
+abbrev due : At-loop-word → List ℕ
 due c = let a = c.args in postings_of (rows_in a.rows a.slots.now)
+
+-- the word at hand
+inside : (c : In-Some) → c.loop-word.walk.at < length c.args.words.now
+inside c = ltb-true c.loop-word.walk.at (length c.args.words.now) (sym c.in-Some.ensures.lookup.0)
+
+is_word : (c : In-Some) → get_or c.args.words.now c.loop-word.walk.at 0 ≡ c.in-Some.word.now
+is_word c =
+    sym (c.in-Some.ensures.lookup.1
+    ∙ get_or_default_zero c.args.words.now c.loop-word.walk.at c.in-Some.word.now (inside c))
+
+-- how often it was met in a row
+met : (c : After-next-run) → let w = c.loop-word.walk in
+    c.next-run.result.times ≡ (run_after (record { word = w.word; times = w.often }) (get_or c.args.words.now w.at 0)).times
+met c =
+    let w = c.loop-word.walk in
+    ap (λ r. r.times) c.next-run.ensures
+    ∙ ap (λ (x : ℕ). (run_after (record { word = w.word; times = w.often }) x).times) (sym (is_word (goal.at.After-next-run c).In-Some))
 
 pub walk_on-walk-requires : goal.walk_on-walk-requires
 walk_on-walk-requires c =
     record { fact_1 = c.requires.fact_1; fact_2 = c.requires.fact_3; fact_3 = c.requires.fact_4; fact_4 = walked_start _ _ }
 
-pub loop-walk-init : goal.loop-walk-init
-loop-walk-init c =
-    let e = c.walk_on-walk.ensures in
-    (search rules, e.marked, e.walked)
+pub loop-word-init : goal.loop-word-init
+loop-word-init c = let e = c.walk_on-walk.ensures in record { marked = e.marked; walked = e.walked }
 
 pub returns-then-x-walk : goal.returns-then-x-walk
 returns-then-x-walk c =
-    sym (same-no _ _ (walked-back _ _ _ _ _ c.loop-walk.invariant.2 c.loop-walk-test.true c.if-x-walk.true))
+    let s = (goal.at.returns-then-x-walk c).In-Some in
+    sym (same-no _ _ (walked-back _ _ _ _ _ c.loop-word.invariant.walked (inside s) (omega (arith, is_word s, c.if-x-walk.true))))
 
 pub next-run-requires : goal.next-run-requires
 next-run-requires c =
-    let k = walked-small _ _ _ _ _ c.loop-walk.invariant.2 in
-    omega (arith, c.loop-walk-test.true)
+    let s = (goal.at.next-run-requires c).In-Some in
+    omega (arith, walked-small _ _ _ _ _ c.loop-word.invariant.walked, inside s)
 
 pub returns-then-posted_less : goal.returns-then-posted_less
 returns-then-posted_less c =
-    let l = ltb-true (times (met (goal.at.returns-then-posted_less c).After-next-run) (due (goal.at.returns-then-posted_less c).At-loop-walk)) c.next-run.result.times (sym c.posted_less.ensures ∙ c.if-posted_less.true) in
-    sym (same-no _ _ (walked_many _ _ _ _ _ _ c.loop-walk.invariant.2 c.loop-walk-test.true c.if-x-walk.false
-    (ap (λ r. r.times) c.next-run.ensures) l))
+    let at_run = (goal.at.returns-then-posted_less c).After-next-run in
+    let s = (goal.at.returns-then-posted_less c).In-Some in
+    let few = ltb-true _ c.next-run.result.times (sym c.if-posted_less.ensures) in
+    let w = due (goal.at.returns-then-posted_less c).At-loop-word in
+    sym (same-no _ _ (walked_many _ _ _ _ _ _ c.loop-word.invariant.walked (inside s) (omega (arith, is_word s, c.if-x-walk.false)) (met at_run)
+    (subst (λ (x : ℕ). times x w < c.next-run.result.times) (sym (is_word s)) few)))
 
-pub walk_on-walk-requires-in-loop-walk : goal.walk_on-walk-requires-in-loop-walk
-walk_on-walk-requires-in-loop-walk c =
-    let l = ltb-false (times (met (goal.at.walk_on-walk-requires-in-loop-walk c).After-next-run) (due (goal.at.walk_on-walk-requires-in-loop-walk c).At-loop-walk)) c.next-run.result.times
-    (sym c.posted_less.ensures ∙ c.if-posted_less.false) in record {
+pub walk_on-walk-requires-in-Some : goal.walk_on-walk-requires-in-Some
+walk_on-walk-requires-in-Some c =
+    let at_run = (goal.at.walk_on-walk-requires-in-Some c).After-next-run in
+    let s = (goal.at.walk_on-walk-requires-in-Some c).In-Some in
+    let few = ltb-false _ c.next-run.result.times (sym c.if-posted_less.ensures) in
+    let w = due (goal.at.walk_on-walk-requires-in-Some c).At-loop-word in record {
       fact_1 = c.requires.fact_1;
-      fact_2 = c.loop-walk.invariant.0;
-      fact_3 = c.loop-walk.invariant.1;
-      fact_4 = walked_more _ _ _ _ _ _ c.loop-walk.invariant.2 c.loop-walk-test.true
-          c.if-x-walk.false (ap (λ r. r.times) c.next-run.ensures) l;
+      fact_2 = omega arith;
+      fact_3 = c.loop-word.invariant.marked;
+      fact_4 =
+          subst (λ (x : ℕ). Walked c.args.words.now w (c.loop-word.walk.at + 1) x c.next-run.result.times) (is_word s)
+          (walked_more _ _ _ _ _ _ c.loop-word.invariant.walked (inside s) (omega (arith, is_word s, c.if-x-walk.false)) (met at_run)
+          (subst (λ (x : ℕ). c.next-run.result.times ≤ times x w) (sym (is_word s)) few));
     }
 
-pub loop-walk-smaller : goal.loop-walk-smaller
-loop-walk-smaller c =
-    omega (arith, c.walk_on-walk-in-loop-walk.ensures.at_le_at, c.loop-walk-test.true)
+pub loop-word-smaller : goal.loop-word-smaller
+loop-word-smaller c =
+    let s = (goal.at.loop-word-smaller c).In-Some in
+    omega (arith, c.walk_on-walk-in-Some.ensures.at_le_at, inside s)
 
-pub loop-walk-preserved : goal.loop-walk-preserved
-loop-walk-preserved c =
-    let e = c.walk_on-walk-in-loop-walk.ensures in
-    (search rules, e.marked, e.walked)
+pub loop-word-preserved : goal.loop-word-preserved
+loop-word-preserved c = let e = c.walk_on-walk-in-Some.ensures in record { marked = e.marked; walked = e.walked }
 
 pub returns : goal.returns
 returns c =
-    sym (same-yes _ _ (walked_end _ _ _ _ _ c.loop-walk.invariant.2 c.loop-walk-test.false c.requires.fact_2))
+    let l = ltb-false c.loop-word.walk.at (length c.args.words.now) (sym c.in_default.ensures.lookup.0) in
+    sym (same-yes _ _ (walked_end _ _ _ _ _ c.loop-word.invariant.walked l c.requires.fact_2))

@@ -1,42 +1,25 @@
-use Prim.Native.Nat.{◌+◌}
-use native.Mathlib.Omega.{arith}
-use lib.Bits.{bit_or, or_lt}
-use lib.Count.{ones-le}
-use lib.ListN.{get_or}
+use Rattle.std.proofs.Common.{ap, ◌∙◌, arith, ℕ, length, length-append, List}
+use Rattle.std.specs.Slice.Iter.{chunks_exact_rest}
 use Rattle.contents.proofs.Walks.{atoms-next, atoms-end}
-use borrow.Author.Rules.{rules}
 use Rattle.contents.proofs.by_postings.atom_count.Goals as goal
-
-pub overflow_cast-count : goal.overflow_cast-count
-overflow_cast-count c =
-    let w = c.args.words.now in
-    let l = c.loop-at in
-    let b = ones-le 64 (bit_or (get_or w (l.at + 1) 0) (get_or w (l.at + 2) 0))
-    (or_lt 64 (get_or w (l.at + 1) 0) (get_or w (l.at + 2) 0) (omega arith)
-    (omega arith)) in
-    search rules
 
 pub overflow_add-count : goal.overflow_add-count
 overflow_add-count c =
-    let w = c.args.words.now in
-    let l = c.loop-at in
-    let b = ones-le 64 (bit_or (get_or w (l.at + 1) 0) (get_or w (l.at + 2) 0))
-    (or_lt 64 (get_or w (l.at + 1) 0) (get_or w (l.at + 2) 0) (omega arith)
-    (omega arith)) in
-    search rules
+    let s = c.in-Some.ensures.steps in
+    omega (arith, ap length s.1.0, length-append {A = ℕ}, s.1.1, c.loop-group.invariant.size, c.atoms_in-count.ensures.1, c.loop-group.invariant.few, c.requires)
 
-pub loop-at-preserved : goal.loop-at-preserved
-loop-at-preserved c =
-    let w = c.args.words.now in
-    let l = c.loop-at in
-    let b = ones-le 64 (bit_or (get_or w (l.at + 1) 0) (get_or w (l.at + 2) 0))
-    (or_lt 64 (get_or w (l.at + 1) 0) (get_or w (l.at + 2) 0) (omega arith)
-    (omega arith)) in
-    let n = atoms-next w l.at c.loop-at-test.true in
-    (search rules, omega arith, omega arith)
+pub loop-group-preserved : goal.loop-group-preserved
+loop-group-preserved c =
+    let s = c.in-Some.ensures.steps in
+    let v = c.loop-group.invariant in
+    let n = atoms-next _ _ _ s.1.0 (s.1.1 ∙ v.size) in record {
+      size = s.0 ∙ v.size;
+      few = omega (arith, ap length s.1.0, length-append {A = ℕ}, s.1.1, v.size, c.atoms_in-count.ensures.1, v.few);
+      sum = omega (arith, n, c.atoms_in-count.ensures.0, v.sum);
+    }
 
 pub returns : goal.returns
 returns c =
-    let w = c.args.words.now in
-    let l = c.loop-at in
-    omega (arith, atoms-end w l.at c.loop-at-test.false, l.invariant.2)
+    let v = c.loop-group.invariant in
+    let rest : List ℕ = chunks_exact_rest c.loop-group.group-iterator in
+    omega (arith, atoms-end rest (omega (arith, c.in-None.ensures.steps.1.0, v.size)), v.sum)

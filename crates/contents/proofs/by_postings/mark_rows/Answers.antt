@@ -1,4 +1,4 @@
-use mathlib.Core.Path.{◌≡◌, refl, ◌∙◌, subst}
+use mathlib.Core.Path.{◌≡◌, refl, subst}
 use Prim.Native.Nat.{ℕ, ◌+◌}
 use native.Mathlib.Omega.{arith}
 use Rattle.contents.specs.Marked.{Form, Marked}
@@ -10,7 +10,7 @@ use Rattle.contents.proofs.by_postings.mark_rows.Goals as goal
 pub loop-p-init : goal.loop-p-init
 loop-p-init c =
     let t = total-start c.args.rows c.args.slots.now c.requires.fact_1 in
-    (omega arith, omega arith, omega arith, refl, c.requires.fact_3)
+    (omega arith, omega arith, c.requires.fact_3)
 
 pub literal_count-count-requires : goal.literal_count-count-requires
 literal_count-count-requires c =
@@ -34,18 +34,16 @@ loop-p-preserved c =
     let f = c.requires.fact_1.over.few in (
       omega arith,
       omega arith,
-      omega arith,
-      search rules,
       marked-put c.loop-p.p (c.loop-p.p + 1) c.args.slots.now c.loop-p.places c.loop-p.p _ (omega arith)
           (omega arith)
-          (c.loop-p.invariant.3 ∙ c.requires.fact_2) c.loop-p.invariant.4
+          (omega arith) c.loop-p.invariant.2
           (subst (Form _) (total-code c.args.slots.now c.loop-p.p) c.first_place.ensures),
     )
 
 pub returns : goal.returns
 returns c =
     let z = total-end c.args.rows c.args.slots.now c.requires.fact_1 c.loop-p.p c.loop-p-test.false in
-    let e : c.loop-p.p ≡ c.args.rows = omega (arith, c.loop-p.invariant.0, c.loop-p-test.false) in record {
-      lower_bound = (omega (arith, c.loop-p.invariant.2), omega (arith, c.loop-p.invariant.1));
-      marked = subst (λ (m : ℕ). Marked m c.args.slots.now c.loop-p.places) e c.loop-p.invariant.4;
+    let e : c.loop-p.p ≡ c.args.rows = omega (arith, c.loop-p-test.false) in record {
+      lower_bound = (omega (arith, c.loop-p.invariant.1), omega (arith, c.loop-p.invariant.0));
+      marked = subst (λ (m : ℕ). Marked m c.args.slots.now c.loop-p.places) e c.loop-p.invariant.2;
     }

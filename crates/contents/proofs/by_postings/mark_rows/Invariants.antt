@@ -1,7 +1,6 @@
 -- `contents::by_postings::mark_rows`. The loop: the places of the rows so far say their forms, and the literals counted are no fewer than
 -- the postings. Assumes nothing.
-use mathlib.Core.Path.{◌≡◌}
-use Prim.Native.Nat.{◌+◌, ◌-◌, ◌*◌, ◌≤◌}
+use Prim.Native.Nat.{◌+◌, ◌*◌, ◌≤◌}
 use lib.ListN.{length}
 use Rattle.model.specs.Records.{posting_words}
 use Rattle.model.specs.Postings.{postings_from, postings_of}
@@ -12,9 +11,6 @@ use Rattle.contents.proofs.by_postings.mark_rows.Given as goal
 
 abbrev pub invariant-loop-p : goal.invariant-loop-p
 invariant-loop-p l =
-    (l.p ≤ l.rows) × (l.count ≤ posting_words * l.p)
+    (l.count ≤ posting_words * l.p)
     × (length (postings_of (rows_in l.rows l.slots)) ≤ l.count + length (postings_from l.p (rows_from l.rows l.slots l.p)))
-    × (length l.places ≡ length l.initial.places) × Marked l.p l.slots l.places
-
-abbrev pub decreases-loop-p : goal.decreases-loop-p
-decreases-loop-p l = l.rows - l.p
+    × Marked l.p l.slots l.places

@@ -23,7 +23,7 @@ step c =
 pub loop-p-init : goal.loop-p-init
 loop-p-init c =
     let a = c.args in
-    (search rules, search rules, omega (arith, total-start a.rows a.slots.now c.requires))
+    (search rules, omega (arith, total-start a.rows a.slots.now c.requires))
 
 pub posting_count-count-requires : goal.posting_count-count-requires
 posting_count-count-requires c =
@@ -38,10 +38,10 @@ overflow_add-count c =
 pub loop-p-preserved : goal.loop-p-preserved
 loop-p-preserved c =
     let n = step c in
-    (omega arith, omega arith, omega arith)
+    (omega arith, omega arith)
 
 pub returns : goal.returns
 returns c =
     let a = c.args in
     let l = c.loop-p in
-    omega (arith, total-end a.rows a.slots.now c.requires l.p c.loop-p-test.false, l.invariant.2)
+    omega (arith, total-end a.rows a.slots.now c.requires l.p c.loop-p-test.false, l.invariant.1)

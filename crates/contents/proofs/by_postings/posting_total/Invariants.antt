@@ -1,6 +1,6 @@
 -- `contents::by_postings::posting_total`. The loop: what is counted, and the postings of the rows left, make the whole. Assumes nothing.
 use mathlib.Core.Path.{◌≡◌}
-use Prim.Native.Nat.{◌+◌, ◌-◌, ◌*◌, ◌≤◌}
+use Prim.Native.Nat.{◌+◌, ◌*◌, ◌≤◌}
 use lib.ListN.{length}
 use Rattle.model.specs.Records.{posting_words}
 use Rattle.model.specs.Postings.{postings_from, postings_of}
@@ -10,8 +10,5 @@ use Rattle.contents.proofs.by_postings.posting_total.Given as goal
 
 abbrev pub invariant-loop-p : goal.invariant-loop-p
 invariant-loop-p l =
-    (l.p ≤ l.rows) × (l.count ≤ posting_words * l.p)
+    (l.count ≤ posting_words * l.p)
     × (l.count + length (postings_from l.p (rows_from l.rows l.slots l.p)) ≡ length (postings_of (rows_in l.rows l.slots)))
-
-abbrev pub decreases-loop-p : goal.decreases-loop-p
-decreases-loop-p l = l.rows - l.p

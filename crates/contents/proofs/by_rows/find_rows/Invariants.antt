@@ -1,8 +1,6 @@
 -- `contents::by_rows::find_rows`. The loop: every posting of the first `p` rows stands before the place of its atom, and those counted and
 -- those of the rows left are all. Assumes nothing.
-use mathlib.Core.Path.{◌≡◌}
-use Prim.Native.Nat.{ℕ, ◌+◌, ◌-◌, ◌*◌, ◌%◌, ◌≤◌, ◌<◌}
-use lib.ListN.{length}
+use Rattle.std.proofs.Common.{◌≡◌, ℕ, ◌+◌, ◌*◌, ◌%◌, ◌≤◌, ◌<◌, length}
 use Rattle.lists.specs.Counts.{times}
 use Rattle.model.specs.Records.{posting_words, max_rows}
 use Rattle.model.specs.Postings.{postings_from, postings_of}
@@ -12,10 +10,8 @@ use Rattle.contents.specs.Placed.{placed}
 use Rattle.contents.proofs.by_rows.find_rows.Given as goal
 
 abbrev pub invariant-loop-p : goal.invariant-loop-p
-invariant-loop-p l =
-    (l.p ≤ l.rows) × (length l.places ≡ length l.initial.places) × (l.count ≤ posting_words * l.p)
-    × (l.count + length (postings_from l.p (rows_from l.rows l.slots l.p)) ≡ length (postings_of (rows_in l.rows l.slots)))
-    × ((v : ℕ) → v % max_rows < l.p → times v (postings_of (rows_in l.rows l.slots)) ≤ placed l.words l.places v)
-
-abbrev pub decreases-loop-p : goal.decreases-loop-p
-decreases-loop-p l = l.rows - l.p
+invariant-loop-p l = record {
+  few : l.count ≤ posting_words * l.p;
+  sum : l.count + length (postings_from l.p (rows_from l.rows l.slots l.p)) ≡ length (postings_of (rows_in l.rows l.slots));
+  met : (v : ℕ) → v % max_rows < l.p → times v (postings_of (rows_in l.rows l.slots)) ≤ placed l.words l.places v;
+}

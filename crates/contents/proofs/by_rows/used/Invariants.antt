@@ -1,13 +1,7 @@
--- `contents::by_rows::used`. The loop: from `n` on every word is 0. Assumes nothing.
-use mathlib.Core.Path.{◌≡◌}
-use mathlib.Core.Bool.{true}
-use Prim.Native.Nat.{◌≤◌}
-use lib.ListN.{length, drop}
+-- `contents::by_rows::used`. The loop: from `i` on every word is 0. Assumes nothing.
+use Rattle.std.proofs.Common.{◌≡◌, true, drop}
 use Rattle.slots_check.specs.Check.{all_zero}
 use Rattle.contents.proofs.by_rows.used.Given as goal
 
-abbrev pub invariant-loop-n : goal.invariant-loop-n
-invariant-loop-n l = (l.n ≤ length l.words) × (all_zero (drop l.n l.words) ≡ true)
-
-abbrev pub decreases-loop-n : goal.decreases-loop-n
-decreases-loop-n l = l.n
+abbrev pub invariant-loop-i : goal.invariant-loop-i
+invariant-loop-i l = all_zero (drop l.i l.words) ≡ true
