@@ -8,8 +8,8 @@ use lib.Dec.{T}
 use lib.ListN.{length, take, drop}
 use Rattle.words.specs.Region.{region}
 use Rattle.meter.specs.declared.Meter.{Meter}
-use Rattle.meter.specs.declared.Tick.{Tick}
-use Rattle.meter.specs.declared.Tick.TheVariants as tick
+use Rattle.meter.specs.Tick.{Tick}
+use Rattle.meter.specs.Tick as tick
 use Rattle.meter.specs.Meter.{ticks}
 use Rattle.model.specs.declared.Header.{Header}
 use Rattle.model.specs.declared.Deduction.{Deduction}

@@ -13,8 +13,7 @@ use Rattle.lists.proofs.Selects.{range-from}
 use Rattle.lists.proofs.Sorts.{sort-each, distinct-each}
 use Rattle.lists.proofs.Pads.{take-pad}
 use Rattle.meter.specs.declared.Meter.{Meter}
-use Rattle.meter.specs.declared.Tick.{Tick}
-use Rattle.meter.specs.declared.Tick.TheVariants.{Ticked, Stopped}
+use Rattle.meter.specs.Tick.{Tick, Ticked, Stopped}
 use Rattle.meter.specs.Meter.{ticks}
 use Rattle.model.specs.declared.Header.{Header}
 use Rattle.model.specs.declared.Contradicted.{Contradicted}

@@ -13,7 +13,7 @@ use Rattle.words.specs.Region.{region, is_region, Decision, decision_on, decisio
 use Rattle.meter.specs.declared.Meter.{Meter}
 use Rattle.meter.specs.declared.Account.{Account}
 use Rattle.meter.specs.declared.Account.TheVariants.{Remaining, Share}
-use Rattle.meter.specs.declared.Judged.{Judged}
+use Rattle.meter.specs.Judged.{Judged}
 use Rattle.meter.specs.Meter.{reads_left, pay, judged}
 use Rattle.model.specs.declared.NextAnswer.{NextAnswer}
 use Rattle.model.specs.declared.NextResult.{NextResult}

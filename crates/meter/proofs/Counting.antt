@@ -2,11 +2,10 @@
 use Rattle.std.specs.Prelude.{ℕ, zero, suc, ◌+◌, ◌-◌, ◌<◌, ◌≤◌, ◌≡◌, refl, Bool, true, false, ltb, eqb}
 use Rattle.std.proofs.Common.{sym, ap, subst, ◌∙◌, arith, ltb-true, ltb-false, eqb-true}
 use Rattle.meter.specs.declared.Meter.{Meter}
-use Rattle.meter.specs.declared.Tick.{Tick}
-use Rattle.meter.specs.declared.Tick.TheVariants.{Ticked, Stopped}
+use Rattle.meter.specs.Tick.{Tick, Ticked, Stopped}
 use Rattle.meter.specs.declared.Account.{Account}
-use Rattle.meter.specs.declared.Read.{Read}
-use Rattle.meter.specs.declared.Read.TheVariants as read
+use Rattle.meter.specs.Read.{Read}
+use Rattle.meter.specs.Read as read
 use Rattle.meter.specs.Counting.{Spent, StoppedTicks, UnpaidReads, TickLimit}
 use Rattle.meter.specs.Meter.{pick, tick_of, on_tick, ticks, made, reads_left, after_tick, pay_one, and_then, pay, judged}
 

@@ -2,11 +2,10 @@
 use Rattle.std.specs.Prelude.{ℕ, zero, suc, ◌+◌, ◌-◌, ◌<◌, ◌≡◌, refl, Bool}
 use Rattle.std.proofs.Common.{sym, ◌∙◌, zero-add, suc-add, arith, eq-eqb, ne_eqb}
 use Rattle.meter.specs.declared.Meter.{Meter}
-use Rattle.meter.specs.declared.Tick.{Tick}
-use Rattle.meter.specs.declared.Tick.TheVariants.{Ticked, Stopped}
+use Rattle.meter.specs.Tick.{Tick, Ticked, Stopped}
 use Rattle.meter.specs.declared.Account.{Account}
-use Rattle.meter.specs.declared.Read.{Read}
-use Rattle.meter.specs.declared.Read.TheVariants as read
+use Rattle.meter.specs.Read.{Read}
+use Rattle.meter.specs.Read as read
 use Rattle.meter.specs.Meter.{tick_of, on_tick, ticks, reads_left, one_less, pay_one, and_then, pay, judged}
 
 -- a paid read by the way it goes: an empty account, a tick, a stop

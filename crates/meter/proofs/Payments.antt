@@ -1,45 +1,113 @@
--- Questions that are paid for read by read: how one payment, and one answer before another, move what is left to pay. Assumes nothing.
-use mathlib.Core.Path.{◌≡◌, refl, sym, ◌∙◌, ap, subst}
-use mathlib.Core.Logic.{inl, inr}
+-- Questions that are paid for read by read: what a result and the purse after it say, how one payment, and one answer before another, move
+-- what is left to pay. Where a `?` ends a function, what it returns is an error, and `IsErrAnd` says which. Assumes nothing.
+use mathlib.Core.Path.{◌≡◌, refl, sym, ◌∙◌, ap}
 use mathlib.Core.Bool.{Bool, true, false, ◌&&◌}
-use mathlib.Core.List.{[], ◌∷◌}
-use Prim.Native.Nat.{ℕ, suc, ◌+◌, ◌-◌, ◌<◌}
+use Prim.Native.Nat.{ℕ, suc, ◌+◌, ◌-◌, ◌<◌, ◌≤◌}
 use native.Mathlib.Nat.{add-zero}
 use native.Mathlib.Omega.{arith}
-use types.Run.{OneOf}
-use denote.Enum.Declared.{tag_of}
+use Rattle.std.specs.Prelude.{Result, Ok, Err}
+use Rattle.std.specs.Result.{IsErrAnd}
 use Rattle.meter.specs.declared.Meter.{Meter}
 use Rattle.meter.specs.declared.Account.{Account}
-use Rattle.meter.specs.declared.Judged.{Judged}
-use Rattle.meter.specs.declared.Verdict.{Verdict}
-use Rattle.meter.specs.contracts.Verdict.{the_type}
-use Rattle.meter.specs.declared.Verdict.TheVariants as verdict
-use Rattle.meter.specs.declared.Read.{Read}
-use Rattle.meter.specs.declared.Read.TheVariants as read
+use Rattle.meter.specs.declared.Purse.{Purse}
+use Rattle.meter.specs.declared.Unpaid.{Unpaid}
+use Rattle.meter.specs.declared.Unpaid.TheVariants as unpaid
+use Rattle.meter.specs.Judged.{Judged}
+use Rattle.meter.specs.Verdict.{Verdict}
+use Rattle.meter.specs.Verdict as verdict
+use Rattle.meter.specs.Read.{Read}
+use Rattle.meter.specs.Read as read
 use Rattle.meter.specs.Meter.{and_then, pay_one, pay, judged}
-use Rattle.meter.proofs.Laws.{pay-add, pay-left, pay-none, pay-suc}
-use Rattle.meter.specs.declared.Payment.TheVariants.{Paid, Ended}
-use Rattle.meter.specs.Payment.{payment_of, WhereYes}
+use Rattle.meter.specs.Results.{unpaid_end, read_end, judged_end, verdict_of, WhereYes}
+use Rattle.meter.proofs.Laws.{pay-add, pay-left, pay-suc}
 
--- a read that is not paid ends a question that has reads left
-pub ask-ended : (b : Bool) (n : ℕ) (a : Account) (m : Meter) {j : Judged}
-    → 0 < n → Ended j ≡ payment_of (pay_one a m) → j ≡ judged b (pay n a m)
-ask-ended b n a m {j} h e = go (pay_one a m) e ∙ sym (ap (judged b) (pay-left n a m h refl))
-  where
-    go : (r : Read) → Ended j ≡ payment_of r → j ≡ judged b (and_then r (pay (n - 1)))
-    go (read.Paid p q) e = let z : ◌≡◌ {A = ℕ} 0 1 = cc in absurd (omega arith)
-    go (read.Declined p q) e = cc
-    go (read.Stopped p q) e = cc
+-- what a `?` returns is the error that it met
+pub passed : {A E : Type 0} {r : Result A E} {e : E} → IsErrAnd r (λ (y : E). y ≡ e) → r ≡ Err e
+passed {r = Ok x} h = absurd h
+passed {r = Err y} h = ap Err h
 
--- a paid one leaves one read less
-pub ask-paid : (b : Bool) (n : ℕ) (a : Account) (m : Meter) {p : Account} {q : Meter}
-    → Paid p q ≡ payment_of (pay_one a m) → judged b (pay n p q) ≡ judged b (pay (suc n) a m)
-ask-paid b n a m {p} {q} e = go (pay_one a m) e ∙ sym (ap (judged b) (pay-suc n a m refl))
+-- ---- reads that are not all paid end as many reads and more
+then-unpaid : (e : Unpaid) (p : Purse) (k : Account → Meter → Read) → and_then (unpaid_end e p) k ≡ unpaid_end e p
+then-unpaid unpaid.Declined p k = refl
+then-unpaid unpaid.Stopped p k = refl
+
+judged-end : (b : Bool) (e : Unpaid) (p : Purse) → judged b (unpaid_end e p) ≡ judged_end (Err e) p
+judged-end b unpaid.Declined p = refl
+judged-end b unpaid.Stopped p = refl
+
+pub unpaid-one : (t : ℕ) (a : Account) (m : Meter) (e : Unpaid) (p : Purse)
+    → 0 < t → unpaid_end e p ≡ pay_one a m → unpaid_end e p ≡ pay t a m
+unpaid-one t a m e p l f = sym (then-unpaid e p (pay (t - 1))) ∙ sym (pay-left t a m l f)
+
+pub unpaid-more : (n t : ℕ) (a : Account) (m : Meter) (e : Unpaid) (p : Purse)
+    → n ≤ t → unpaid_end e p ≡ pay n a m → unpaid_end e p ≡ pay t a m
+unpaid-more n t a m e p l f =
+    let s : n + (t - n) ≡ t = omega arith in
+    sym (then-unpaid e p (pay (t - n))) ∙ ap (λ (r : Read). and_then r (pay (t - n))) f ∙ sym (pay-add n (t - n) a m)
+    ∙ ap (λ (x : ℕ). pay x a m) s
+
+-- what a function returns there, by the count t of the reads that it has to pay
+pub read-one : {A : Type 0} (t : ℕ) (a : Account) (m : Meter) (p : Purse) {r : Result A Unpaid} {e : Unpaid}
+    → r ≡ Err e → 0 < t → unpaid_end e p ≡ pay_one a m → read_end r p ≡ pay t a m
+read-one t a m p {r} {e} h l f = rw h (unpaid-one t a m e p l f)
+
+pub read-more : {A : Type 0} (n t : ℕ) (a : Account) (m : Meter) (p : Purse) {r : Result A Unpaid} {e : Unpaid}
+    → r ≡ Err e → n ≤ t → unpaid_end e p ≡ pay n a m → read_end r p ≡ pay t a m
+read-more n t a m p {r} {e} h l f = rw h (unpaid-more n t a m e p l f)
+
+pub ask-one : (b : Bool) (t : ℕ) (a : Account) (m : Meter) (p : Purse) {r : Result Bool Unpaid} {e : Unpaid}
+    → r ≡ Err e → 0 < t → unpaid_end e p ≡ pay_one a m → judged_end r p ≡ judged b (pay t a m)
+ask-one b t a m p {r} {e} h l f = rw h (sym (judged-end b e p) ∙ ap (judged b) (unpaid-one t a m e p l f))
+
+pub ask-more : (b : Bool) (n t : ℕ) (a : Account) (m : Meter) (p : Purse) {r : Result Bool Unpaid} {e : Unpaid}
+    → r ≡ Err e → n ≤ t → unpaid_end e p ≡ pay n a m → judged_end r p ≡ judged b (pay t a m)
+ask-more b n t a m p {r} {e} h l f = rw h (sym (judged-end b e p) ∙ ap (judged b) (unpaid-more n t a m e p l f))
+
+-- a question that is not answered: its reads are not all paid
+pub unanswered : (b : Bool) (n : ℕ) (a : Account) (m : Meter) (e : Unpaid) (p : Purse)
+    → judged_end (Err e) p ≡ judged b (pay n a m) → unpaid_end e p ≡ pay n a m
+unanswered b n a m e p f =
+    go b e (pay n a m) (ap (λ (j : Judged). j.verdict) f) (ap (λ (j : Judged). j.account) f) (ap (λ (j : Judged). j.meter) f)
   where
-    go : (r : Read) → Paid p q ≡ payment_of r → judged b (pay n p q) ≡ judged b (and_then r (pay n))
-    go (read.Paid c k) e = cc
-    go (read.Declined c k) e = let z : ◌≡◌ {A = ℕ} 0 1 = cc in absurd (omega arith)
-    go (read.Stopped c k) e = let z : ◌≡◌ {A = ℕ} 0 1 = cc in absurd (omega arith)
+    go : (b : Bool) (e : Unpaid) (r : Read) → verdict_of (Err e) ≡ (judged b r).verdict → p.account ≡ (judged b r).account
+        → p.meter ≡ (judged b r).meter → unpaid_end e p ≡ r
+    go true unpaid.Declined (read.Paid c k) v a m = cc
+    go false unpaid.Declined (read.Paid c k) v a m = cc
+    go true unpaid.Stopped (read.Paid c k) v a m = cc
+    go false unpaid.Stopped (read.Paid c k) v a m = cc
+    go b unpaid.Declined (read.Declined c k) v a m = cc
+    go b unpaid.Stopped (read.Declined c k) v a m = cc
+    go b unpaid.Declined (read.Stopped c k) v a m = cc
+    go b unpaid.Stopped (read.Stopped c k) v a m = cc
+
+-- one that is answered: they are, and the answer is the question's
+pub answered : (b v : Bool) (n : ℕ) (a : Account) (m : Meter) (p : Purse)
+    → judged_end (Ok v) p ≡ judged b (pay n a m) → (v ≡ b) × (read.Paid p.account p.meter ≡ pay n a m)
+answered b v n a m p f =
+    go b v (pay n a m) (ap (λ (j : Judged). j.verdict) f) (ap (λ (j : Judged). j.account) f) (ap (λ (j : Judged). j.meter) f)
+  where
+    go : (b v : Bool) (r : Read) → verdict_of (Ok v) ≡ (judged b r).verdict → p.account ≡ (judged b r).account
+        → p.meter ≡ (judged b r).meter → (v ≡ b) × (read.Paid p.account p.meter ≡ r)
+    go true true (read.Paid c k) v a m = (refl, cc)
+    go true false (read.Paid c k) v a m = (cc, cc)
+    go false true (read.Paid c k) v a m = (cc, cc)
+    go false false (read.Paid c k) v a m = (refl, cc)
+    go b true (read.Declined c k) v a m = (cc, cc)
+    go b false (read.Declined c k) v a m = (cc, cc)
+    go b true (read.Stopped c k) v a m = (cc, cc)
+    go b false (read.Stopped c k) v a m = (cc, cc)
+
+-- an answer that ends a question asked before others
+pub ask-ended : (b c : Bool) (n t : ℕ) (a : Account) (m : Meter) (p : Purse) {r : Result Bool Unpaid} {e : Unpaid}
+    → r ≡ Err e → n ≤ t → judged_end (Err e) p ≡ judged b (pay n a m) → judged_end r p ≡ judged c (pay t a m)
+ask-ended b c n t a m p {r} {e} h l f = ask-more c n t a m p h l (unanswered b n a m e p f)
+
+-- ---- reads that are paid leave as many less
+pub paid-one : (n : ℕ) (a : Account) (m : Meter) {c : Account} {k : Meter} → read.Paid c k ≡ pay_one a m → pay n c k ≡ pay (suc n) a m
+paid-one n a m e = sym (pay-suc n a m e)
+
+pub paid-more : (n k : ℕ) (a : Account) (m : Meter) {c : Account} {l : Meter} → read.Paid c l ≡ pay n a m → pay k c l ≡ pay (n + k) a m
+paid-more n k a m e = ap (λ (r : Read). and_then r (pay k)) e ∙ sym (pay-add n k a m)
 
 -- ---- one question after another: the second is asked where the first says Yes
 abbrev pub on_yes : Verdict → Judged → Judged → Judged
@@ -48,13 +116,9 @@ on_yes verdict.No i j = i
 on_yes verdict.Declined i j = i
 on_yes verdict.Stopped i j = i
 
-pub not_yes : (v : Verdict) (i j : Judged) → OneOf (1 ∷ 2 ∷ 3 ∷ []) (tag_of the_type v) → i ≡ on_yes v i j
-not_yes verdict.Yes i j (inl e) = absurd (omega arith)
-not_yes verdict.Yes i j (inr (inl e)) = absurd (omega arith)
-not_yes verdict.Yes i j (inr (inr e)) = absurd (omega arith)
-not_yes verdict.No i j t = refl
-not_yes verdict.Declined i j t = refl
-not_yes verdict.Stopped i j t = refl
+pub unpaid-first : (e : Unpaid) (i j : Judged) → i ≡ on_yes (verdict_of (Err e)) i j
+unpaid-first unpaid.Declined i j = refl
+unpaid-first unpaid.Stopped i j = refl
 
 pub ask-both : (b c : Bool) (n k : ℕ) (a : Account) (m : Meter)
     → let i : Judged = judged b (pay n a m) in
@@ -88,22 +152,10 @@ where-map verdict.No f p = tt
 where-map verdict.Declined f p = tt
 where-map verdict.Stopped f p = tt
 
-pub where-not : (v : Verdict) (P : Type 0) → OneOf (1 ∷ 2 ∷ 3 ∷ []) (tag_of the_type v) → WhereYes v P
-where-not verdict.Yes P (inl e) = absurd (omega arith)
-where-not verdict.Yes P (inr (inl e)) = absurd (omega arith)
-where-not verdict.Yes P (inr (inr e)) = absurd (omega arith)
-where-not verdict.No P t = tt
-where-not verdict.Declined P t = tt
-where-not verdict.Stopped P t = tt
-
-pub where-ended : (a : Account) (m : Meter) (P : Type 0) {j : Judged} → Ended j ≡ payment_of (pay_one a m) → WhereYes j.verdict P
-where-ended a m P {j} e = go (pay_one a m) e
+-- nothing where it is not answered
+pub where-unpaid : (P : Type 0) {r : Result Bool Unpaid} {e : Unpaid} → r ≡ Err e → WhereYes (verdict_of r) P
+where-unpaid P {r} {e} h = rw h (go e)
   where
-    go : (r : Read) → Ended j ≡ payment_of r → WhereYes j.verdict P
-    go (read.Paid p q) e = let z : ◌≡◌ {A = ℕ} 0 1 = cc in absurd (omega arith)
-    go (read.Declined p q) e = let f : j.verdict ≡ verdict.Declined = cc in subst (λ (v : Verdict). WhereYes v P) (sym f) tt
-    go (read.Stopped p q) e = let f : j.verdict ≡ verdict.Stopped = cc in subst (λ (v : Verdict). WhereYes v P) (sym f) tt
-
-pub where-no : (a : Account) (m : Meter) (P : Type 0) {i : Judged} → i ≡ judged false (pay 0 a m) → WhereYes i.verdict P
-where-no a m P e =
-    subst (λ (j : Judged). WhereYes j.verdict P) (sym (e ∙ ap (judged false) (pay-none a m))) tt
+    go : (e : Unpaid) → WhereYes (verdict_of (Err e)) P
+    go unpaid.Declined = tt
+    go unpaid.Stopped = tt

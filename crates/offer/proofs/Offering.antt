@@ -11,7 +11,7 @@ use borrow.Author.Tests.{lt-ltb, le-ltb, lt-leb, le-leb}
 use Rattle.meter.specs.declared.Meter.{Meter}
 use Rattle.meter.specs.declared.Account.{Account}
 use Rattle.meter.specs.declared.Account.TheVariants.{Remaining}
-use Rattle.meter.specs.declared.Read.TheVariants.{Paid}
+use Rattle.meter.specs.Read.{Paid}
 use Rattle.meter.specs.Meter.{made}
 use Rattle.model.specs.declared.Header.{Header}
 use Rattle.model.specs.declared.Source.{Source}

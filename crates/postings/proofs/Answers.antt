@@ -13,8 +13,7 @@ use Rattle.lists.proofs.Selects.{length-up_to}
 use Rattle.lists.proofs.Marks.{length-mark, marked-positions}
 use Rattle.lists.proofs.Pads.{length-zeroed, pad-zeroed}
 use Rattle.meter.specs.declared.Meter.{Meter}
-use Rattle.meter.specs.declared.Tick.{Tick}
-use Rattle.meter.specs.declared.Tick.TheVariants.{Ticked, Stopped}
+use Rattle.meter.specs.Tick.{Tick, Ticked, Stopped}
 use Rattle.meter.specs.Meter.{ticks}
 use Rattle.model.specs.declared.CandidatesAnswer.TheVariants as answer
 use Rattle.model.specs.declared.Header.{Header}

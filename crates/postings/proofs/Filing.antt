@@ -10,8 +10,7 @@ use Rattle.lists.specs.Lists.{sort_of, pad}
 use Rattle.lists.proofs.Sorts.{length-sort}
 use Rattle.lists.proofs.Pads.{length-pad}
 use Rattle.meter.specs.declared.Meter.{Meter}
-use Rattle.meter.specs.declared.Tick.{Tick}
-use Rattle.meter.specs.declared.Tick.TheVariants.{Ticked, Stopped}
+use Rattle.meter.specs.Tick.{Tick, Ticked, Stopped}
 use Rattle.meter.specs.Meter.{ticks}
 use Rattle.model.specs.Records.{Row, posting_words}
 use Rattle.model.specs.Postings.{postings_of, filed}

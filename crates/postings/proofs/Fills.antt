@@ -15,8 +15,7 @@ use Rattle.lists.proofs.Counts.{same_or, each-head, each_tail, each_map}
 use Rattle.lists.proofs.Sorts.{distinct-one, distinct-same, distinct-other}
 use Rattle.words.specs.Literal.{atoms_wide, codes_wide, atom}
 use Rattle.meter.specs.declared.Meter.{Meter}
-use Rattle.meter.specs.declared.Tick.{Tick}
-use Rattle.meter.specs.declared.Tick.TheVariants.{Ticked, Stopped}
+use Rattle.meter.specs.Tick.{Tick, Ticked, Stopped}
 use Rattle.meter.specs.Meter.{tick_of}
 use Rattle.model.specs.Records.{max_rows}
 use Rattle.model.specs.Postings.{posting}

@@ -13,7 +13,7 @@ use Rattle.lists.specs.Marks.{lower_bound, mark_all}
 use Rattle.lists.proofs.Marks.{mark-append}
 use Rattle.words.specs.Literal.{atoms_wide}
 use Rattle.meter.specs.declared.Meter.{Meter}
-use Rattle.meter.specs.declared.Tick.{Tick}
+use Rattle.meter.specs.Tick.{Tick}
 use Rattle.meter.specs.Meter.{tick_of}
 use Rattle.model.specs.Records.{max_rows}
 use Rattle.model.specs.Postings.{posted_at, search_ticks}

@@ -3,8 +3,7 @@ use Rattle.std.specs.Prelude.{true, false, List, [], ◌∷◌, map, ℕ, ◌+�
 use Rattle.lists.specs.Lists.{distinct}
 use Rattle.lists.specs.Counts.{Each}
 use Rattle.words.specs.Literal.{code_bits, codes_wide, atom}
-use Rattle.meter.specs.declared.Tick.{Tick}
-use Rattle.meter.specs.declared.Tick.TheVariants.{Ticked, Stopped}
+use Rattle.meter.specs.Tick.{Tick, Ticked, Stopped}
 use Rattle.model.specs.Records.{Row, max_rows, posting_words}
 use Rattle.model.specs.Postings.{posting, postings_of, filed}
 use Rattle.slots.specs.declared.Side.{Side}

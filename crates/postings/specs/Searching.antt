@@ -6,8 +6,7 @@ use Rattle.lists.specs.Counts.{is, Each, Sorted}
 use Rattle.words.specs.Bit.{max_word}
 use Rattle.words.specs.Literal.{code_bits, atoms_wide}
 use Rattle.meter.specs.declared.Meter.{Meter}
-use Rattle.meter.specs.declared.Tick.{Tick}
-use Rattle.meter.specs.declared.Tick.TheVariants.{Ticked}
+use Rattle.meter.specs.Tick.{Tick, Ticked}
 use Rattle.meter.specs.Meter.{ticks}
 use Rattle.model.specs.declared.Header.{Header}
 use Rattle.model.specs.declared.CandidatesAnswer.{CandidatesAnswer}

@@ -10,8 +10,8 @@ use types.Run.{OneOf}
 use denote.Enum.Declared.{tag_of}
 use Rattle.meter.specs.declared.Meter.{Meter}
 use Rattle.meter.specs.declared.Account.{Account}
-use Rattle.meter.specs.declared.Read.{Read}
-use Rattle.meter.specs.declared.Read.TheVariants as read
+use Rattle.meter.specs.Read.{Read}
+use Rattle.meter.specs.Read as read
 use Rattle.meter.specs.Meter.{pay}
 use Rattle.meter.proofs.Laws.{pay-none}
 use Rattle.model.specs.declared.Header.{Header}

@@ -4,10 +4,10 @@ use mathlib.Core.Bool.{true, true≢false}
 use Prim.Native.Nat.{ℕ, ◌+◌}
 use Rattle.meter.specs.declared.Meter.{Meter}
 use Rattle.meter.specs.declared.Account.{Account}
-use Rattle.meter.specs.declared.Judged.{Judged}
-use Rattle.meter.specs.declared.Verdict.TheVariants as verdict
-use Rattle.meter.specs.declared.Read.{Read}
-use Rattle.meter.specs.declared.Read.TheVariants as read
+use Rattle.meter.specs.Judged.{Judged}
+use Rattle.meter.specs.Verdict as verdict
+use Rattle.meter.specs.Read.{Read}
+use Rattle.meter.specs.Read as read
 use Rattle.meter.specs.Meter.{and_then, pay, judged}
 use Rattle.meter.proofs.Laws.{pay-add}
 use Rattle.retain_compare.proofs.Answers.{told-yes, told-no, told-declined, told-stopped}

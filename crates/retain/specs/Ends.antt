@@ -2,8 +2,8 @@
 use Rattle.std.specs.Prelude.{Bool, List, ℕ}
 use Rattle.meter.specs.declared.Meter.{Meter}
 use Rattle.meter.specs.declared.Account.{Account}
-use Rattle.meter.specs.declared.Read.{Read}
-use Rattle.meter.specs.declared.Read.TheVariants as read
+use Rattle.meter.specs.Read.{Read}
+use Rattle.meter.specs.Read as read
 use Rattle.meter.specs.Meter.{pay}
 use Rattle.model.specs.declared.Source.{Source}
 use Rattle.model.specs.Records.{Row, Ledger}

@@ -6,7 +6,7 @@ ghost use Rattle.lists.specs.Lists.{zeroed};
 ghost use Rattle.words.specs.Region.{has, max_atoms};
 ghost use Rattle.model.specs.Slots.{slots_of, row_in, entries_in};
 ghost use Rattle.meter.specs.Meter.{pay};
-ghost use Rattle.meter.specs.declared.Read.TheVariants.{Paid};
+ghost use Rattle.meter.specs.Read.{Paid};
 ghost use Rattle.model.specs.Rows.{prepare_reads};
 ghost use Rattle.model.specs.Records.{is_row, max_outputs, slot_words, posting_words, founded_rows};
 ghost use Rattle.model.specs.Retention.{newborn, settle as settle_of, retain as retain_of};

@@ -6,15 +6,15 @@ use Prim.Native.Nat.{ℕ}
 use Rattle.words.specs.Region.{has}
 use Rattle.meter.specs.declared.Meter.{Meter}
 use Rattle.meter.specs.declared.Account.{Account}
-use Rattle.meter.specs.declared.Judged.{Judged}
-use Rattle.meter.specs.declared.Read.{Read}
-use Rattle.meter.specs.declared.Read.TheVariants as read
+use Rattle.meter.specs.Judged.{Judged}
+use Rattle.meter.specs.Read.{Read}
+use Rattle.meter.specs.Read as read
 use Rattle.meter.specs.Meter.{and_then, pay, judged}
 use Rattle.meter.proofs.Laws.{pay-add, pay-none}
 use Rattle.model.specs.Records.{Row, Entry}
 use Rattle.model.specs.Slots.{row_in}
 use Rattle.model.specs.Retention.{Examined as Entered, Pass, found, passed, first_pass, first_reads, second_reads, later_reads}
-use Rattle.meter.specs.Payment.{WhereYes}
+use Rattle.meter.specs.Results.{WhereYes}
 use Rattle.row_propose.specs.Proposed.{Proposed}
 use Rattle.retain_compare.specs.declared.Comparison.{Comparison}
 use Rattle.retain_compare.specs.declared.Compared.{Compared}

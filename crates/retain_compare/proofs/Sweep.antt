@@ -13,16 +13,16 @@ use Rattle.lists.proofs.Counts.{same_or}
 use Rattle.words.specs.Region.{has}
 use Rattle.meter.specs.declared.Meter.{Meter}
 use Rattle.meter.specs.declared.Account.{Account}
-use Rattle.meter.specs.declared.Judged.{Judged}
-use Rattle.meter.specs.declared.Verdict.{Verdict}
-use Rattle.meter.specs.declared.Verdict.TheVariants as verdict
-use Rattle.meter.specs.declared.Read.{Read}
+use Rattle.meter.specs.Judged.{Judged}
+use Rattle.meter.specs.Verdict.{Verdict}
+use Rattle.meter.specs.Verdict as verdict
+use Rattle.meter.specs.Read.{Read}
 use Rattle.meter.specs.Meter.{and_then, pay, judged}
 use Rattle.meter.proofs.Laws.{pay-add}
 use Rattle.model.specs.Records.{Row, Entry}
 use Rattle.model.specs.Rows.{subsumes}
 use Rattle.model.specs.Retention.{second_pass, second_reads}
-use Rattle.meter.specs.Payment.{WhereYes}
+use Rattle.meter.specs.Results.{WhereYes}
 use Rattle.meter.proofs.Payments.{on_yes, ask-both, where-all}
 use Rattle.row_subsume.proofs.Subsuming.{other_than_yes}
 use Rattle.slots.proofs.Holding.{no-entry}

@@ -7,9 +7,9 @@ use native.Mathlib.Omega.{arith}
 use Rattle.words.specs.Region.{mark}
 use Rattle.meter.specs.declared.Meter.{Meter}
 use Rattle.meter.specs.declared.Account.{Account}
-use Rattle.meter.specs.declared.Judged.{Judged}
-use Rattle.meter.specs.declared.Verdict.{Verdict}
-use Rattle.meter.specs.declared.Verdict.TheVariants as verdict
+use Rattle.meter.specs.Judged.{Judged}
+use Rattle.meter.specs.Verdict.{Verdict}
+use Rattle.meter.specs.Verdict as verdict
 use Rattle.meter.specs.Meter.{pay_one, pay, judged}
 use Rattle.model.specs.Records.{Row}
 use Rattle.model.specs.Rows.{subsumes, subsumes_reads}

@@ -2,11 +2,11 @@
 -- and how a comparison ends. Assumes nothing.
 use Rattle.std.specs.Prelude.{Bool, true, false, List, ℕ, suc, ◌+◌}
 use Rattle.words.specs.Region.{mark}
-use Rattle.meter.specs.declared.Judged.{Judged}
-use Rattle.meter.specs.declared.Verdict.{Verdict}
-use Rattle.meter.specs.declared.Verdict.TheVariants as verdict
-use Rattle.meter.specs.declared.Read.{Read}
-use Rattle.meter.specs.declared.Read.TheVariants as read
+use Rattle.meter.specs.Judged.{Judged}
+use Rattle.meter.specs.Verdict.{Verdict}
+use Rattle.meter.specs.Verdict as verdict
+use Rattle.meter.specs.Read.{Read}
+use Rattle.meter.specs.Read as read
 use Rattle.model.specs.Records.{Row, Entry}
 use Rattle.model.specs.Rows.{subsumes, subsumes_reads}
 use Rattle.model.specs.Retention.{Pass, found, passed, first_pass, first_reads, second_pass, later_reads}

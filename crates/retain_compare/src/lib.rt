@@ -11,7 +11,7 @@ ghost use Rattle.model.specs.Union.{joins, join_reads};
 ghost use Rattle.model.specs.Retention.{passed, first_pass, first_reads, second_pass, second_reads};
 ghost use Rattle.slots.specs.Layout.{Laid, Held, proposal};
 ghost use Rattle.row_propose.specs.Proposed.{Proposed};
-ghost use Rattle.meter.specs.Payment.{WhereYes};
+ghost use Rattle.meter.specs.Results.{WhereYes};
 ghost use Rattle.retain_compare.specs.Passes.{examined_by, row_reads, proposal_after};
 ghost use Rattle.retain_compare.specs.Turns.{marked_if, WhereNo, sweep_reads, swept_marks, ended_of, comparison, WhereReplaces};
 ghost use Rattle.retain_compare.specs.Turns.{both_passes, compare_reads};

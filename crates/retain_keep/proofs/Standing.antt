@@ -7,7 +7,7 @@ use Prim.Native.Nat.{ℕ, ◌≤◌, ◌<◌}
 use lib.ListN.{length}
 use Rattle.lists.specs.Lists.{adjust}
 use Rattle.words.specs.Bit.{max_word}
-use Rattle.meter.specs.declared.Read.{Read}
+use Rattle.meter.specs.Read.{Read}
 use Rattle.model.specs.declared.Header.{Header}
 use Rattle.model.specs.declared.Source.{Source}
 use Rattle.model.specs.Records.{Row, Entry, Ledger, is_row, saturating_add, with_counts, with_hits, with_delivered, max_outputs}

@@ -15,8 +15,7 @@ use Rattle.words.specs.Region.{Region, region}
 use Rattle.words.proofs.Widths.{words-for-le}
 use Rattle.words.proofs.Regions.{sound-of, sound-word}
 use Rattle.meter.specs.declared.Meter.{Meter}
-use Rattle.meter.specs.declared.Tick.{Tick}
-use Rattle.meter.specs.declared.Tick.TheVariants.{Ticked, Stopped}
+use Rattle.meter.specs.Tick.{Tick, Ticked, Stopped}
 use Rattle.meter.specs.Meter.{tick_of}
 use Rattle.model.specs.declared.OutputCursor.{OutputCursor}
 use Rattle.model.specs.Records.{Row, is_row, group_length}

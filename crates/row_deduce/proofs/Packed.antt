@@ -12,7 +12,7 @@ use borrow.Author.Tests.{eq-eqb, ne_eqb, eqb-true, eqb-false, not-true, not-fals
 use Rattle.words.specs.Bit.{first_bit}
 use Rattle.words.specs.Region.{Region}
 use Rattle.meter.specs.declared.Meter.{Meter}
-use Rattle.meter.specs.declared.Tick.TheVariants.{Ticked}
+use Rattle.meter.specs.Tick.{Ticked}
 use Rattle.meter.specs.Meter.{tick_of}
 use Rattle.model.specs.Slots.{codes_of}
 use Rattle.model.specs.Deduction.{failing, contradicted, contradictions}

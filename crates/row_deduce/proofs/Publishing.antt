@@ -13,7 +13,7 @@ use Rattle.words.specs.Literal.{code_bits, codes_wide, words_wide}
 use Rattle.words.specs.Region.{Region}
 use Rattle.words.proofs.Widths.{code-in-word}
 use Rattle.meter.specs.declared.Meter.{Meter}
-use Rattle.meter.specs.declared.Tick.TheVariants.{Ticked, Stopped}
+use Rattle.meter.specs.Tick.{Ticked, Stopped}
 use Rattle.meter.specs.Meter.{tick_of}
 use Rattle.model.specs.Records.{group_length}
 use Rattle.model.specs.declared.OutputCursor.{OutputCursor}

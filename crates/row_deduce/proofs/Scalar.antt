@@ -6,7 +6,7 @@ use Prim.Native.Nat.{ℕ, ◌+◌, ◌-◌, ◌<◌}
 use lib.ListN.{get_or}
 use Rattle.words.specs.Region.{Region, holds, contradicts}
 use Rattle.meter.specs.declared.Meter.{Meter}
-use Rattle.meter.specs.declared.Tick.TheVariants.{Ticked}
+use Rattle.meter.specs.Tick.{Ticked}
 use Rattle.meter.specs.Meter.{tick_of}
 use Rattle.model.specs.Deduction.{failing, contradicted, contradictions}
 use Rattle.slots.specs.declared.Side.{Side}

@@ -9,7 +9,7 @@ use lib.ListN.{get_or}
 use Rattle.lists.specs.Lists.{any, select}
 use Rattle.words.specs.Region.{Region, holds, contradicts}
 use Rattle.meter.specs.declared.Meter.{Meter}
-use Rattle.meter.specs.declared.Tick.TheVariants.{Ticked, Stopped}
+use Rattle.meter.specs.Tick.{Ticked, Stopped}
 use Rattle.meter.specs.Meter.{tick_of}
 use Rattle.model.specs.Records.{group_length}
 use Rattle.model.specs.Slots.{codes_of}

@@ -16,8 +16,7 @@ use Rattle.lists.proofs.Tests.{any_append, ascending-sorted}
 use Rattle.words.specs.Literal.{opposite}
 use Rattle.words.specs.Region.{Region, holds, contradicts}
 use Rattle.meter.specs.declared.Meter.{Meter}
-use Rattle.meter.specs.declared.Tick.{Tick}
-use Rattle.meter.specs.declared.Tick.TheVariants.{Ticked, Stopped}
+use Rattle.meter.specs.Tick.{Tick, Ticked, Stopped}
 use Rattle.meter.specs.Meter.{tick_of, on_tick, ticks}
 use Rattle.meter.proofs.Laws.{ticks-add}
 use Rattle.model.specs.declared.Deduction.{Deduction}

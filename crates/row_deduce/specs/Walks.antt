@@ -5,8 +5,7 @@ use Rattle.words.specs.Bit.{first_bit}
 use Rattle.words.specs.Literal.{opposite}
 use Rattle.words.specs.Region.{Region}
 use Rattle.meter.specs.declared.Meter.{Meter}
-use Rattle.meter.specs.declared.Tick.{Tick}
-use Rattle.meter.specs.declared.Tick.TheVariants.{Ticked, Stopped}
+use Rattle.meter.specs.Tick.{Tick, Ticked, Stopped}
 use Rattle.meter.specs.Meter.{tick_of, made}
 use Rattle.model.specs.declared.Literal.{Literal}
 use Rattle.model.specs.declared.Deduction.{Deduction}

@@ -12,9 +12,9 @@ use Rattle.lists.specs.Lists.{put}
 use Rattle.lists.proofs.Puts.{length-put}
 use Rattle.meter.specs.declared.Meter.{Meter}
 use Rattle.meter.specs.declared.Account.{Account}
-use Rattle.meter.specs.declared.Judged.{Judged}
-use Rattle.meter.specs.declared.Verdict.{Verdict}
-use Rattle.meter.specs.declared.Verdict.TheVariants as verdict
+use Rattle.meter.specs.Judged.{Judged}
+use Rattle.meter.specs.Verdict.{Verdict}
+use Rattle.meter.specs.Verdict as verdict
 use Rattle.meter.specs.Meter.{pay, judged}
 use Rattle.meter.proofs.Laws.{pay-none}
 use Rattle.model.specs.Records.{Row, slot_words, max_conditions, max_outputs, conditions_at, outputs_at, body_at}

@@ -1,7 +1,7 @@
 -- 01, module 3: "one for each step of the count and its end". What the walk of a union has still to give. Assumes nothing.
 use Rattle.std.specs.Prelude.{◌≡◌, List, [], ◌∷◌, ℕ, ◌≤◌, length, take, drop}
-use Rattle.meter.specs.declared.Verdict.{Verdict}
-use Rattle.meter.specs.declared.Verdict.TheVariants as verdict
+use Rattle.meter.specs.Verdict.{Verdict}
+use Rattle.meter.specs.Verdict as verdict
 use Rattle.model.specs.Union.{union}
 use Rattle.slots.specs.declared.Side.{Side}
 use Rattle.slots.specs.declared.Cursor.{Cursor}

@@ -9,7 +9,7 @@ ghost use Rattle.model.specs.Union.{union, grown, joins, same_reads, union_reads
 ghost use Rattle.model.specs.Slots.{row_in};
 ghost use Rattle.slots.specs.Cursor.{Sound, list_of};
 ghost use Rattle.slots.specs.Layout.{Laid, proposal, row_of};
-ghost use Rattle.meter.specs.Payment.{WhereYes};
+ghost use Rattle.meter.specs.Results.{WhereYes};
 ghost use Rattle.row_propose.specs.Proposed.{Proposed};
 ghost use Rattle.row_merge.specs.Merge.{left_of, given_of, PlacedBoth, PlacedMerged, BeginsWith, if_yes};
 

@@ -9,7 +9,7 @@ use Rattle.meter.specs.declared.Meter.{Meter}
 use Rattle.meter.specs.declared.Sharing.{Sharing}
 use Rattle.meter.specs.declared.Account.{Account}
 use Rattle.meter.specs.declared.Account.TheVariants.{Share}
-use Rattle.meter.specs.declared.Read.{Read}
+use Rattle.meter.specs.Read.{Read}
 use Rattle.meter.specs.Meter.{pay}
 use Rattle.model.specs.declared.LearningLimits.{LearningLimits}
 use Rattle.model.specs.declared.Header.{Header}

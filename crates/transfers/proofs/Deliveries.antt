@@ -4,8 +4,7 @@ use mathlib.Core.Bool.{Bool, true, false}
 use mathlib.Core.List.{List, [], ◌∷◌, ◌++◌, append-nil}
 use Prim.Native.Nat.{ℕ}
 use Rattle.meter.specs.declared.Meter.{Meter}
-use Rattle.meter.specs.declared.Tick.{Tick}
-use Rattle.meter.specs.declared.Tick.TheVariants.{Ticked, Stopped}
+use Rattle.meter.specs.Tick.{Tick, Ticked, Stopped}
 use Rattle.meter.specs.Meter.{tick_of}
 use Rattle.model.specs.declared.LearningLimits.{LearningLimits}
 use Rattle.model.specs.Records.{Entry, Ledger, saturating_add, with_hits, with_delivered}

@@ -9,8 +9,7 @@ use lib.Dec.{ltb, leb}
 use lib.ListN.{length, set, length-set}
 use Rattle.meter.specs.declared.Meter.{Meter}
 use Rattle.meter.specs.declared.Account.{Account}
-use Rattle.meter.specs.declared.Read.{Read}
-use Rattle.meter.specs.declared.Read.TheVariants.{Paid, Declined, Stopped}
+use Rattle.meter.specs.Read.{Read, Paid, Declined, Stopped}
 use Rattle.meter.specs.Meter.{and_then, pay}
 use Rattle.model.specs.declared.LearningLimits.{LearningLimits}
 use Rattle.model.specs.declared.Header.{Header}

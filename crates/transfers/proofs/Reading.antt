@@ -9,8 +9,8 @@ use Rattle.lists.proofs.Bools.{T_true}
 use Rattle.words.specs.Region.{max_atoms}
 use Rattle.meter.specs.declared.Meter.{Meter}
 use Rattle.meter.specs.declared.Account.{Account}
-use Rattle.meter.specs.declared.Read.{Read}
-use Rattle.meter.specs.declared.Read.TheVariants as read
+use Rattle.meter.specs.Read.{Read}
+use Rattle.meter.specs.Read as read
 use Rattle.model.specs.declared.Header.{Header}
 use Rattle.model.specs.declared.Source.{Source}
 use Rattle.model.specs.Records.{Row, is_row, max_outputs, outputs_at}

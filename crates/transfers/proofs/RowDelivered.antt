@@ -12,8 +12,8 @@ use types.Run.{OneOf}
 use denote.Enum.Declared.{tag_of}
 use mathlib.Core.Logic.{inl, inr}
 use Rattle.lists.specs.Lists.{adjust}
-use Rattle.meter.specs.declared.Tick.{Tick}
-use Rattle.meter.specs.declared.Tick.TheVariants as tick
+use Rattle.meter.specs.Tick.{Tick}
+use Rattle.meter.specs.Tick as tick
 use Rattle.meter.specs.Meter.{tick_of, pay}
 use Rattle.model.specs.declared.LearningLimits.{LearningLimits}
 use Rattle.model.specs.declared.Header.{Header}

@@ -5,8 +5,8 @@ use Prim.Native.Nat.{ℕ, suc, ◌+◌, ◌*◌, ◌≤◌, ◌<◌}
 use native.Mathlib.Omega.{arith}
 use lib.ListN.{length, get_or}
 use borrow.Author.Tests.{le-leb, lt-leb}
-use Rattle.meter.specs.declared.Tick.{Tick}
-use Rattle.meter.specs.declared.Tick.TheVariants as tick
+use Rattle.meter.specs.Tick.{Tick}
+use Rattle.meter.specs.Tick as tick
 use Rattle.meter.specs.Meter.{tick_of, pay}
 use Rattle.model.specs.declared.LearningLimits.{LearningLimits}
 use Rattle.model.specs.Records.{literals, with_delivered, slot_words, max_rows, max_outputs, hits_at, born_at}

@@ -1,7 +1,7 @@
 -- 01, module 6: 'The output maximum is the larger of the row's outputs and the tier's founded_outputs.' How a row that is received ends,
 -- once its reads are paid or not. Assumes nothing.
 use Rattle.std.specs.Prelude.{List, ℕ, max, length, get_or}
-use Rattle.meter.specs.declared.Read.{Read}
+use Rattle.meter.specs.Read.{Read}
 use Rattle.model.specs.declared.Source.{Source}
 use Rattle.model.specs.Records.{Row, source_at, source_in}
 use Rattle.model.specs.Retention.{retain}

@@ -3,9 +3,8 @@ use Rattle.std.specs.Prelude.{◌≡◌, List, ℕ, ◌≤◌, ◌<◌}
 use Rattle.meter.specs.declared.Meter.{Meter}
 use Rattle.meter.specs.declared.Sharing.{Sharing}
 use Rattle.meter.specs.declared.Account.TheVariants.{Share}
-use Rattle.meter.specs.declared.Tick.{Tick}
-use Rattle.meter.specs.declared.Tick.TheVariants.{Ticked}
-use Rattle.meter.specs.declared.Tick.TheVariants as tick
+use Rattle.meter.specs.Tick.{Tick, Ticked}
+use Rattle.meter.specs.Tick as tick
 use Rattle.meter.specs.Meter.{tick_of}
 use Rattle.model.specs.declared.Header.{Header}
 use Rattle.model.specs.Records.{max_rows, max_outputs}

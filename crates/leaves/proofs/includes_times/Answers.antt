@@ -3,7 +3,7 @@ use mathlib.Core.List.{List}
 use Prim.Native.Nat.{ℕ}
 use Rattle.meter.specs.declared.Meter.{Meter}
 use Rattle.meter.specs.declared.Account.{Account}
-use Rattle.meter.specs.declared.Judged.{Judged}
+use Rattle.meter.specs.Judged.{Judged}
 use Rattle.meter.specs.Meter.{pay, judged}
 use Rattle.model.specs.Rows.{includes, includes_reads}
 use Rattle.slots.specs.Cursor.{list_of}

@@ -5,7 +5,7 @@ use Rattle.leaves.specs.Calls.{again, payer, asked}
 use mathlib.Core.List.{List}
 use Rattle.meter.specs.declared.Meter.{Meter}
 use Rattle.meter.specs.declared.Account.{Account}
-use Rattle.meter.specs.declared.Judged.{Judged}
+use Rattle.meter.specs.Judged.{Judged}
 use Rattle.model.specs.Rows.{includes, includes_reads}
 use Rattle.model.specs.Slots.{row_in}
 use Rattle.leaves.proofs.includes_times.Given as goal

@@ -7,7 +7,7 @@ use Rattle.leaves.specs.Calls.{again, payer, asked}
 use mathlib.Core.List.{List}
 use Rattle.meter.specs.declared.Meter.{Meter}
 use Rattle.meter.specs.declared.Account.{Account}
-use Rattle.meter.specs.declared.Judged.{Judged}
+use Rattle.meter.specs.Judged.{Judged}
 use Rattle.model.specs.Union.{joins, join_reads}
 use Rattle.model.specs.Slots.{row_in}
 use Rattle.slots.specs.Layout.{row_of}

@@ -11,8 +11,7 @@ use lib.Dec.{T, leb, nleb→lt, not_T}
 use Rattle.lists.specs.Lists.{select, concat}
 use Rattle.words.specs.Region.{Region, holds}
 use Rattle.meter.specs.declared.Meter.{Meter}
-use Rattle.meter.specs.declared.Tick.{Tick}
-use Rattle.meter.specs.declared.Tick.TheVariants.{Ticked, Stopped}
+use Rattle.meter.specs.Tick.{Tick, Ticked, Stopped}
 use Rattle.meter.specs.Meter.{tick_of}
 use Rattle.model.specs.declared.OutputCursor.{OutputCursor}
 use Rattle.model.specs.Records.{Row}

@@ -14,8 +14,7 @@ use Rattle.lists.specs.Lists.{up_to}
 use Rattle.words.specs.Region.{Region, decide, region}
 use Rattle.words.proofs.Regions.{Sound}
 use Rattle.meter.specs.declared.Meter.{Meter}
-use Rattle.meter.specs.declared.Tick.{Tick}
-use Rattle.meter.specs.declared.Tick.TheVariants.{Ticked, Stopped}
+use Rattle.meter.specs.Tick.{Tick, Ticked, Stopped}
 use Rattle.meter.specs.Meter.{tick_of, ticks}
 use Rattle.meter.specs.Counting.{Spent}
 use Rattle.meter.proofs.Counting.{tick-stopped, ticks-stopped}

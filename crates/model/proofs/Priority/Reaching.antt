@@ -13,8 +13,7 @@ use Rattle.lists.proofs.Bools.{T_of}
 use Rattle.lists.proofs.Selects.{select_short}
 use Rattle.words.specs.Region.{Region, holds}
 use Rattle.meter.specs.declared.Meter.{Meter}
-use Rattle.meter.specs.declared.Tick.{Tick}
-use Rattle.meter.specs.declared.Tick.TheVariants.{Ticked, Stopped}
+use Rattle.meter.specs.Tick.{Tick, Ticked, Stopped}
 use Rattle.meter.specs.Meter.{tick_of}
 use Rattle.model.specs.declared.OutputCursor.{OutputCursor}
 use Rattle.model.specs.Records.{Row}

@@ -14,8 +14,7 @@ use Rattle.lists.specs.Lists.{select, concat, range, up_to, insert, sort_of, unl
 use Rattle.lists.proofs.Bools.{T_of}
 use Rattle.words.specs.Literal.{atom}
 use Rattle.meter.specs.declared.Meter.{Meter}
-use Rattle.meter.specs.declared.Tick.{Tick}
-use Rattle.meter.specs.declared.Tick.TheVariants.{Ticked, Stopped}
+use Rattle.meter.specs.Tick.{Tick, Ticked, Stopped}
 use Rattle.meter.specs.Meter.{ticks}
 use Rattle.model.specs.declared.Header.{Header}
 use Rattle.model.specs.Records.{Row, Entry, Ledger, rows_of, with_stale, with_full, max_rows}

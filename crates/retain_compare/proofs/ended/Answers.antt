@@ -1,7 +1,7 @@
 -- `ended` meets its contract, by the answer of the second pass. Assumes nothing.
 use mathlib.Core.Path.{◌≡◌, sym, ap}
-use Rattle.meter.specs.declared.Judged.{Judged}
-use Rattle.meter.specs.declared.Verdict.{Verdict}
+use Rattle.meter.specs.Judged.{Judged}
+use Rattle.meter.specs.Verdict.{Verdict}
 use Rattle.retain_compare.specs.declared.Comparison.{Comparison}
 use Rattle.retain_compare.specs.Turns.{compared_as, ended_of}
 use Rattle.retain_compare.proofs.ended.Goals as goal

@@ -2,7 +2,7 @@
 use mathlib.Core.Path.{◌≡◌, refl, sym, ap, ◌∙◌}
 use mathlib.Core.List.{List}
 use Prim.Native.Nat.{ℕ}
-use Rattle.meter.specs.declared.Verdict.{Verdict}
+use Rattle.meter.specs.Verdict.{Verdict}
 use Rattle.model.specs.Records.{Row}
 use Rattle.model.specs.Slots.{row_in}
 use Rattle.model.specs.Union.{grown}

@@ -9,7 +9,7 @@ use Rattle.lists.proofs.Bools.{T_true}
 use Rattle.words.specs.Literal.{code_bits, atoms_wide}
 use Rattle.words.specs.Region.{Region, region}
 use Rattle.meter.specs.declared.Meter.{Meter}
-use Rattle.meter.specs.declared.Tick.TheVariants.{Ticked}
+use Rattle.meter.specs.Tick.{Ticked}
 use Rattle.meter.specs.Meter.{tick_of}
 use Rattle.model.specs.Records.{Row, is_row}
 use Rattle.model.specs.Rows.{packed}

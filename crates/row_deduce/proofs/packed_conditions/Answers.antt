@@ -6,7 +6,7 @@ use lib.Bits.{bit_and}
 use Rattle.words.specs.Region.{Region, region}
 use native.Mathlib.Omega.{arith}
 use lib.ListN.{length}
-use Rattle.meter.specs.declared.Tick.TheVariants.{Ticked}
+use Rattle.meter.specs.Tick.{Ticked}
 use Rattle.meter.specs.Meter.{tick_of}
 use Rattle.row_deduce.specs.declared.Group.{Group}
 use Rattle.row_deduce.specs.Chunks.{chunk_at, chunks_of}

@@ -3,7 +3,7 @@ use Prim.Native.Nat.{◌<◌}
 use native.Mathlib.Omega.{arith}
 use lib.ListN.{length}
 use Rattle.words.specs.Region.{Region, region}
-use Rattle.meter.specs.declared.Tick.TheVariants.{Ticked}
+use Rattle.meter.specs.Tick.{Ticked}
 use Rattle.meter.specs.Meter.{tick_of}
 use Rattle.row_deduce.specs.declared.Group.{Group}
 use Rattle.row_deduce.proofs.Turns.{pass-start, pass-end, pass-stopped, pass-hit, pass_on}

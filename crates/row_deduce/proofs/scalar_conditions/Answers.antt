@@ -2,7 +2,7 @@ use mathlib.Core.Path.{◌≡◌, sym, ◌∙◌}
 use Prim.Native.Nat.{◌<◌}
 use native.Mathlib.Omega.{arith}
 use Rattle.words.specs.Region.{Region, region}
-use Rattle.meter.specs.declared.Tick.TheVariants.{Ticked}
+use Rattle.meter.specs.Tick.{Ticked}
 use Rattle.meter.specs.Meter.{tick_of}
 use Rattle.row_deduce.specs.Chunks.{chunk_at, chunks_of}
 use Rattle.row_deduce.proofs.Turns.{at-start, at_next, at_open, at_all, turn_stopped}

@@ -5,7 +5,7 @@ use mathlib.Core.List.{List, [], ◌∷◌, ◌++◌, append-nil}
 use Prim.Native.Nat.{ℕ, ◌+◌, ◌-◌, ◌<◌}
 use lib.ListN.{length, take, set, length-set}
 use lib.Seq.{length-take-le}
-use Rattle.meter.specs.declared.Judged.{Judged}
+use Rattle.meter.specs.Judged.{Judged}
 use Rattle.meter.specs.Meter.{pay_one}
 use Rattle.model.specs.Union.{union}
 use Rattle.slots.specs.Cursor.{rest, rest-start, Placed, list_of}

@@ -1,7 +1,7 @@
 -- `regrow` meets its contract: the reads are paid for, then the outputs become the proposal's. Assumes nothing.
 use mathlib.Core.Path.{refl, sym, ap, ◌∙◌}
 use mathlib.Core.Bool.{true}
-use Rattle.meter.specs.declared.Judged.{Judged}
+use Rattle.meter.specs.Judged.{Judged}
 use Rattle.meter.specs.Meter.{judged}
 use Rattle.meter.proofs.Laws.{pay-none}
 use Rattle.row_merge.proofs.Growing.{changed-yes}

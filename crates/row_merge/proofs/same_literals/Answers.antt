@@ -3,7 +3,7 @@ use mathlib.Core.Path.{◌≡◌, refl, sym, ap, ap₂, ◌∙◌, subst}
 use mathlib.Core.List.{List, [], ◌∷◌}
 use Prim.Native.Nat.{ℕ}
 use lib.ListN.{length}
-use Rattle.meter.specs.declared.Judged.{Judged}
+use Rattle.meter.specs.Judged.{Judged}
 use Rattle.meter.specs.Meter.{pay_one}
 use Rattle.slots.specs.Cursor.{rest, rest-start, given, Placed, PlacedStep, list_of}
 use Rattle.meter.specs.declared.Payment.TheVariants as Charge

@@ -4,9 +4,9 @@ use mathlib.Core.Path.{◌≡◌, sym, ap, ap₂, ◌∙◌, subst}
 use mathlib.Core.List.{List}
 use Prim.Native.Nat.{ℕ, ◌≤◌, ◌<◌}
 use lib.ListN.{length, get_or}
-use Rattle.meter.specs.declared.Judged.{Judged}
-use Rattle.meter.specs.declared.Verdict.{Verdict}
-use Rattle.meter.specs.declared.Verdict.TheVariants as verdict
+use Rattle.meter.specs.Judged.{Judged}
+use Rattle.meter.specs.Verdict.{Verdict}
+use Rattle.meter.specs.Verdict as verdict
 use Rattle.model.specs.Records.{Row, outputs_at}
 use Rattle.model.specs.Union.{grown}
 use Rattle.model.specs.Slots.{row_in}

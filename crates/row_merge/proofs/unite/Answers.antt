@@ -6,15 +6,15 @@ use mathlib.Core.List.{List}
 use Prim.Native.Nat.{ℕ, ◌+◌, ◌-◌, ◌≤◌}
 use lib.ListN.{length, get_or}
 use borrow.Rule.Slice.PartMut.{put_mid, mid_of, same_len_mid}
-use Rattle.meter.specs.declared.Judged.{Judged}
-use Rattle.meter.specs.declared.Verdict.{Verdict}
-use Rattle.meter.specs.declared.Verdict.TheVariants as verdict
+use Rattle.meter.specs.Judged.{Judged}
+use Rattle.meter.specs.Verdict.{Verdict}
+use Rattle.meter.specs.Verdict as verdict
 use Rattle.meter.specs.Meter.{pay, judged}
 use Rattle.model.specs.Records.{slot_words, max_conditions, max_outputs, conditions_at, outputs_at, body_at}
 use Rattle.model.specs.Union.{union, grown}
 use Rattle.model.specs.Slots.{row_in}
 use Rattle.slots.specs.Cursor.{list_of}
-use Rattle.meter.specs.Payment.{WhereYes}
+use Rattle.meter.specs.Results.{WhereYes}
 use Rattle.row_propose.proofs.Parts.{zeros}
 use Rattle.row_propose.proofs.Proposing.{proposed-laid, proposed-outputs}
 use Rattle.row_merge.specs.Merge.{BeginsWith, if_yes}

@@ -3,7 +3,7 @@ use mathlib.Core.Path.{◌≡◌, refl, sym, ap, ◌∙◌}
 use mathlib.Core.List.{List}
 use Prim.Native.Nat.{ℕ, ◌+◌}
 use native.Mathlib.Omega.{arith}
-use Rattle.meter.specs.declared.Tick.{Tick}
+use Rattle.meter.specs.Tick.{Tick}
 use Rattle.model.specs.Slots.{row_in}
 use Rattle.model.specs.Postings.{row_postings, postings_from, postings_of}
 use Rattle.postings.specs.Steps.{onward, walk}

@@ -4,7 +4,7 @@ use mathlib.Core.List.{List}
 use Prim.Native.Nat.{ℕ, ◌≤◌}
 use native.Mathlib.Omega.{arith}
 use lib.ListN.{length, take}
-use Rattle.meter.specs.declared.Tick.TheVariants.{Ticked, Stopped}
+use Rattle.meter.specs.Tick.{Ticked, Stopped}
 use Rattle.model.specs.Records.{Row}
 use Rattle.model.specs.Postings.{postings_of}
 use Rattle.postings.specs.Steps.{Walk, walked, walk}

@@ -5,7 +5,7 @@ use mathlib.Core.Option.{Option}
 use Prim.Native.Nat.{ℕ}
 use native.Mathlib.Omega.{arith}
 use Rattle.words.specs.Literal.{code_bits}
-use Rattle.meter.specs.declared.Tick.{Tick}
+use Rattle.meter.specs.Tick.{Tick}
 use Rattle.postings.specs.Steps.{walk, onward}
 use Rattle.postings.specs.Searching.{look, marks, looks}
 use Rattle.postings.proofs.Walking.{walk_none}

@@ -5,7 +5,7 @@ use mathlib.Core.Option.{Option}
 use Prim.Native.Nat.{ℕ, ◌+◌}
 use native.Mathlib.Omega.{arith}
 use lib.ListN.{get_or, drop, drop_of_length-le}
-use Rattle.meter.specs.declared.Tick.{Tick}
+use Rattle.meter.specs.Tick.{Tick}
 use Rattle.postings.specs.Steps.{walk, onward}
 use Rattle.postings.specs.Searching.{look, looks, looks_all}
 use Rattle.postings.proofs.Walking.{walk_none, walk-append}

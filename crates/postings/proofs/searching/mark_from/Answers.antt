@@ -7,8 +7,7 @@ use native.Mathlib.Omega.{arith}
 use lib.ListN.{length, get_or, drop, set, length-set}
 use Rattle.lists.proofs.Counts.{each_at}
 use Rattle.lists.proofs.Marks.{lower-le}
-use Rattle.meter.specs.declared.Tick.{Tick}
-use Rattle.meter.specs.declared.Tick.TheVariants.{Ticked}
+use Rattle.meter.specs.Tick.{Tick, Ticked}
 use Rattle.meter.specs.Meter.{tick_of}
 use Rattle.model.specs.Records.{max_rows}
 use Rattle.postings.specs.Steps.{walk, walked, onward}

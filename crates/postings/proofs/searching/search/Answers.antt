@@ -5,7 +5,7 @@ use Prim.Native.Nat.{ℕ}
 use lib.ListN.{length}
 use Rattle.lists.specs.Lists.{zeroed}
 use Rattle.lists.proofs.Pads.{length-zeroed}
-use Rattle.meter.specs.declared.Tick.{Tick}
+use Rattle.meter.specs.Tick.{Tick}
 use Rattle.model.specs.declared.CandidatesAnswer.TheVariants as answer
 use Rattle.postings.specs.Steps.{walk, walked}
 use Rattle.postings.specs.Searching.{look, looks_all, SearchEnd}

@@ -1,7 +1,7 @@
 -- `receive` meets its contract, by the answer of the first read. Assumes nothing.
 use mathlib.Core.Path.{◌≡◌, sym, ap, ◌∙◌}
 use Prim.Native.Nat.{ℕ, suc}
-use Rattle.meter.specs.declared.Read.{Read}
+use Rattle.meter.specs.Read.{Read}
 use Rattle.meter.specs.Meter.{and_then, pay}
 use Rattle.meter.proofs.Laws.{pay-suc}
 use Rattle.model.specs.Records.{literals}

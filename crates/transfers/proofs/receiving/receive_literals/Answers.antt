@@ -4,16 +4,16 @@ use mathlib.Core.Path.{◌≡◌, refl, sym, ◌∙◌, subst}
 use mathlib.Core.Bool.{true, true≢false}
 use mathlib.Core.List.{List}
 use Prim.Native.Nat.{ℕ}
-use Rattle.meter.specs.declared.Judged.{Judged}
-use Rattle.meter.specs.declared.Verdict.{Verdict}
-use Rattle.meter.specs.declared.Verdict.TheVariants as verdict
-use Rattle.meter.specs.declared.Read.{Read}
+use Rattle.meter.specs.Judged.{Judged}
+use Rattle.meter.specs.Verdict.{Verdict}
+use Rattle.meter.specs.Verdict as verdict
+use Rattle.meter.specs.Read.{Read}
 use Rattle.meter.specs.Meter.{pay}
 use Rattle.model.specs.Records.{literals}
 use Rattle.model.specs.Slots.{row_in}
 use Rattle.slots.specs.Layout.{proposal}
 use Rattle.slots.proofs.Storing.{laid-stored}
-use Rattle.meter.specs.Payment.{WhereYes}
+use Rattle.meter.specs.Results.{WhereYes}
 use Rattle.contents.specs.Lent.{lent}
 use Rattle.retain_compare.proofs.Answers.{told-yes, told-no, told-declined, told-stopped}
 use Rattle.transfers.specs.Receiving.{source_of}
