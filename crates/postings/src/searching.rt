@@ -61,17 +61,8 @@ fn count_postings(header: Header, slots: &[u64], postings: &[u64]) -> usize
     let row = &slots[0..SLOT_WORDS];
     let conditions = zero_first(row, slots::conditions(row));
     let outputs = zero_first(row, slots::outputs(row));
-    let mut lo = conditions + outputs;
-    let mut hi = postings.len();
-    while lo < hi {
-        let mid = lo + (hi - lo) / 2;
-        if postings[mid] == 0 {
-            hi = mid;
-        } else {
-            lo = mid + 1;
-        }
-    }
-    lo
+    let zeros = conditions + outputs;
+    zeros + postings[zeros..].partition_point(|posting| 0 < *posting)
 }
 
 // The postings of a ledger, rebuilt if it is stale; their number is next.
@@ -117,19 +108,10 @@ fn mark_from(postings: &[u64], from: usize, atom: u64, answer: &mut [u64], work:
 
 // From a place on, past at most so many words that are below a bound.
 fn skip_near(postings: &[u64], near: usize, bound: u64) -> usize {
-    let mut at = near;
-    let mut left = NEAR;
-    while 0 < left {
-        if postings.len() <= at {
-            return at;
-        }
-        if bound <= postings[at] {
-            return at;
-        }
-        at += 1;
-        left -= 1;
-    }
-    at
+    let Some(rest) = postings.get(near..) else {
+        return near;
+    };
+    near + rest.iter().take(NEAR).take_while(|posting| **posting < bound).count()
 }
 
 // Whether the last word before a place is below a bound.
