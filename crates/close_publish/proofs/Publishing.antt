@@ -1,9 +1,8 @@
 -- Publishing in a closing: each output decided in turn, up to the end, a false decision or a stop. Assumes nothing.
 use mathlib.Core.Path.{◌≡◌, refl, sym, ap, ap₂, ◌∙◌, subst}
-use mathlib.Core.Bool.{Bool, true, false, ◌||◌}
+use mathlib.Core.Bool.{Bool, true, false}
 use mathlib.Core.List.{List, []}
 use mathlib.Core.Option.{Option, none, some}
-use Rattle.std.specs.Prelude.{Err}
 use Prim.Native.Nat.{ℕ, zero, suc, ◌<◌, ◌≤◌}
 use native.Mathlib.Omega.{arith}
 use lib.Dec.{T}
@@ -27,9 +26,9 @@ use Rattle.model.proofs.Rows.{row-parts}
 use Rattle.slots.specs.Layout.{Stored}
 use Rattle.row_deduce.specs.Publication.{Pointed}
 use Rattle.row_deduce.proofs.Cursors.{pointed-start, pointed-next}
-use Rattle.close_publish.specs.Turns.{Beside, beside, state, ended_as, Counted}
+use Rattle.close_publish.specs.Turns.{Beside, beside, state, halted_as, Counted}
 use Rattle.close_publish.specs.declared.Halt.{Halt}
-use Rattle.close_publish.proofs.Ending.{ended-stays}
+use Rattle.close_publish.proofs.Ending.{halted-stays}
 use Rattle.close_publish.proofs.Deciding.{counted-none, counted-both}
 
 -- ---- a publishing reads and writes nothing of the ledger, nor of the output that is named
@@ -248,12 +247,12 @@ module _ (n : ℕ) (slot : List ℕ) (st : Stored n slot) where
           ∙ w.rest l
 
       -- a decision that does not go on ends the walk
-      pub publish-halts : {A : Type 0} (h : Halt) (held' cut' : List ℕ)
-          → ((l : Beside) (m : Meter) → ended_as {A} (Err h) (state l held' cut' m) ≡ decide_on n o (state l held cut m))
-          → (l : Beside) → ended_as {A} (Err h) (state l held' cut' m')
+      pub publish-halts : (h : Halt) (held' cut' : List ℕ)
+          → ((l : Beside) (m : Meter) → halted_as h (state l held' cut' m) ≡ decide_on n o (state l held cut m))
+          → (l : Beside) → halted_as h (state l held' cut' m')
           ≡ publish (suc (length row.outputs)) n row start_cursor (state l held₀ cut₀ m₀)
       publish-halts h held' cut' d l =
-          ended-stays h (state l held' cut' m') (publish (left row k) n row k')
+          halted-stays h (state l held' cut' m') (publish (left row k) n row k')
           ∙ ap (λ (y : Turn). on_going y (publish (left row k) n row k')) (d l m') ∙ here l
 
       pub publish-less : left row k' < left row k

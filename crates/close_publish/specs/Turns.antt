@@ -31,10 +31,13 @@ abbrev pub halt_of : Halt
 halt_of = Stopped
 
 -- how a function ended, with the state that it leaves
+abbrev pub halted_as : Halt → State → Turn
+halted_as Conflict s = conflict s
+halted_as Stopped s = halted s
+
 abbrev pub ended_as : {A : Type 0} → Result A Halt → State → Turn
 ended_as (Ok a) s = going s
-ended_as (Err Conflict) s = conflict s
-ended_as (Err Stopped) s = halted s
+ended_as (Err e) s = halted_as e s
 
 -- more are noted than were exactly if an atom was decided, and nothing that was decided is taken back
 pub record Counted (n k k' : ℕ) (old new : Region) : Type 0 where
