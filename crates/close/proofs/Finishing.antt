@@ -16,7 +16,7 @@ use Rattle.meter.specs.declared.Meter.{Meter}
 use Rattle.meter.specs.Meter.{made}
 use Rattle.model.specs.declared.LearningLimits.{LearningLimits}
 use Rattle.model.specs.declared.Header.{Header}
-use Rattle.model.specs.declared.Contradicted.TheVariants.{None}
+use Rattle.std.specs.Prelude.{None}
 use Rattle.model.specs.declared.CloseResult.{CloseResult}
 use Rattle.model.specs.declared.CloseAnswer.{CloseAnswer}
 use Rattle.std.specs.Prelude.{Ok, Err}

@@ -11,7 +11,7 @@ use close_rounds::rounds;
 use contents::accept;
 use lists::fill_zero;
 use meter::Meter;
-use model::{CloseAnswer, CloseResult, Contradicted, Header, LearningLimits, Refusal};
+use model::{CloseAnswer, CloseResult, Header, LearningLimits, Refusal};
 use words::is_region;
 
 // Whether the scratches have a word for each row and each atom.
@@ -58,7 +58,7 @@ pub fn close(
     if let Err(refusal) = accept(header, slots, postings, others) {
         return CloseResult {
             answer: Err(refusal),
-            contradicted: Contradicted::None,
+            contradicted: None,
             header,
             meter: work,
             ticks: 0,
@@ -67,7 +67,7 @@ pub fn close(
     if !is_region(limits.atoms, held, cut) {
         return CloseResult {
             answer: Err(Refusal::Region),
-            contradicted: Contradicted::None,
+            contradicted: None,
             header,
             meter: work,
             ticks: 0,

@@ -15,7 +15,7 @@ use Rattle.model.specs.declared.Header.{Header}
 use Rattle.model.specs.declared.Deduction.{Deduction}
 use Rattle.model.specs.declared.Deduction.TheVariants.{Nothing, Force, Require}
 use Rattle.model.specs.declared.Literal.{Literal}
-use Rattle.model.specs.declared.Contradicted.{Contradicted}
+use Rattle.model.specs.Contradicted.{Contradicted}
 use Rattle.model.specs.Records.{Row, Entry, Ledger, row_at, slot_words}
 use Rattle.model.specs.Slots.{entries_in, row_in}
 use Rattle.model.specs.Deduction.{deduction, deduction_ticks, start_cursor}

@@ -13,7 +13,7 @@ use Rattle.words.specs.Region.{Region, region, is_region, decide}
 use Rattle.words.proofs.Regions.{sound-of}
 use Rattle.meter.specs.declared.Meter.{Meter}
 use Rattle.model.specs.declared.OutputCursor.{OutputCursor}
-use Rattle.model.specs.declared.Contradicted.TheVariants.{None}
+use Rattle.std.specs.Prelude.{None}
 use Rattle.model.specs.Records.{Row, is_row, fresh, limits_of}
 use Rattle.model.specs.Slots.{row_in}
 use Rattle.model.specs.Deduction.{Next, stopped, end, output, Published, published, next_output, start_cursor}

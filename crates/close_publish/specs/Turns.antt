@@ -3,7 +3,7 @@ use Rattle.std.specs.Prelude.{◌≡◌, Bool, true, List, ℕ, ◌≤◌, ltb, 
 use Rattle.words.specs.Region.{Region, region}
 use Rattle.meter.specs.declared.Meter.{Meter}
 use Rattle.model.specs.declared.Header.{Header}
-use Rattle.model.specs.declared.Contradicted.{Contradicted}
+use Rattle.model.specs.Contradicted.{Contradicted}
 use Rattle.model.specs.Records.{Ledger}
 use Rattle.model.specs.Slots.{entries_in}
 use Rattle.model.specs.Closing.{State, Turn, going, conflict, halted, decides}

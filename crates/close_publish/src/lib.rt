@@ -15,7 +15,7 @@ ghost use Rattle.close_publish.specs.Standing.{Standing};
 
 use close_note::note;
 use meter::{Meter, Stopped};
-use model::{Contradicted, Deduction, OutputCursor, SLOT_WORDS};
+use model::{Deduction, Literal, OutputCursor, SLOT_WORDS};
 use row_deduce::{deduction, next_of_side};
 use tier::hit;
 use words::{Marking, decide_literal};
@@ -136,7 +136,7 @@ fn follow(
 }
 
 // The contradicted output that a closing hands on after a deduction that it acted on: that of a Require, else the one before.
-fn named(said: Deduction, before: Contradicted) -> Contradicted
+fn named(said: Deduction, before: Option<Literal>) -> Option<Literal>
     ensures { result ≡ naming said before }
 {
     match said {
@@ -145,7 +145,7 @@ fn named(said: Deduction, before: Contradicted) -> Contradicted
         Deduction::Require {
             required: _,
             contradicted,
-        } => Contradicted::Output(contradicted),
+        } => Some(contradicted),
     }
 }
 
@@ -172,7 +172,7 @@ pub fn act(
     cut: &mut [u64],
     noted: &mut [u64],
     decided: &mut usize,
-    contradicted: &mut Contradicted,
+    contradicted: &mut Option<Literal>,
     meter: &mut Meter,
 ) -> Result<(), Halt>
     requires fact_1 { Standing atoms rows (rows_in rows slots.old) slots.old held.old cut.old }

@@ -8,7 +8,7 @@ use lib.ListN.{length, get_or, drop, drop_of_length-le}
 use lib.Seq.{drop-cons}
 use Rattle.meter.specs.declared.Meter.{Meter}
 use Rattle.model.specs.declared.Header.{Header}
-use Rattle.model.specs.declared.Contradicted.{Contradicted}
+use Rattle.model.specs.Contradicted.{Contradicted}
 use Rattle.model.specs.Records.{Row}
 use Rattle.model.specs.Closing.{State, Turn, going, on_going, act, round}
 use Rattle.slots.specs.Layout.{rows_in}

@@ -15,7 +15,7 @@ use Rattle.words.proofs.Regions.{sound-of}
 use Rattle.meter.specs.declared.Meter.{Meter}
 use Rattle.model.specs.declared.LearningLimits.{LearningLimits}
 use Rattle.model.specs.declared.Header.{Header}
-use Rattle.model.specs.declared.Contradicted.{Contradicted}
+use Rattle.model.specs.Contradicted.{Contradicted}
 use Rattle.model.specs.Records.{Row, Entry, is_row}
 use Rattle.model.specs.Slots.{entries_in}
 use Rattle.model.specs.Postings.{Search, candidates}

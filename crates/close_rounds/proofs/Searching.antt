@@ -16,7 +16,7 @@ use Rattle.meter.specs.declared.Meter.{Meter}
 use Rattle.meter.specs.Tick.{Tick, Ticked, Stopped}
 use Rattle.meter.specs.Meter.{ticks}
 use Rattle.model.specs.declared.Header.{Header}
-use Rattle.model.specs.declared.Contradicted.{Contradicted}
+use Rattle.model.specs.Contradicted.{Contradicted}
 use Rattle.model.specs.declared.CandidatesAnswer.TheVariants as answer
 use Rattle.model.specs.Records.{with_stale}
 use Rattle.model.specs.Postings.{Search, searched, rebuilt, search_ticks, positions, posted_at, postings_of, filed, candidates}

@@ -4,7 +4,7 @@ use Rattle.std.specs.Prelude.{◌≡◌, List, ℕ}
 use Rattle.std.proofs.Math.Option.{none, some}
 use Rattle.meter.specs.declared.Meter.{Meter}
 use Rattle.model.specs.declared.Header.{Header}
-use Rattle.model.specs.declared.Contradicted.{Contradicted}
+use Rattle.model.specs.Contradicted.{Contradicted}
 use Rattle.model.specs.Postings.{Search, candidates}
 use Rattle.model.specs.Closing.{State, Turn, halted, with_meter, with_header, round}
 use Rattle.close_publish.specs.declared.Flow.TheVariants.{Continues}

@@ -5,7 +5,6 @@ ghost use Rattle.std.specs.Prelude.{◌≡◌, [], suc, ◌≤◌, ◌<◌, leng
 ghost use Rattle.lists.specs.Counts.{Each};
 ghost use Rattle.words.specs.Region.{region};
 ghost use Rattle.model.specs.declared.Header.{Header};
-ghost use Rattle.model.specs.declared.Contradicted.TheVariants.{None};
 ghost use Rattle.model.specs.Closing.{round, decided_since, rounds};
 ghost use Rattle.slots.specs.Layout.{rows_in};
 ghost use Rattle.close_note.specs.Noting.{Room, Logs};
@@ -17,7 +16,7 @@ ghost use Rattle.close_rounds.specs.Rounds.{state_in, round_turn, one_round, Und
 use close_note::in_order;
 use close_publish::{Acted, Ended, Flow, act};
 use meter::Meter;
-use model::{CandidatesAnswer, Contradicted, Header};
+use model::{CandidatesAnswer, Header, Literal};
 use postings::candidates;
 
 // How a round ended, with the header and the meter after it, the output named last, and how many atoms were decided in it.
@@ -26,7 +25,7 @@ pub struct RoundEnd {
     pub flow: Flow,
     pub header: Header,
     pub meter: Meter,
-    pub contradicted: Contradicted,
+    pub contradicted: Option<Literal>,
     pub decided: usize,
 }
 
@@ -40,7 +39,7 @@ fn round(
     held: &mut [u64],
     cut: &mut [u64],
     noted: &mut [u64],
-    before: Contradicted,
+    before: Option<Literal>,
     work: Meter,
 ) -> Acted
     requires fact_1 { Standing atoms rows (rows_in rows slots.old) slots.old held.old cut.old }
@@ -106,7 +105,7 @@ fn one_round(
     places: &mut [u64],
     noted: &mut [u64],
     given: usize,
-    before: Contradicted,
+    before: Option<Literal>,
     work: Meter,
 ) -> RoundEnd
     requires fact_1 { Running header slots.old postings.old held.old cut.old }
@@ -185,7 +184,7 @@ pub fn rounds(
 {
     let mut head = header;
     let mut meter = work;
-    let mut contradicted = Contradicted::None;
+    let mut contradicted = None;
     let mut given: usize = 0;
     loop {
         let one = one_round(

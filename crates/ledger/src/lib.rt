@@ -5,7 +5,7 @@
 pub use close::close;
 pub use meter::{Account, Capture, Meter, Sharing};
 pub use model::{
-    BeginResult, CandidatesAnswer, CandidatesResult, CloseAnswer, CloseResult, Contradicted,
+    BeginResult, CandidatesAnswer, CandidatesResult, CloseAnswer, CloseResult,
     DecideResult, DeduceAnswer, DeduceResult, Deduction, Header, HitResult, LearningLimits, Literal,
     MakeResult, Mark, NextAnswer, NextResult, OfferAnswer, OfferResult, OutputCursor, Refusal,
     TransferAnswer, TransferResult,

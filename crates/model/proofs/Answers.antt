@@ -7,8 +7,8 @@ use Prim.Native.Nat.{ℕ, zero, suc}
 use Rattle.model.specs.declared.Header.{Header}
 use Rattle.model.specs.declared.Deduction.{Deduction}
 use Rattle.model.specs.declared.Deduction.TheVariants as deduction
-use Rattle.model.specs.declared.Contradicted.{Contradicted}
-use Rattle.model.specs.declared.Contradicted.TheVariants as contradicted
+use Rattle.model.specs.Contradicted.{Contradicted}
+use Rattle.std.specs.Prelude.{Some, None}
 use Rattle.std.specs.Prelude.{Result, Ok, Err}
 use Rattle.model.specs.declared.Refusal.{Refusal}
 use Rattle.model.specs.declared.Refusal.TheVariants as refusal
@@ -209,14 +209,14 @@ pub close-apart : (a b : Result CloseAnswer Refusal) → replied close_reply a �
 close-apart = apart (replied close_reply) close_of close-back
 
 abbrev contradicted_of : Reply → Contradicted
-contradicted_of (refused n) = contradicted.None
-contradicted_of (answered zero v) = contradicted.None
-contradicted_of (answered (suc c) v) = contradicted.Output (record { 0 = v })
-contradicted_of (named c v o) = contradicted.None
+contradicted_of (refused n) = None
+contradicted_of (answered zero v) = None
+contradicted_of (answered (suc c) v) = Some (record { 0 = v })
+contradicted_of (named c v o) = None
 
 contradicted-back : (o : Contradicted) → contradicted_of (contradicted_reply o) ≡ o
-contradicted-back contradicted.None = refl
-contradicted-back (contradicted.Output l) = refl
+contradicted-back None = refl
+contradicted-back (Some l) = refl
 
 pub contradicted-apart : (a b : Contradicted) → contradicted_reply a ≡ contradicted_reply b → a ≡ b
 contradicted-apart = apart contradicted_reply contradicted_of contradicted-back

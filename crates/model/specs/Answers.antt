@@ -8,8 +8,8 @@ use Rattle.std.proofs.Math.Option.{Option, none, some}
 use Rattle.model.specs.declared.Header.{Header}
 use Rattle.model.specs.declared.Deduction.{Deduction}
 use Rattle.model.specs.declared.Deduction.TheVariants as deduction
-use Rattle.model.specs.declared.Contradicted.{Contradicted}
-use Rattle.model.specs.declared.Contradicted.TheVariants as contradicted
+use Rattle.model.specs.Contradicted.{Contradicted}
+use Rattle.std.specs.Prelude.{Some, None}
 use Rattle.model.specs.declared.Refusal.{Refusal}
 use Rattle.model.specs.declared.Refusal.TheVariants as refusal
 use Rattle.model.specs.declared.OfferAnswer.{OfferAnswer}
@@ -105,8 +105,8 @@ close_reply close-answer.Closed = answered 0 0
 
 -- beside it, 02, Six: 0 none, 1 Output; the value is the output's code
 abbrev pub contradicted_reply : Contradicted → Reply
-contradicted_reply contradicted.None = answered 0 0
-contradicted_reply (contradicted.Output l) = answered 1 l.0
+contradicted_reply None = answered 0 0
+contradicted_reply (Some l) = answered 1 l.0
 
 -- Seed and deliver: 0 Done, 2 Stopped
 abbrev pub transfer_reply : TransferAnswer → Reply

@@ -12,8 +12,8 @@ ghost use Rattle.wire.specs.Replies.{reply_words, close_words, answer_words, mad
 
 use meter::{Capture, Meter, Sharing};
 use model::{
-    CandidatesAnswer, CloseAnswer, Contradicted, DeduceAnswer, Deduction, Header, LearningLimits,
-    Mark, NextAnswer, OfferAnswer, OutputCursor, Refusal, TransferAnswer,
+    CandidatesAnswer, CloseAnswer, DeduceAnswer, Deduction, Header, LearningLimits,
+    Literal, Mark, NextAnswer, OfferAnswer, OutputCursor, Refusal, TransferAnswer,
 };
 
 // The words of the limits, the header, the meter, the cursor, and an answer.
@@ -387,7 +387,7 @@ pub fn candidates_reply(a: Result<CandidatesAnswer, Refusal>) -> ReplyWords
 }
 
 // Refused by a number; 0 Closed, 1 Conflict, 2 Stopped; the value is 1 if an output is named, and else 0.
-pub fn close_reply(a: Result<CloseAnswer, Refusal>, o: Contradicted) -> ReplyWords
+pub fn close_reply(a: Result<CloseAnswer, Refusal>, o: Option<Literal>) -> ReplyWords
     ensures { result ≡ close_words (replied close_reply a) (contradicted_reply o) }
 {
     match a {
@@ -399,12 +399,12 @@ pub fn close_reply(a: Result<CloseAnswer, Refusal>, o: Contradicted) -> ReplyWor
 }
 
 // The end of a closing that was not refused, with the output that it names.
-fn closed(case: u64, o: Contradicted) -> ReplyWords
+fn closed(case: u64, o: Option<Literal>) -> ReplyWords
     ensures { result ≡ close_words (answered_by case 0) (contradicted_reply o) }
 {
     match o {
-        Contradicted::None => answered(case, 0),
-        Contradicted::Output(l) => named(case, 1, l.0 as u64),
+        None => answered(case, 0),
+        Some(l) => named(case, 1, l.0 as u64),
     }
 }
 

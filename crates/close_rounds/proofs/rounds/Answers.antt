@@ -1,5 +1,5 @@
 use mathlib.Core.Path.{◌∙◌}
-use Rattle.model.specs.declared.Contradicted.TheVariants.{None}
+use Rattle.std.specs.Prelude.{None}
 use Rattle.close_rounds.proofs.Repeating.{repeat-start, repeat-ended, repeat-closed, repeat-less, repeat-on}
 use Rattle.close_rounds.proofs.rounds.Goals as goal
 

@@ -24,7 +24,7 @@ use Rattle.model.proofs.Priority.Covering.{rows_e}
 use Rattle.model.proofs.Priority.Fine.{Fine}
 use Rattle.model.proofs.Priority.Steps.{opt-elim, tick-elim, Over}
 use Rattle.model.specs.declared.Deduction.{Deduction}
-use Rattle.model.specs.declared.Contradicted.{Contradicted}
+use Rattle.model.specs.Contradicted.{Contradicted}
 use Rattle.model.specs.declared.Deduction.TheVariants.{Nothing, Force, Require}
 use Rattle.model.specs.declared.OutputCursor.{OutputCursor}
 use Rattle.model.specs.Deduction.{Next, Published, next_output, deduction, deduction_ticks}
