@@ -7,11 +7,11 @@ use Prim.Native.Nat.{ℕ, zero, suc, ◌+◌, ◌≤◌, ◌<◌}
 use native.Mathlib.Numerals.{add-one}
 use native.Mathlib.Omega.{arith}
 use lib.Dec.{eqb, ltb}
-use lib.ListN.{length, get_or, set, take, drop, replicate, take-append-drop}
+use lib.ListN.{length, get_or, set, take, drop, take-append-drop}
 use lib.Seq.{take-suc}
 use borrow.Author.Tests.{eqb-true, eqb-false, eq-eqb, ne_eqb, ltb-true, ltb-false}
 use Rattle.lists.specs.Counts.{is, times, Perm, Each}
-use Rattle.lists.specs.Lists.{concat, select, sum}
+use Rattle.lists.specs.Lists.{concat, select}
 
 pub same_or : (m n : ℕ) → (m ≡ n) ⊎ (m ≡ n → ⊥)
 same_or m n = go (eqb m n) refl
@@ -83,15 +83,6 @@ times-at (x ∷ xs) (suc i) h = let h' : i < length xs = omega arith in omega (a
 pub times-le : (v : ℕ) (xs : List ℕ) → times v xs ≤ length xs
 times-le v [] = omega arith
 times-le v (x ∷ xs) = omega (arith, is_le v x, times-le v xs)
-
-pub times-replicate : (v n a : ℕ) → (v ≡ a → ⊥) → times v (replicate n a) ≡ 0
-times-replicate v zero a h = refl
-times-replicate v (suc n) a h = omega (arith, is-other v a h, times-replicate v n a h)
-
-pub times-concat : (v : ℕ) (xss : List (List ℕ)) → times v (concat xss) ≡ sum (map (times v) xss)
-unfolding concat sum
-times-concat v [] = refl
-times-concat v (xs ∷ xss) = times-append v xs (concat xss) ∙ ap (λ (n : ℕ). times v xs + n) (times-concat v xss)
 
 -- a map that sends u, and nothing else, to v; one that sends nothing to v
 pub times-map : (f : ℕ → ℕ) (v u : ℕ) (xs : List ℕ) → ((x : ℕ) → is v (f x) ≡ is u x) → times v (map f xs) ≡ times u xs

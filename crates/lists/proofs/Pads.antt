@@ -1,17 +1,16 @@
 -- The laws of `pad` and `zeroed`, and of lists that a loop or a lent part leaves. Assumes nothing.
-use mathlib.Core.Bool.{false, ◌&&◌}
-use mathlib.Core.List.{List, [], ◌∷◌, ◌++◌, append_assoc, append-nil}
+use mathlib.Core.Bool.{◌&&◌}
+use mathlib.Core.List.{List, [], ◌∷◌, ◌++◌, append-nil}
 use mathlib.Core.Path.{◌≡◌, refl, sym, ap, ap₂, ◌∙◌}
-use Prim.Native.Nat.{ℕ, zero, suc, ◌+◌, ◌-◌, ◌≤◌, ◌<◌}
-use native.Mathlib.Numerals.{add-one}
+use Prim.Native.Nat.{ℕ, zero, suc, ◌+◌, ◌-◌, ◌≤◌}
 use native.Mathlib.Omega.{arith}
-use lib.ListN.{length, get_or, set, take, drop, replicate, length-set, length-append, length-replicate, length-drop, take-append-drop}
+use lib.ListN.{length, get_or, take, drop, replicate, length-append, length-replicate, length-drop}
 use lib.ListN.{drop_of_length-le, replicate-append-replicate}
-use lib.Seq.{take-append-add, take_at, drop_at, take_all, take-suc, drop-cons, length-take-le, set_at, set-append_left, append_snoc}
-use lib.Seq.{sets, sets-eq, ext_get_or}
+use lib.Seq.{take-append-add, take_at, take_all}
+use lib.Seq.{sets, sets-eq}
 use borrow.Rule.Slice.PartMut.{put_mid, Post-is}
 use Rattle.lists.specs.Lists.{pad, zeroed, same}
-use Rattle.lists.proofs.Tests.{same-append, same-no}
+use Rattle.lists.proofs.Tests.{same-append}
 
 -- ---- zeros
 pub get_or-zeros : (n i : ℕ) → ◌≡◌ {A = ℕ} (get_or (replicate n 0) i 0) 0
@@ -45,12 +44,6 @@ pub drop-zeros : (n k : ℕ) → ◌≡◌ {A = List ℕ} (drop k (replicate n 0
 drop-zeros n zero = let e : n - 0 ≡ n = omega arith in rw e
 drop-zeros zero (suc k) = let e : 0 - suc k ≡ 0 = omega arith in rw e
 drop-zeros (suc n) (suc k) = let e : suc n - suc k ≡ n - k = omega arith in rw e (drop-zeros n k)
-
-pub take-zeroed : (k : ℕ) (xs : List ℕ) → take k (zeroed xs) ≡ zeroed (take k xs)
-unfolding zeroed
-take-zeroed zero xs = refl
-take-zeroed (suc k) [] = refl
-take-zeroed (suc k) (x ∷ xs) = ap (λ (r : List ℕ). 0 ∷ r) (take-zeroed k xs)
 
 -- ---- `pad`
 pub pad-nil : (n : ℕ) → pad n [] ≡ replicate n 0

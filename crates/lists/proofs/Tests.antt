@@ -5,6 +5,7 @@ use mathlib.Core.Path.{◌≡◌, refl, sym, ap, ap₂, ◌∙◌}
 use Prim.Native.Nat.{ℕ, zero, suc, ◌+◌, ◌≤◌, ◌<◌}
 use native.Mathlib.Numerals.{add-one}
 use native.Mathlib.Omega.{arith}
+use lib.Bits.{bit_or, or_add_and, and_le_l, and_le_r}
 use lib.Dec.{eqb, ltb}
 use lib.ListN.{length, get_or, take, drop}
 use lib.Seq.{drop-cons}
@@ -12,7 +13,7 @@ use borrow.Author.Tests.{eqb-true, eq-eqb, lt-ltb, ltb-true, le-ltb}
 use Rattle.lists.specs.Counts.{is, times, Each, Sorted}
 use Rattle.lists.specs.Lists.{all, any, same, above, ascending, below}
 use Rattle.lists.proofs.Counts.{is_le, is_pos, each_at, each_index, each-cons, each_none}
-use Rattle.lists.proofs.Bools.{and_both, and_yes, and-false, and_assoc, or_assoc}
+use Rattle.lists.proofs.Bools.{and_both, and_yes, and_assoc, or_assoc}
 
 -- ---- `all` and `any`
 module _ {A : Type 0} (f : A → Bool) where
@@ -31,12 +32,6 @@ module _ {A : Type 0} (f : A → Bool) where
   unfolding all
   all_yes [] d h = refl
   all_yes (x ∷ xs) d h = and_yes (f x) (all f xs) (h 0 (omega arith)) (all_yes xs d (λ i l. h (suc i) (omega arith)))
-
-  pub all-no : (xs : List A) (i : ℕ) (d : A) → i < length xs → f (get_or xs i d) ≡ false → all f xs ≡ false
-  unfolding all
-  all-no [] i d l e = absurd (omega arith)
-  all-no (x ∷ xs) zero d l e = rw (e, all)
-  all-no (x ∷ xs) (suc i) d l e = ap (λ (b : Bool). f x && b) (all-no xs i d (omega arith) e) ∙ and-false (f x)
 
   -- a turn of a loop over the list
   pub all_drop : (xs : List A) (i : ℕ) (d : A) → i < length xs →
@@ -184,3 +179,11 @@ pub ascending-once : (xs : List ℕ) (v : ℕ) → ascending xs ≡ true → tim
 unfolding ascending
 ascending-once [] v e = omega arith
 ascending-once (x ∷ xs) v e = above-once x xs v e
+
+-- ---- the bits of two numbers are none where neither has one
+pub eqb-or : (a b : ℕ) → eqb (bit_or a b) 0 ≡ (eqb a 0 && eqb b 0)
+eqb-or a b =
+    let s = or_add_and a b in
+    let l = and_le_l a b in
+    let r = and_le_r a b in
+    grind arith

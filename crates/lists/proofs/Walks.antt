@@ -7,14 +7,14 @@ use Prim.Native.Nat.{ℕ, zero, suc, ◌+◌, ◌≤◌, ◌<◌}
 use native.Mathlib.Numerals.{add-one}
 use native.Mathlib.Omega.{arith}
 use lib.ListN.{length, get_or, take, length-take}
-use lib.Seq.{take-suc, take_all}
+use lib.Seq.{take-suc}
 use borrow.Author.Tests.{eq-eqb, ne_eqb}
 use Rattle.lists.specs.Counts.{is, times, Each, Sorted}
 use Rattle.lists.specs.Lists.{sort_of}
 use Rattle.lists.specs.Runs.{run_after}
 use Rattle.lists.specs.declared.runs.Run.{Run}
-use Rattle.lists.proofs.Counts.{same_or, is_le, is_same, is_pos, times_more, times-le, times-take-le, each_none}
-use Rattle.lists.proofs.Sorts.{sorted-snoc, sorted_before, sort-perm, sort_sorted, sort-full}
+use Rattle.lists.proofs.Counts.{same_or, is_le, is_same, is_pos, times_more, times-le, each_none}
+use Rattle.lists.proofs.Sorts.{sorted-snoc, sorted_before, sort_sorted}
 
 pub word_after : (r : Run) (x : ℕ) → (run_after r x).word ≡ x
 unfolding run_after

@@ -2,16 +2,20 @@
 use mathlib.Core.Path.{◌≡◌, refl, sym, ◌∙◌, ap, ap₂}
 use mathlib.Core.Bool.{Bool, true, false, ◌&&◌}
 use mathlib.Core.List.{List, [], ◌∷◌, map}
-use Prim.Native.Nat.{ℕ, suc, ◌+◌, ◌-◌, ◌*◌, ◌/◌, ◌^◌, ◌≤◌, ◌<◌}
-use native.Mathlib.Nat.{div-one}
+use Prim.Native.Nat.{ℕ, zero, suc, ◌+◌, ◌-◌, ◌*◌, ◌/◌, ◌^◌, ◌≤◌, ◌<◌}
+use native.Mathlib.Nat.{div-one, div-mul-le_self}
+use native.Mathlib.Decide.{dec_lt}
 use native.Mathlib.Numerals.{add-one}
 use native.Mathlib.Omega.{arith}
 use lib.Dec.{ltb}
-use lib.ListN.{length, get_or, drop, drop_of_length-le, length-drop, length-map}
+use lib.ListN.{length, get_or, drop, drop_of_length-le, length-map}
 use lib.Seq.{drop-cons}
-use borrow.Author.Tests.{lt-ltb, le-ltb}
+use lib.Pow.{pow_pos}
+use borrow.Author.Tests.{lt-ltb, le-ltb, ltb-true, ltb-false}
+use Rattle.std.specs.List.{IsAllAdjacentAnswer}
+use Rattle.std.proofs.lemmas.Nat.{le-div}
 use Rattle.lists.specs.Lists.{all, above, ascending, below, distinct}
-use Rattle.lists.proofs.Bools.{and-false}
+use Rattle.lists.proofs.Bools.{and-false, and_both}
 use Rattle.lists.proofs.Sorts.{distinct-one, distinct-same, distinct-other, distinct-short}
 use Rattle.words.specs.Codes.{shifted, runs, climbs}
 use Rattle.words.specs.Literal.{atom}
@@ -76,85 +80,80 @@ ascending-less : (x y : ℕ) (ys : List ℕ) → y ≤ x → ascending (x ∷ y 
 unfolding ascending above
 ascending-less x y ys h = ap (λ (b : Bool). elim b as (λ k. Bool) [ true ↦ above y ys | false ↦ false ]) (le-ltb x y h)
 
-below_more : (n x : ℕ) (xs : List ℕ) → x < n → below n (x ∷ xs) ≡ below n xs
-unfolding below all
-below_more n x xs h = ap (λ (b : Bool). b && all (λ x. ltb x n) xs) (lt-ltb x n h)
+module _ (bits : ℕ) where
+  -- each code's key is below the next one's
+  abbrev pub Climbing : List ℕ → Type 0
+  Climbing cs = (k : ℕ) → suc k < length cs → get_or cs k 0 / 2 ^ bits < get_or cs (suc k) 0 / 2 ^ bits
 
-below_less : (n x : ℕ) (xs : List ℕ) → n ≤ x → below n (x ∷ xs) ≡ false
-unfolding below all
-below_less n x xs h = ap (λ (b : Bool). b && all (λ x. ltb x n) xs) (le-ltb x n h)
+  key-less : (c d : ℕ) → c / 2 ^ bits < d / 2 ^ bits → c < d
+  key-less c d h =
+      elim (dec_lt c d) [
+        | yes l ↦ l
+        | no f ↦
+            let e : d / 2 ^ bits ≤ c / 2 ^ bits =
+            le-div (d / 2 ^ bits) c (2 ^ bits) (pow_pos bits) (omega (arith, div-mul-le_self d (2 ^ bits))) in
+            absurd (omega arith)
+      ]
 
-module _ (n bits : ℕ) (cs : List ℕ) where
-  -- what the walk has still to test at position i: the code there, and the key before it against the next
-  unfoldable pub left : ℕ → Bool
-  left i = below (2 * n) (drop i cs) && ascending (shifted bits (drop (i - 1) cs))
-
-  pub left-start : left 0 ≡ climbs n bits cs
-  unfolding left climbs
-  left-start = refl
-
-  short : (l : List ℕ) → length l ≤ 1 → ascending (shifted bits l) ≡ true
+  ascending-yes : (cs : List ℕ) → Climbing cs → ascending (shifted bits cs) ≡ true
   unfolding ascending above shifted
-  short [] h = refl
-  short (x ∷ []) h = refl
-  short (x ∷ y ∷ ys) h = absurd (omega arith)
+  ascending-yes [] f = refl
+  ascending-yes (c ∷ []) f = refl
+  ascending-yes (c ∷ d ∷ ds) f =
+      ascending-more (c / 2 ^ bits) (d / 2 ^ bits) (shifted bits ds) (f 0 (omega arith))
+      ∙ ascending-yes (d ∷ ds) (λ k h. f (suc k) (omega arith))
 
-  pub left_end : (i : ℕ) → length cs ≤ i → left i ≡ true
-  unfolding left below all
-  left_end i h =
-      ap₂ (λ (l : List ℕ) (b : Bool). below (2 * n) l && b) (drop_of_length-le cs h)
-      (short (drop (i - 1) cs) (omega (arith, length-drop (i - 1) cs)))
+  ascending-no : (cs : List ℕ) (k : ℕ) → suc k < length cs → get_or cs (suc k) 0 / 2 ^ bits ≤ get_or cs k 0 / 2 ^ bits →
+      ascending (shifted bits cs) ≡ false
+  unfolding shifted
+  ascending-no [] k l h = absurd (omega arith)
+  ascending-no (c ∷ []) k l h = absurd (omega arith)
+  ascending-no (c ∷ d ∷ ds) zero l h = ascending-less (c / 2 ^ bits) (d / 2 ^ bits) (shifted bits ds) h
+  ascending-no (c ∷ d ∷ ds) (suc k) l h =
+      elim (dec_lt (c / 2 ^ bits) (d / 2 ^ bits)) [
+        | yes m ↦
+            ascending-more (c / 2 ^ bits) (d / 2 ^ bits) (shifted bits ds) m ∙ ascending-no (d ∷ ds) k (omega arith) h
+        | no f ↦ ascending-less (c / 2 ^ bits) (d / 2 ^ bits) (shifted bits ds) (omega arith)
+      ]
 
-  module _ (i : ℕ) (h : i < length cs) where
-    abbrev x : ℕ
-    x = get_or cs i 0
+  last-cons : (c d : ℕ) (ds : List ℕ) → get_or (c ∷ d ∷ ds) (length (c ∷ d ∷ ds) - 1) 0 ≡ get_or (d ∷ ds) (length (d ∷ ds) - 1) 0
+  last-cons c d ds =
+      let e : length (c ∷ d ∷ ds) - 1 ≡ suc (length (d ∷ ds) - 1) = omega arith in
+      ap (λ (k : ℕ). get_or (c ∷ d ∷ ds) k 0) e
 
-    here : drop i cs ≡ x ∷ drop (i + 1) cs
-    here = drop-cons cs i 0 h ∙ ap (λ (k : ℕ). x ∷ drop k cs) (sym (add-one i))
+  module _ (n : ℕ) where
+    -- where they ascend, the last is the greatest
+    below-yes : (cs : List ℕ) → Climbing cs → (0 < length cs → get_or cs (length cs - 1) 0 / 2 < n) → below (2 * n) cs ≡ true
+    unfolding below all
+    below-yes [] f l = refl
+    below-yes (c ∷ []) f l = let h : c / 2 < n = l (omega arith) in rw (lt-ltb c (2 * n) (omega arith))
+    below-yes (c ∷ d ∷ ds) f l =
+        let r : below (2 * n) (d ∷ ds) ≡ true = below-yes (d ∷ ds) (λ k h. f (suc k) (omega arith)) (λ h. omega (arith, l (omega arith), last-cons c d ds)) in
+        let h : d < 2 * n = ltb-true d (2 * n) (and_both (ltb d (2 * n)) _ r).0 in
+        let g : c < d = key-less c d (f 0 (omega arith)) in
+        rw (lt-ltb c (2 * n) (omega arith)) r
 
-    pub left-high : n ≤ x / 2 → false ≡ left i
-    unfolding left
-    left-high g =
-        let l : 2 * n ≤ x = omega arith in
-        sym (ap (λ (b : Bool). b && ascending (shifted bits (drop (i - 1) cs)))
-        (ap (below (2 * n)) here ∙ below_less (2 * n) x (drop (i + 1) cs) l))
+    below-no : (cs : List ℕ) → 0 < length cs → n ≤ get_or cs (length cs - 1) 0 / 2 → below (2 * n) cs ≡ false
+    unfolding below all
+    below-no [] h l = absurd (omega arith)
+    below-no (c ∷ []) h l = rw (le-ltb c (2 * n) (omega arith))
+    below-no (c ∷ d ∷ ds) h l = ap (λ (b : Bool). ltb c (2 * n) && b) (below-no (d ∷ ds) (omega arith) (omega (arith, last-cons c d ds))) ∙ and-false (ltb c (2 * n))
 
-    -- the code here is in range: what is left is the order
-    low : x / 2 < n → below (2 * n) (drop (i + 1) cs) ≡ below (2 * n) (drop i cs)
-    low g = let l : x < 2 * n = omega arith in sym (ap (below (2 * n)) here ∙ below_more (2 * n) x (drop (i + 1) cs) l)
+    pub climbs-high : (cs : List ℕ) → 0 < length cs → n ≤ get_or cs (length cs - 1) 0 / 2 → false ≡ climbs n bits cs
+    unfolding climbs
+    climbs-high cs h l = sym (ap (λ (b : Bool). b && ascending (shifted bits cs)) (below-no cs h l))
 
-    pub left-first : i ≡ 0 → x / 2 < n → left (i + 1) ≡ left i
-    unfolding left
-    left-first e g =
-        let q : i + 1 - 1 ≡ i - 1 = omega arith in
-        ap₂ (λ (b : Bool) (k : ℕ). b && ascending (shifted bits (drop k cs))) (low g) q
-
-    module _ (p : 0 < i) where
-      abbrev y : ℕ
-      y = get_or cs (i - 1) 0
-
-      behind : drop (i - 1) cs ≡ y ∷ x ∷ drop (i + 1) cs
-      behind =
-          let l : i - 1 < length cs = omega arith in
-          let q : suc (i - 1) ≡ i = omega arith in
-          drop-cons cs (i - 1) 0 l ∙ ap (λ (k : ℕ). y ∷ drop k cs) q ∙ ap (λ (l : List ℕ). y ∷ l) here
-
-      pub left-falls : x / 2 ^ bits ≤ y / 2 ^ bits → false ≡ left i
-      unfolding left shifted
-      left-falls g =
-          sym (ap (λ (b : Bool). below (2 * n) (drop i cs) && b)
-          (ap (λ (l : List ℕ). ascending (shifted bits l)) behind
-          ∙ ascending-less (y / 2 ^ bits) (x / 2 ^ bits) (shifted bits (drop (i + 1) cs)) g)
-          ∙ and-false (below (2 * n) (drop i cs)))
-
-      pub left-next : y / 2 ^ bits < x / 2 ^ bits → x / 2 < n → left (i + 1) ≡ left i
-      unfolding left shifted
-      left-next g k =
-          let q : i + 1 - 1 ≡ i = omega arith in
-          ap₂ (λ (b c : Bool). b && c) (low k)
-          (ap (λ (j : ℕ). ascending (shifted bits (drop j cs))) q ∙ ap (λ (l : List ℕ). ascending (shifted bits l)) here
-          ∙ sym (ap (λ (l : List ℕ). ascending (shifted bits l)) behind
-          ∙ ascending-more (y / 2 ^ bits) (x / 2 ^ bits) (shifted bits (drop (i + 1) cs)) g))
+    pub climbs-low : (cs : List ℕ) → (0 < length cs → get_or cs (length cs - 1) 0 / 2 < n) → (r : Bool) →
+        IsAllAdjacentAnswer (λ x y b. b ≡ ltb (x / 2 ^ bits) (y / 2 ^ bits)) cs r → r ≡ climbs n bits cs
+    unfolding climbs
+    climbs-low cs l true f = sym (rw (below-yes cs g l, ascending-yes cs g))
+      where
+        g : Climbing cs
+        g k h = ltb-true _ _ (sym (rw (← add-one k) (f k 0 (omega arith))))
+    climbs-low cs l false (k, h, f) =
+        let e : suc k < length cs = omega arith in
+        let o : get_or cs (suc k) 0 / 2 ^ bits ≤ get_or cs k 0 / 2 ^ bits = ltb-false _ _ (sym (rw (← add-one k) (f 0))) in
+        sym (ap (λ (b : Bool). below (2 * n) cs && b) (ascending-no cs k e o) ∙ and-false (below (2 * n) cs))
 
 -- ---- what the walk says of conditions and of outputs
 pub climbs-conditions : (n : ℕ) (cs : List ℕ) → climbs n 1 cs ≡ (below (2 * n) cs && ascending (map atom cs))

@@ -1,19 +1,18 @@
 -- `is_set`, `is_apart` and `is_region` by the code's tests. Assumes nothing.
 use mathlib.Core.Path.{◌≡◌, sym, ap, ap₂, ◌∙◌}
 use mathlib.Core.Bool.{Bool, true, false, ◌&&◌, and-true, and_assoc, and-false}
-use mathlib.Core.List.{List}
+use mathlib.Core.List.{List, [], ◌∷◌}
 use Prim.Native.Nat.{ℕ, ◌+◌, ◌-◌, ◌*◌, ◌/◌, ◌%◌, ◌^◌, ◌≤◌, ◌<◌}
-use native.Mathlib.Numerals.{add-one}
 use native.Mathlib.Omega.{arith}
-use lib.ListN.{length, get_or, drop, drop_of_length-le, get_or-eq_default}
-use lib.Seq.{drop-cons}
+use lib.ListN.{length, get_or, get_or-eq_default}
 use lib.Bits.{bit_and, bit_or}
 use lib.Dec.{eqb, ltb, leb}
 use borrow.Author.Tests.{eq-eqb, ne_eqb, eqb-true, le-leb, lt-leb}
 use Rattle.lists.proofs.Bools.{and_both}
+use Rattle.lists.proofs.Tests.{eqb-or}
+use Rattle.std.specs.List.{fold, zip}
 use Rattle.words.specs.Literal.{word_of, bit_of}
 use Rattle.words.specs.Region.{atoms_ok, Region, words_for, is_set, apart, is_region, max_atoms}
-use Rattle.words.proofs.Masks.{eqb-or}
 use Rattle.words.proofs.Places.{shl-bit}
 use Rattle.words.proofs.Regions.{Words, all_words}
 
@@ -45,21 +44,18 @@ module _ (n : ℕ) (ws : List ℕ) where
       let w : (n - 1) / 64 ≡ n / 64 = omega arith in
       ap₂ (λ (i k : ℕ). ltb (get_or ws i 0) k) w (shl-bit n) ∙ set-top e f
 
--- ---- is_apart: what is shared so far, and what is left
-module _ (hs cs : List ℕ) (shared i : ℕ) where
-  pub apart-at : i < length hs → i < length cs →
-      (eqb (bit_or shared (bit_and (get_or hs i 0) (get_or cs i 0))) 0 && apart (drop (i + 1) hs) (drop (i + 1) cs))
-      ≡ (eqb shared 0 && apart (drop i hs) (drop i cs))
-  unfolding apart
-  apart-at h c =
-      let w : ℕ = bit_and (get_or hs i 0) (get_or cs i 0) in
-      let rest : Bool = apart (drop (i + 1) hs) (drop (i + 1) cs) in
-      ap (λ (b : Bool). b && rest) (eqb-or shared w) ∙ and_assoc (eqb shared 0) (eqb w 0) rest
-      ∙ sym (rw (drop-cons hs i 0 h, drop-cons cs i 0 c, add-one i))
+-- ---- is_apart: the bits that two words share, beside those shared so far
+abbrev pub both_bits : ℕ → ℕ × ℕ → ℕ
+both_bits shared p = bit_or shared (bit_and p.0 p.1)
 
-  pub apart-end : length hs ≤ i → (eqb shared 0 && apart (drop i hs) (drop i cs)) ≡ eqb shared 0
-  unfolding apart
-  apart-end h = rw (drop_of_length-le hs {i = i} h) (and-true (eqb shared 0))
+pub apart-shared : (hs cs : List ℕ) (shared : ℕ) →
+    eqb (fold both_bits shared (zip hs cs)) 0 ≡ (eqb shared 0 && apart hs cs)
+unfolding apart
+apart-shared [] cs shared = sym (and-true (eqb shared 0))
+apart-shared (h ∷ hs) [] shared = sym (and-true (eqb shared 0))
+apart-shared (h ∷ hs) (c ∷ cs) shared =
+    apart-shared hs cs (bit_or shared (bit_and h c)) ∙ ap (λ (b : Bool). b && apart hs cs) (eqb-or shared (bit_and h c))
+    ∙ and_assoc (eqb shared 0) (eqb (bit_and h c) 0) (apart hs cs)
 
 -- ---- is_region
 module _ (n : ℕ) (r : Region) where

@@ -1,43 +1,25 @@
-use native.Mathlib.Omega.{arith}
-use mathlib.Core.Path.{◌≡◌, sym, ◌∙◌}
-use mathlib.Core.List.{List}
-use Prim.Native.Nat.{ℕ, ◌<◌, ◌+◌}
-use lib.ListN.{length}
-use Rattle.words.proofs.Codes.{left, left-start, left_end, left-high, left-first, left-falls, left-next}
-use Rattle.words.proofs.ascends.Goals.{Else-atoms-codes, else-i-gt0, then-i-gt0+else-codes-i}
+-- `words::ascends`: the last code, and each beside the next. Assumes nothing.
+use mathlib.Core.Path.{◌≡◌, ◌∙◌}
+use Prim.Native.Nat.{ℕ, ◌/◌, ◌^◌, ◌<◌, ◌≤◌, ◌-◌}
+use lib.Dec.{ltb}
+use lib.ListN.{length, get_or}
+use borrow.Author.Rules.{rules}
+use Rattle.std.proofs.Common.{tests}
+use Rattle.std.proofs.lemmas.Fn.{always_returns_same}
+use Rattle.words.proofs.Codes.{climbs-high, climbs-low}
 use Rattle.words.proofs.ascends.Goals as goal
 
--- the code at the loop's position, tested and in range
-module _ (c : Else-atoms-codes) where
-  abbrev cs : List ℕ
-  cs = c.args.codes.now
+pub returns-then-is_none_or : goal.returns-then-is_none_or
+returns-then-is_none_or c =
+    let cs = c.args.codes.now in
+    let low : 0 < length cs → get_or cs (length cs - 1) 0 / 2 < c.args.atoms = search (rules, tests) in
+    let key = λ (x y : ℕ). ltb (x / 2 ^ c.args.shift) (y / 2 ^ c.args.shift) in
+    climbs-low c.args.shift c.args.atoms cs low c.is_sorted_by.result
+    (c.is_sorted_by.ensures.cases key (always_returns_same _ (λ a r. r ≡ key a.0.now a.1.0.now) _ (λ a r q k. search rules)))
 
-  abbrev n : ℕ
-  n = c.args.atoms
-
-  abbrev shift : ℕ
-  shift = c.args.shift
-
-  inside : c.loop-i.i < length cs
-  inside = c.loop-i-test.true
-
-pub returns-then-atoms-codes : goal.returns-then-atoms-codes
-returns-then-atoms-codes c =
-    left-high _ _ _ _ c.loop-i-test.true c.if-atoms-codes.true ∙ c.loop-i.invariant.1 ∙ left-start _ _ _
-
-pub returns-then-codes-i : goal.returns-then-codes-i
-returns-then-codes-i c =
-    let at_else_atoms_codes = (goal.at.returns-then-codes-i c).Else-atoms-codes in
-    left-falls (n at_else_atoms_codes) (shift at_else_atoms_codes) (cs at_else_atoms_codes) _ (inside at_else_atoms_codes) c.if-i-gt0.true c.if-codes-i.true ∙ c.loop-i.invariant.1
-    ∙ left-start _ _ _
-
-pub loop-i-preserved : goal.loop-i-preserved
-loop-i-preserved c =
-    let at_else_atoms_codes = (goal.at.loop-i-preserved c).Else-atoms-codes in
-    let r : left (n at_else_atoms_codes) (shift at_else_atoms_codes) (cs at_else_atoms_codes) (c.loop-i.i + 1) ≡ left (n at_else_atoms_codes) (shift at_else_atoms_codes) (cs at_else_atoms_codes) c.loop-i.i
-    = elim c.if-i-gt0.branch [ then-i-gt0+else-codes-i w ↦ left-next (n at_else_atoms_codes) (shift at_else_atoms_codes) (cs at_else_atoms_codes) _ (inside at_else_atoms_codes) w.if-i-gt0.true w.if-codes-i.false c.if-atoms-codes.false | else-i-gt0 w ↦ left-first (n at_else_atoms_codes) (shift at_else_atoms_codes) (cs at_else_atoms_codes) _ (inside at_else_atoms_codes) (omega arith) c.if-atoms-codes.false ] in
-    (omega (arith, inside at_else_atoms_codes), r ∙ c.loop-i.invariant.1)
-
-pub returns : goal.returns
-returns c =
-    sym (left_end _ _ _ _ c.loop-i-test.false) ∙ c.loop-i.invariant.1 ∙ left-start _ _ _
+pub returns-else-is_none_or : goal.returns-else-is_none_or
+returns-else-is_none_or c =
+    let cs = c.args.codes.now in
+    let some : 0 < length cs = search (rules, tests) in
+    let high : c.args.atoms ≤ get_or cs (length cs - 1) 0 / 2 = search (rules, tests) in
+    c.if-is_none_or.false ∙ climbs-high c.args.shift c.args.atoms cs some high

@@ -1,15 +1,7 @@
--- `words::contradicts`: by the sign of the literal. Assumes nothing.
+-- `words::contradicts`: by the sides exchanged. Assumes nothing.
 use mathlib.Core.Path.{◌∙◌}
-use Rattle.words.proofs.Deciding.{contradicts-odd, contradicts-even}
-use Rattle.words.specs.Region.{region}
+use Rattle.words.proofs.Deciding.{holds-turned}
 use Rattle.words.proofs.contradicts.Goals as goal
 
-pub returns-then-literal-eq1 : goal.returns-then-literal-eq1
-returns-then-literal-eq1 c =
-    let s = c.args in
-    c.contains.ensures ∙ contradicts-odd (region s.held.now s.cut.now) s.literal c.if-literal-eq1.true
-
-pub returns-else-literal-eq1 : goal.returns-else-literal-eq1
-returns-else-literal-eq1 c =
-    let s = c.args in
-    c.contains-else-literal-eq1.ensures ∙ contradicts-even (region s.held.now s.cut.now) s.literal c.if-literal-eq1.false
+pub returns : goal.returns
+returns c = c.holds.ensures ∙ holds-turned c.args.held.now c.args.cut.now c.args.literal

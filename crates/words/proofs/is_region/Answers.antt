@@ -1,7 +1,7 @@
 -- `words::is_region`: one law for each way out. Assumes nothing.
 use mathlib.Core.Path.{sym, ◌∙◌}
 use native.Mathlib.Omega.{arith}
-use Rattle.words.proofs.Testing.{set-length, region-low, region-high, region-held, region-cut, region-both}
+use Rattle.words.proofs.Testing.{region-low, region-high, region-held, region-cut, region-both}
 use Rattle.words.specs.Region.{region}
 use Rattle.words.proofs.is_region.Goals as goal
 
@@ -30,12 +30,6 @@ returns-then-not-is_set-2 c =
     region-cut s.atoms r (omega arith) (omega arith)
     (sym c.is_set.ensures ∙ c.if-not-is_set.false)
     (sym c.is_set-2.ensures ∙ c.if-not-is_set-2.true)
-
-pub is_apart-requires : goal.is_apart-requires
-is_apart-requires c =
-    let s = c.args in
-    set-length s.atoms s.held.now (sym c.is_set.ensures ∙ c.if-not-is_set.false)
-    ∙ sym (set-length s.atoms s.cut.now (sym c.is_set-2.ensures ∙ c.if-not-is_set-2.false))
 
 pub returns : goal.returns
 returns c =

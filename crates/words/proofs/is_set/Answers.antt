@@ -11,10 +11,10 @@ returns-then-words-atoms c =
 pub returns-then-bit-eq0 : goal.returns-then-bit-eq0
 returns-then-bit-eq0 c =
     let s = c.args in
-    set-even s.atoms s.words.now c.if-words-atoms.false (λ i. (c.shared_slice_known-1.given i).fits) c.if-bit-eq0.true
+    set-even s.atoms s.words.now c.if-words-atoms.false (λ i. (c.type_inv.words i).fits) c.if-bit-eq0.true
 
 pub returns : goal.returns
 returns c =
     let s = c.args in
-    set-odd s.atoms s.words.now c.if-words-atoms.false (λ i. (c.shared_slice_known-1.given i).fits) (omega arith)
+    set-odd s.atoms s.words.now c.if-words-atoms.false (λ i. (c.type_inv.words i).fits) (omega arith)
     c.if-bit-eq0.false
