@@ -20,7 +20,7 @@ use Rattle.lists.proofs.Walks.{Checked, checked-back, checked-more, checked-smal
 use Rattle.model.specs.Records.{Row, slot_words, max_rows, total_groups_at}
 use Rattle.model.specs.Slots.{row_in}
 use Rattle.model.specs.Postings.{postings_of}
-use Rattle.slots.specs.Layout.{rows_in, Rows}
+use Rattle.slots.specs.Layout.{rows_in, slot_at, Rows}
 use Rattle.slots_check.specs.Check.{all_zero}
 use Rattle.contents.specs.Lent.{postings_due, posted_atoms, LaidOut}
 use Rattle.contents.specs.Marked.{Form, Marked, Walked, Ended, packed_from, nowhere}
@@ -65,19 +65,14 @@ module _ (n m : ℕ) (slots places : List ℕ) (p v : ℕ) where
           subst (λ (x : ℕ). Form x (get_or slots (slot_words * q + total_groups_at) 0)) (sym (get_or-set_other places p q v 0 d)) (h.form q b)
 
 -- the number of groups, in a slot as the code lends it
-pub total-code : (ws : List ℕ) (p : ℕ)
-    → get_or (take ((slot_words * p + slot_words) - slot_words * p) (drop (slot_words * p) ws)) total_groups_at 0
-    ≡ get_or ws (slot_words * p + total_groups_at) 0
-total-code ws p =
-    get_or-take ((slot_words * p + slot_words) - slot_words * p) (drop (slot_words * p) ws) total_groups_at 0 (omega arith)
+pub total-code : (ws : List ℕ) (p : ℕ) {s : List ℕ} → s ≡ slot_at ws p → get_or s total_groups_at 0 ≡ get_or ws (slot_words * p + total_groups_at) 0
+total-code ws p e =
+    ap (λ (l : List ℕ). get_or l total_groups_at 0) e ∙ get_or-take slot_words (drop (slot_words * p) ws) total_groups_at 0 (omega arith)
     ∙ get_or-drop (slot_words * p) ws total_groups_at 0
 
 -- a row by its place
 module _ (n : ℕ) (ws places : List ℕ) (r : Rows n ws) (e : length places ≡ max_rows) (h : Marked n ws places) (x k : ℕ)
     (q : k ≡ get_or places (x % max_rows) 0) where
-  abbrev slot : List ℕ
-  slot = take ((slot_words * (x % max_rows) + slot_words) - slot_words * (x % max_rows)) (drop (slot_words * (x % max_rows)) ws)
-
   there : k < nowhere → x % max_rows < n
   there l = h.there (x % max_rows) (omega arith) (omega arith)
 
@@ -86,13 +81,6 @@ module _ (n : ℕ) (ws places : List ℕ) (r : Rows n ws) (e : length places ≡
 
   pub lent-end : k < nowhere → slot_words * (x % max_rows) + slot_words ≤ length ws
   lent-end l = let t = there l in let m = r.over.long in omega arith
-
-  pub lent-scalar : k < packed_from → LaidOut slot × (get_or slot total_groups_at 0 ≡ 0)
-  lent-scalar l = (holds-code n ws r (x % max_rows) (there (omega arith)), total-code ws (x % max_rows) ∙ form.scalar l)
-
-  pub lent-packed : packed_from ≤ k → k < nowhere → LaidOut slot × (get_or slot total_groups_at 0 ≡ 0 → ⊥)
-  lent-packed g l =
-      (holds-code n ws r (x % max_rows) (there l), λ z. form.packed g l (sym (total-code ws (x % max_rows)) ∙ z))
 
   pub keep-scalar : k < packed_from → (v : ℕ) → Marked n ws (set places (x % max_rows) (v % packed_from))
   keep-scalar l v =
@@ -104,8 +92,17 @@ module _ (n : ℕ) (ws places : List ℕ) (r : Rows n ws) (e : length places ≡
       marked-put n n ws places (x % max_rows) (k + v) (omega arith) (there l) e h
       (record { scalar = λ b. absurd (omega arith); packed = λ f b. form.packed g l })
 
-  pub posted-once : k < nowhere → 1 ≤ times (x / max_rows) (posted_atoms (row_in slot)) → 1 ≤ times x (postings_of (rows_in n ws))
-  posted-once l o = omega (arith, posted-code n ws r x (there l))
+  -- its slot, as the code lends it
+  module _ (slot : List ℕ) (d : slot ≡ slot_at ws (x % max_rows)) where
+    pub lent-scalar : k < packed_from → LaidOut slot × (get_or slot total_groups_at 0 ≡ 0)
+    lent-scalar l = (holds-code n ws r (x % max_rows) d (there (omega arith)), total-code ws (x % max_rows) d ∙ form.scalar l)
+
+    pub lent-packed : packed_from ≤ k → k < nowhere → LaidOut slot × (get_or slot total_groups_at 0 ≡ 0 → ⊥)
+    lent-packed g l =
+        (holds-code n ws r (x % max_rows) d (there l), λ z. form.packed g l (sym (total-code ws (x % max_rows) d) ∙ z))
+
+    pub posted-once : k < nowhere → 1 ≤ times (x / max_rows) (posted_atoms (row_in slot)) → 1 ≤ times x (postings_of (rows_in n ws))
+    posted-once l o = omega (arith, posted-code n ws r x d (there l))
 
 -- ---- words that ascend, none more often than among ys
 module _ (xs ys : List ℕ) where

@@ -11,10 +11,11 @@ ghost use Rattle.slots.specs.Layout.{rows_in, Rows};
 ghost use Rattle.contents.specs.Lent.{LaidOut, posted_atoms, postings_due, atom_count, has_atom, one_if, top};
 ghost use Rattle.contents.specs.Marked.{Form, Marked, Walked, Ended, packed_from, nowhere};
 
+use crate::slot_at;
 use lists::{Run, all_zero};
 use model::{
     BODY_AT, CONDITION_GROUPS_AT, CONDITIONS_AT, GROUP_WORDS, MAX_GROUPS, MAX_ROWS, OUTPUTS_AT,
-    SLOT_WORDS, TOTAL_GROUPS_AT,
+    TOTAL_GROUPS_AT,
 };
 use words::{MAX_WORD, run_count};
 
@@ -83,9 +84,7 @@ fn posting_total(slots: &[u64], rows: usize) -> usize
 {
     let mut count: usize = 0;
     for p in 0..rows {
-        let a = SLOT_WORDS * p;
-        let e = a + SLOT_WORDS;
-        count += posting_count(&slots[a..e]);
+        count += posting_count(slot_at(slots, p));
     }
     count
 }
@@ -178,12 +177,11 @@ fn posted_less(slots: &[u64], rows: usize, posting: u64, often: u64) -> bool
     if rows <= p {
         return 0 < often;
     }
-    let a = SLOT_WORDS * p;
-    let e = a + SLOT_WORDS;
+    let slot = slot_at(slots, p);
     if often == 1 {
-        return !has_atom(&slots[a..e], posting / MAX_ROWS);
+        return !has_atom(slot, posting / MAX_ROWS);
     }
-    times_posted(&slots[a..e], posting / MAX_ROWS) < often
+    times_posted(slot, posting / MAX_ROWS) < often
 }
 
 // How many postings the row in a slot has at most: one for each literal.
@@ -222,10 +220,9 @@ fn mark_rows(slots: &[u64], rows: usize, places: &mut [u16]) -> usize
 {
     let mut count: usize = 0;
     for p in 0..rows {
-        let a = SLOT_WORDS * p;
-        let e = a + SLOT_WORDS;
-        count += literal_count(&slots[a..e]);
-        places[p] = first_place(&slots[a..e], MANY_ROWS < rows);
+        let slot = slot_at(slots, p);
+        count += literal_count(slot);
+        places[p] = first_place(slot, MANY_ROWS < rows);
     }
     count
 }
@@ -285,15 +282,14 @@ fn sees_code(slots: &[u64], rows: usize, places: &mut [u16], posting: u64, place
     ensures marked { Marked rows slots.now places.new }
 {
     let p = (posting % MAX_ROWS) as usize;
-    let a = SLOT_WORDS * p;
-    let e = a + SLOT_WORDS;
-    let steps = code_steps(&slots[a..e], place, posting / MAX_ROWS);
+    let slot = slot_at(slots, p);
+    let steps = code_steps(slot, place, posting / MAX_ROWS);
     if 0 < steps {
         places[p] = ((place + steps) % PACKED) as u16;
         return true;
     }
     let next = (place + SIDE) % PACKED;
-    let more = code_steps(&slots[a..e], next, posting / MAX_ROWS);
+    let more = code_steps(slot, next, posting / MAX_ROWS);
     places[p] = ((next + more) % PACKED) as u16;
     0 < more
 }
@@ -309,17 +305,16 @@ fn sees_group(slots: &[u64], rows: usize, places: &mut [u16], posting: u64, plac
     ensures marked { Marked rows slots.now places.new }
 {
     let p = (posting % MAX_ROWS) as usize;
-    let a = SLOT_WORDS * p;
-    let e = a + SLOT_WORDS;
-    if has_group(&slots[a..e], place, posting / MAX_ROWS) {
+    let slot = slot_at(slots, p);
+    if has_group(slot, place, posting / MAX_ROWS) {
         return true;
     }
-    let next = place + group_steps(&slots[a..e], place, posting / MAX_ROWS);
+    let next = place + group_steps(slot, place, posting / MAX_ROWS);
     places[p] = next as u16;
     if NOWHERE <= next {
         return false;
     }
-    has_group(&slots[a..e], next, posting / MAX_ROWS)
+    has_group(slot, next, posting / MAX_ROWS)
 }
 
 // Whether the posting is seen where it should stand in its row if all postings so far were those of the rows. A yes is sure but for atom

@@ -14,10 +14,10 @@ ghost use Rattle.contents.specs.Lent.{LaidOut, posted_atoms, has_atom, one_if};
 ghost use Rattle.contents.specs.Placed.{Grown, new_atom, new_count, has_bit};
 
 use crate::by_postings::atom_count;
+use crate::slot_at;
 use lists::all_zero;
 use model::{
-    BODY_AT, CONDITION_GROUPS_AT, CONDITIONS_AT, GROUP_WORDS, MAX_ROWS, OUTPUTS_AT, SLOT_WORDS,
-    TOTAL_GROUPS_AT,
+    BODY_AT, CONDITION_GROUPS_AT, CONDITIONS_AT, GROUP_WORDS, MAX_ROWS, OUTPUTS_AT, TOTAL_GROUPS_AT,
 };
 use words::{MAX_WORD, MAX_WORDS, WORD_BITS};
 
@@ -231,9 +231,7 @@ fn find_rows(words: &[u64], places: &mut [u32], slots: &[u64], rows: usize) -> O
 {
     let mut count: usize = 0;
     for p in 0..rows {
-        let a = SLOT_WORDS * p;
-        let e = a + SLOT_WORDS;
-        let found = find_row(words, places, &slots[a..e], p as u64)?;
+        let found = find_row(words, places, slot_at(slots, p), p as u64)?;
         count += found;
     }
     Some(count)

@@ -1,17 +1,14 @@
 use mathlib.Core.Path.{◌≡◌, sym, ap, ◌∙◌}
-use mathlib.Core.Bool.{true}
 use Prim.Native.Nat.{◌*◌}
 use native.Mathlib.Omega.{arith}
 use Rattle.lists.proofs.Pads.{rest_part}
 use Rattle.model.specs.Records.{slot_words, founded_rows}
 use Rattle.model.specs.Slots.{entries_in}
-use Rattle.slots.specs.Layout.{slot_at}
-use Rattle.slots.proofs.Rows.{slot-code}
-use Rattle.slots_check.specs.Check.{all_zero, slot_ok}
+use Rattle.slots_check.specs.Check.{all_zero}
 use Rattle.contents.proofs.Walks.{slots-bad, slots-good, slots_end, slots-start}
 use Rattle.contents.proofs.Slots.{founded-start, founded-most, founded-next, founded-last, counted-bad, counted-other}
 use Rattle.contents.proofs.Slots.{counted_same}
-use Rattle.contents.proofs.slots_ok.Goals.{Else-not-is_slot, After-loop-p}
+use Rattle.contents.proofs.slots_ok.Goals.{After-loop-p}
 use Rattle.contents.proofs.slots_ok.Goals as goal
 
 pub loop-p-init : goal.loop-p-init
@@ -26,35 +23,23 @@ returns-then-not-is_slot c =
     let ws = a.slots.now in
     let l = c.loop-p in
     counted-bad a.rows ws a.atoms a.born a.founded
-    (slots-bad a.atoms a.born a.rows ws l.p c.loop-p-test.true
-    (sym (ap (slot_ok a.atoms a.born) (slot-code ws l.p)) ∙ sym c.is_slot.ensures ∙ c.if-not-is_slot.true)
-    ∙ l.invariant.0)
-
--- the slot at hand passes
-good : (c : Else-not-is_slot) → let a = c.args in
-    slot_ok a.atoms a.born (slot_at a.slots.now c.loop-p.p) ≡ true
-good c =
-    let a = c.args in
-    sym (ap (slot_ok a.atoms a.born) (slot-code a.slots.now c.loop-p.p)) ∙ sym c.is_slot.ensures
-    ∙ c.if-not-is_slot.false
+    (slots-bad a.atoms a.born a.rows ws l.p _ c.slot_at-slot.ensures.slot c.loop-p-test.true (sym c.if-not-is_slot.ensures) ∙ l.invariant.0)
 
 pub overflow_sub-count : goal.overflow_sub-count
 overflow_sub-count c =
     let a = c.args in
-    founded-most a.rows a.slots.now a.atoms a.born c.loop-p.p (good (goal.at.overflow_sub-count c).Else-not-is_slot)
+    founded-most a.rows a.slots.now a.atoms a.born c.loop-p.p _ c.slot_at-slot.ensures.slot (sym c.if-not-is_slot.ensures)
 
 pub loop-p-preserved : goal.loop-p-preserved
 loop-p-preserved c =
-    let at_else_not_is_slot = (goal.at.loop-p-preserved c).Else-not-is_slot in
     let a = c.args in
     let ws = a.slots.now in
     let l = c.loop-p in
-    let n = founded-next a.rows ws a.atoms a.born l.p (good at_else_not_is_slot) c.loop-p-test.true in
-    let h = l.invariant.2 in (
-      slots-good a.atoms a.born a.rows ws l.p c.loop-p-test.true (good at_else_not_is_slot) ∙ l.invariant.0,
-      omega arith,
-      omega arith,
-    )
+    let d = c.slot_at-slot.ensures.slot in
+    let ok = sym c.if-not-is_slot.ensures in
+    let n = founded-next a.rows ws a.atoms a.born l.p _ d ok c.loop-p-test.true in
+    let h = l.invariant.2 in
+    (slots-good a.atoms a.born a.rows ws l.p _ d c.loop-p-test.true ok ∙ l.invariant.0, omega arith, omega arith)
 
 -- the rows met are all
 all-met : (c : After-loop-p) → let a = c.args in

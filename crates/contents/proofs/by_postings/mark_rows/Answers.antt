@@ -14,7 +14,7 @@ loop-p-init c =
 
 pub literal_count-count-requires : goal.literal_count-count-requires
 literal_count-count-requires c =
-    holds-code c.args.rows c.args.slots.now c.requires.fact_1 c.loop-p.p c.loop-p-test.true
+    holds-code c.args.rows c.args.slots.now c.requires.fact_1 c.loop-p.p c.slot_at-slot.ensures.slot c.loop-p-test.true
 
 pub overflow_add-count : goal.overflow_add-count
 overflow_add-count c =
@@ -24,20 +24,20 @@ overflow_add-count c =
 
 pub first_place-requires : goal.first_place-requires
 first_place-requires c =
-    holds-code c.args.rows c.args.slots.now c.requires.fact_1 c.loop-p.p c.loop-p-test.true
+    holds-code c.args.rows c.args.slots.now c.requires.fact_1 c.loop-p.p c.slot_at-slot.ensures.slot c.loop-p-test.true
 
 pub loop-p-preserved : goal.loop-p-preserved
 loop-p-preserved c =
     let l = c.loop-p-test.true in
     let n = c.literal_count-count.ensures in
-    let t = total-step c.args.rows c.args.slots.now c.requires.fact_1 c.loop-p.p _ l refl in
+    let t = total-step c.args.rows c.args.slots.now c.requires.fact_1 c.loop-p.p _ c.slot_at-slot.ensures.slot l refl in
     let f = c.requires.fact_1.over.few in (
       omega arith,
       omega arith,
       marked-put c.loop-p.p (c.loop-p.p + 1) c.args.slots.now c.loop-p.places c.loop-p.p _ (omega arith)
           (omega arith)
           (omega arith) c.loop-p.invariant.2
-          (subst (Form _) (total-code c.args.slots.now c.loop-p.p) c.first_place.ensures),
+          (subst (Form _) (total-code c.args.slots.now c.loop-p.p c.slot_at-slot.ensures.slot) c.first_place.ensures),
     )
 
 pub returns : goal.returns

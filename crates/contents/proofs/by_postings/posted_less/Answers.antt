@@ -17,20 +17,20 @@ returns-then-rows-p c =
 
 pub has_atom-requires : goal.has_atom-requires
 has_atom-requires c = record {
-  fact_1 = holds-code c.args.rows c.args.slots.now c.requires (c.args.posting % max_rows) c.if-rows-p.false;
+  fact_1 = holds-code c.args.rows c.args.slots.now c.requires (c.args.posting % max_rows) c.slot_at-slot.ensures.slot c.if-rows-p.false;
   fact_2 = search rules;
 }
 
 pub returns-then-often-eq1 : goal.returns-then-often-eq1
 returns-then-often-eq1 c =
-    let t = posted-code c.args.rows c.args.slots.now c.requires c.args.posting c.if-rows-p.false in
+    let t = posted-code c.args.rows c.args.slots.now c.requires c.args.posting c.slot_at-slot.ensures.slot c.if-rows-p.false in
     ap not (c.has_atom.ensures ∙ ap (ltb 0) t)
     ∙ none-less (times c.args.posting (postings_of (rows_in c.args.rows c.args.slots.now)))
     ∙ ap (ltb (times c.args.posting (postings_of (rows_in c.args.rows c.args.slots.now)))) (sym c.if-often-eq1.true)
 
 pub times_posted-requires : goal.times_posted-requires
 times_posted-requires c = record {
-  fact_1 = holds-code c.args.rows c.args.slots.now c.requires (c.args.posting % max_rows) c.if-rows-p.false;
+  fact_1 = holds-code c.args.rows c.args.slots.now c.requires (c.args.posting % max_rows) c.slot_at-slot.ensures.slot c.if-rows-p.false;
   fact_2 = search rules;
 }
 
@@ -38,4 +38,4 @@ pub returns : goal.returns
 returns c =
     ap (λ (t : ℕ). ltb t c.args.often)
     (c.times_posted.ensures
-    ∙ posted-code c.args.rows c.args.slots.now c.requires c.args.posting c.if-rows-p.false)
+    ∙ posted-code c.args.rows c.args.slots.now c.requires c.args.posting c.slot_at-slot.ensures.slot c.if-rows-p.false)

@@ -17,7 +17,7 @@ step : (c : After-posting_count-count) → let a = c.args in
     × (length (postings_from p (rows_from a.rows a.slots.now p))
     ≡ n + length (postings_from (p + 1) (rows_from a.rows a.slots.now (p + 1))))
 step c =
-    total-step c.args.rows c.args.slots.now c.requires c.loop-p.p _ c.loop-p-test.true
+    total-step c.args.rows c.args.slots.now c.requires c.loop-p.p _ c.slot_at.ensures.slot c.loop-p-test.true
     c.posting_count-count.ensures
 
 pub loop-p-init : goal.loop-p-init
@@ -27,7 +27,7 @@ loop-p-init c =
 
 pub posting_count-count-requires : goal.posting_count-count-requires
 posting_count-count-requires c =
-    holds-code c.args.rows c.args.slots.now c.requires c.loop-p.p c.loop-p-test.true
+    holds-code c.args.rows c.args.slots.now c.requires c.loop-p.p c.slot_at.ensures.slot c.loop-p-test.true
 
 pub overflow_add-count : goal.overflow_add-count
 overflow_add-count c =
