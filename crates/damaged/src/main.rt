@@ -143,10 +143,17 @@ fn second_part(operation: Operation) -> Part
     }
 }
 
-// Scratch as long as a copy says.
+// Scratch as long as a copy says, all used.
 fn scratch(length: u64, buffer: &mut [u64]) -> &mut [u64] {
     let n = buffer.len().min(length as usize);
-    &mut buffer[..n]
+    let scratch = &mut buffer[..n];
+    scratch.fill(USED);
+    scratch
+}
+
+// Whether scratch is all used still.
+fn is_used(scratch: &[u64]) -> bool {
+    scratch.iter().all(|word| *word == USED)
 }
 
 // ---- A call on the words of a copy.
@@ -157,11 +164,8 @@ fn is_kept(operation: Operation, copy: &[u64; COPY_WORDS], lent: &Lent) -> bool 
         && POSTINGS.of(copy) == &*lent.postings
         && first_part(operation).of(copy) == &*lent.first
         && second_part(operation).of(copy) == &*lent.second
-        && lent
-            .third
-            .iter()
-            .chain(lent.fourth.iter())
-            .all(|word| *word == USED)
+        && is_used(lent.third)
+        && is_used(lent.fourth)
 }
 
 fn attempt(operation: Operation, copy: &[u64; COPY_WORDS]) -> Tried {
@@ -171,8 +175,8 @@ fn attempt(operation: Operation, copy: &[u64; COPY_WORDS]) -> Tried {
     let mut postings = [0u64; POSTINGS.most];
     let mut first = [0u64; STORE_SLOTS.most];
     let mut second = [0u64; STORE_POSTINGS.most];
-    let mut rows: [u64; 10] = filled(USED);
-    let mut atoms: [u64; 3210] = filled(USED);
+    let mut rows = [0u64; 10];
+    let mut atoms: [u64; 3210] = filled(0);
     let mut lent = Lent {
         words: &mut words,
         slots: SLOTS.lent(copy, &mut slots),
