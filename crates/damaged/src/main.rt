@@ -2,375 +2,257 @@
 // their damaged copies, the output a line a copy; tests/damaged/make.py writes both from document 01 and says how they are laid out.
 #![tactic(auto)]
 
-ghost use Rattle.std.specs.Prelude.{◌≡◌, ◌+◌, ◌≤◌, length};
+ghost use Rattle.std.specs.Prelude.{◌≡◌, ◌+◌, ◌<◌, ◌≤◌, length};
 
-use calls::WORDS;
-use lists::{copy, equal};
-use text::{Parsed, kept};
+use calls::{Lent, OPERATIONS, Operation, WORDS};
+use text::filled;
 
 // Ends the copies of a ledger.
 const LAST: u64 = 999;
 
-// Where the length of each slice stands, after the words of the call.
-const SLOTS_LEN_AT: usize = WORDS;
+// What scratch holds before a call: words that are all used.
+const USED: u64 = 11;
 
-const POSTINGS_LEN_AT: usize = WORDS + 1;
+// The words of a copy: those of the call, the length of each slice, and the slices.
+const COPY_WORDS: usize = 1700;
 
-const HELD_LEN_AT: usize = WORDS + 2;
+// Where a slice lies in a copy: the place of its length and that of its words, and how many words there is room for.
+#[derive(Clone, Copy)]
+struct Part {
+    length_at: usize,
+    at: usize,
+    most: usize,
+    ghost within: { (length_at < 1700) × (at + most ≤ 1700) },
+}
 
-const CUT_LEN_AT: usize = WORDS + 3;
+const SLOTS: Part = Part {
+    length_at: WORDS,
+    at: 290,
+    most: 540,
+};
 
-const CONDITIONS_LEN_AT: usize = WORDS + 4;
+const POSTINGS: Part = Part {
+    length_at: WORDS + 1,
+    at: 830,
+    most: 310,
+};
 
-const OUTPUTS_LEN_AT: usize = WORDS + 5;
+const HELD: Part = Part {
+    length_at: WORDS + 2,
+    at: 190,
+    most: 50,
+};
 
-const GIVEN_LEN_AT: usize = WORDS + 6;
+const CUT: Part = Part {
+    length_at: WORDS + 3,
+    at: 240,
+    most: 50,
+};
 
-const FOUND_LEN_AT: usize = WORDS + 7;
+const CONDITIONS: Part = Part {
+    length_at: WORDS + 4,
+    at: 100,
+    most: 20,
+};
 
-const STORE_SLOTS_LEN_AT: usize = WORDS + 8;
+const OUTPUTS: Part = Part {
+    length_at: WORDS + 5,
+    at: 120,
+    most: 70,
+};
 
-const STORE_POSTINGS_LEN_AT: usize = WORDS + 9;
+const GIVEN: Part = Part {
+    length_at: WORDS + 6,
+    at: 80,
+    most: 10,
+};
 
+const FOUND: Part = Part {
+    length_at: WORDS + 7,
+    at: 90,
+    most: 10,
+};
+
+const STORE_SLOTS: Part = Part {
+    length_at: WORDS + 8,
+    at: 1140,
+    most: 360,
+};
+
+const STORE_POSTINGS: Part = Part {
+    length_at: WORDS + 9,
+    at: 1500,
+    most: 200,
+};
+
+// Where the lengths of the scratch of a closing stand; its words are in no copy.
 const ROW_SCRATCH_LEN_AT: usize = WORDS + 10;
 
 const ATOM_SCRATCH_LEN_AT: usize = WORDS + 11;
 
-// Which words of a copy are lent as a slice: from, and up to.
-#[derive(Clone, Copy)]
-struct Bounds {
-    from: usize,
-    to: usize,
-}
-
-// What a call was refused by, 0 for none; and 1 if it changed a lent word although it refused, else 0.
+// What a call was refused by, 0 for none; and whether it changed a lent word although it refused.
 #[derive(Clone, Copy)]
 struct Tried {
     refused: u64,
-    wrong: u64,
-}
-
-// What a call was refused by, and whether its scratch is as it was.
-#[derive(Clone, Copy)]
-struct Passed {
-    refused: u64,
-    scratch: bool,
-}
-
-fn outcome(refused: u64, same: bool) -> Tried {
-    if refused == 0 {
-        return Tried { refused, wrong: 0 };
-    }
-    if same {
-        return Tried { refused, wrong: 0 };
-    }
-    Tried { refused, wrong: 1 }
+    wrong: bool,
 }
 
 // ---- What a call is lent, out of the words of a copy.
-// The part that starts at `at`: so many words, or at most `most`.
-fn part(length: u64, at: usize, most: usize) -> Bounds
-    requires { at + most ≤ 1700 }
-    ensures { (result.from ≤ result.to) × (result.to ≤ result.from + most) × (result.to ≤ 1700) }
-{
-    if most as u64 <= length {
-        return Bounds {
-            from: at,
-            to: at + most,
-        };
+impl Part {
+    // The words of the slice.
+    fn of(self, copy: &[u64; COPY_WORDS]) -> &[u64]
+        ensures { length result.now ≤ self.most }
+    {
+        let n = self.most.min(copy[self.length_at] as usize);
+        let from = self.at;
+        &copy[from..from + n]
     }
-    Bounds {
-        from: at,
-        to: at + length as usize,
+
+    // The slice, copied into a buffer that has room for it.
+    fn lent<'b>(self, copy: &[u64; COPY_WORDS], buffer: &'b mut [u64]) -> &'b mut [u64]
+        requires { self.most ≤ length buffer.old }
+    {
+        let words = self.of(copy);
+        let lent = &mut buffer[..words.len()];
+        lent.copy_from_slice(words);
+        lent
     }
 }
 
 // Conditions, the atoms to search for, the store's slots, or held.
-fn first_part(operation: u64, w: &[u64]) -> Bounds
-    requires { length w.now ≡ 1700 }
-    ensures { (result.from ≤ result.to) × (result.to ≤ result.from + 360) × (result.to ≤ 1700) }
+fn first_part(operation: Operation) -> Part
+    ensures { result.most ≤ 360 }
 {
     match operation {
-        6 => part(w[CONDITIONS_LEN_AT], 100, 20),
-        7 => part(w[GIVEN_LEN_AT], 80, 10),
-        9 | 10 => part(w[STORE_SLOTS_LEN_AT], 1140, 360),
-        _ => part(w[HELD_LEN_AT], 190, 50),
+        Operation::Offer => CONDITIONS,
+        Operation::Candidates => GIVEN,
+        Operation::Seed | Operation::Deliver => STORE_SLOTS,
+        _ => HELD,
     }
 }
 
 // Outputs, the rows found, the store's postings, or cut.
-fn second_part(operation: u64, w: &[u64]) -> Bounds
-    requires { length w.now ≡ 1700 }
-    ensures { (result.from ≤ result.to) × (result.to ≤ result.from + 200) × (result.to ≤ 1700) }
+fn second_part(operation: Operation) -> Part
+    ensures { result.most ≤ 200 }
 {
     match operation {
-        6 => part(w[OUTPUTS_LEN_AT], 120, 70),
-        7 => part(w[FOUND_LEN_AT], 90, 10),
-        9 | 10 => part(w[STORE_POSTINGS_LEN_AT], 1500, 200),
-        _ => part(w[CUT_LEN_AT], 240, 50),
+        Operation::Offer => OUTPUTS,
+        Operation::Candidates => FOUND,
+        Operation::Seed | Operation::Deliver => STORE_POSTINGS,
+        _ => CUT,
     }
+}
+
+// Scratch as long as a copy says, all used.
+fn scratch(length: u64, buffer: &mut [u64]) -> &mut [u64] {
+    let n = buffer.len().min(length as usize);
+    let scratch = &mut buffer[..n];
+    scratch.fill(USED);
+    scratch
+}
+
+// Whether scratch is all used still.
+fn is_used(scratch: &[u64]) -> bool {
+    scratch.iter().all(|word| *word == USED)
 }
 
 // ---- A call on the words of a copy.
-// Whether a part of a copy is still what was lent of it.
-fn is_kept(w: &[u64], p: Bounds, lent: &[u64]) -> bool
-    requires { (p.from ≤ p.to) × (p.to ≤ length w.now) }
-{
-    let from = p.from;
-    let to = p.to;
-    equal(&w[from..to], lent)
+// Whether each lent word is as the copy has it.
+fn is_kept(operation: Operation, copy: &[u64; COPY_WORDS], lent: &Lent) -> bool {
+    &copy[..WORDS] == lent.words.as_slice()
+        && SLOTS.of(copy) == &*lent.slots
+        && POSTINGS.of(copy) == &*lent.postings
+        && first_part(operation).of(copy) == &*lent.first
+        && second_part(operation).of(copy) == &*lent.second
+        && is_used(lent.third)
+        && is_used(lent.fourth)
 }
 
-fn ledger_kept(w: &[u64], words: &[u64], slots: &[u64], postings: &[u64]) -> bool
-    requires { length w.now ≡ 1700 }
-{
-    let a = equal(&w[0..WORDS], words);
-    let b = is_kept(w, part(w[SLOTS_LEN_AT], 290, 540), slots);
-    let c = is_kept(w, part(w[POSTINGS_LEN_AT], 830, 310), postings);
-    a & b & c
-}
-
-fn pair_kept(operation: u64, w: &[u64], first: &[u64], second: &[u64]) -> bool
-    requires { length w.now ≡ 1700 }
-{
-    let a = is_kept(w, first_part(operation, w), first);
-    let b = is_kept(w, second_part(operation, w), second);
-    a & b
-}
-
-// Whether scratch is as it was lent.
-fn is_used(rows: &[u64], atoms: &[u64]) -> bool {
-    let lent_rows = used_rows();
-    let lent_atoms = used_atoms();
-    let n = kept(&lent_rows, rows.len());
-    let m = kept(&lent_atoms, atoms.len());
-    let a = equal(&lent_rows[0..n], rows);
-    let b = equal(&lent_atoms[0..m], atoms);
-    a & b
-}
-
-fn pass(
-    operation: u64,
-    words: &mut [u64],
-    slots: &mut [u64],
-    postings: &mut [u64],
-    first: &mut [u64],
-    second: &mut [u64],
-    rows: &mut [u64],
-    atoms: &mut [u64],
-) -> Passed {
-    let refused = calls::call(
-        operation, words, slots, postings, first, second, rows, atoms,
-    );
-    Passed {
-        refused,
-        scratch: is_used(rows, atoms),
-    }
-}
-
-// The call, with scratch that is all used.
-fn with_scratch(
-    operation: u64,
-    w: &[u64],
-    words: &mut [u64],
-    slots: &mut [u64],
-    postings: &mut [u64],
-    first: &mut [u64],
-    second: &mut [u64],
-) -> Passed
-    requires { length w.now ≡ 1700 }
-{
-    let mut rows = used_rows();
-    let mut atoms = used_atoms();
-    let n = kept(&rows, w[ROW_SCRATCH_LEN_AT] as usize);
-    let m = kept(&atoms, w[ATOM_SCRATCH_LEN_AT] as usize);
-    pass(
-        operation,
-        words,
-        slots,
-        postings,
-        first,
-        second,
-        &mut rows[0..n],
-        &mut atoms[0..m],
-    )
-}
-
-fn compare(
-    operation: u64,
-    w: &[u64],
-    words: &mut [u64],
-    slots: &mut [u64],
-    postings: &mut [u64],
-    first: &mut [u64],
-    second: &mut [u64],
-) -> Tried
-    requires { length w.now ≡ 1700 }
-{
-    let p = with_scratch(operation, w, words, slots, postings, first, second);
-    let a = ledger_kept(w, words, slots, postings);
-    let b = pair_kept(operation, w, first, second);
-    outcome(p.refused, a & b & p.scratch)
-}
-
-// Copies a part, for which there is space, and answers how many words it has.
-fn lend(w: &[u64], p: Bounds, into: &mut [u64]) -> usize
-    requires { (p.from ≤ p.to) × (p.to ≤ length w.now) × (p.to ≤ p.from + length into.old) }
-    ensures { result ≤ length into.old }
-{
-    let from = p.from;
-    let to = p.to;
-    copy(&w[from..to], into);
-    to - from
-}
-
-fn with_pair(
-    operation: u64,
-    w: &[u64],
-    words: &mut [u64],
-    slots: &mut [u64],
-    postings: &mut [u64],
-) -> Tried
-    requires { length w.now ≡ 1700 }
-{
-    let mut first = [0u64; 360];
-    let mut second = [0u64; 200];
-    let n = lend(w, first_part(operation, w), &mut first);
-    let m = lend(w, second_part(operation, w), &mut second);
-    compare(
-        operation,
-        w,
-        words,
-        slots,
-        postings,
-        &mut first[0..n],
-        &mut second[0..m],
-    )
-}
-
-fn attempt(operation: u64, w: &[u64]) -> Tried
-    requires { length w.now ≡ 1700 }
-{
+fn attempt(operation: Operation, copy: &[u64; COPY_WORDS]) -> Tried {
     let mut words = [0u64; WORDS];
-    let mut slots = [0u64; 540];
-    let mut postings = [0u64; 310];
-    copy(&w[0..WORDS], &mut words);
-    let n = lend(w, part(w[SLOTS_LEN_AT], 290, 540), &mut slots);
-    let m = lend(w, part(w[POSTINGS_LEN_AT], 830, 310), &mut postings);
-    with_pair(
-        operation,
-        w,
-        &mut words,
-        &mut slots[0..n],
-        &mut postings[0..m],
-    )
+    words.copy_from_slice(&copy[..WORDS]);
+    let mut slots = [0u64; SLOTS.most];
+    let mut postings = [0u64; POSTINGS.most];
+    let mut first = [0u64; STORE_SLOTS.most];
+    let mut second = [0u64; STORE_POSTINGS.most];
+    let mut rows = [0u64; 10];
+    let mut atoms: [u64; 3210] = filled(0);
+    let mut lent = Lent {
+        words: &mut words,
+        slots: SLOTS.lent(copy, &mut slots),
+        postings: POSTINGS.lent(copy, &mut postings),
+        first: first_part(operation).lent(copy, &mut first),
+        second: second_part(operation).lent(copy, &mut second),
+        third: scratch(copy[ROW_SCRATCH_LEN_AT], &mut rows),
+        fourth: scratch(copy[ATOM_SCRATCH_LEN_AT], &mut atoms),
+    };
+    let refused = calls::call(operation, &mut lent);
+    Tried {
+        refused,
+        wrong: refused != 0 && !is_kept(operation, copy, &lent),
+    }
 }
 
 // The line of one copy: what each function in turn refuses it by, and whether one changed a word although it refused.
-fn try_all(w: &[u64], out: &mut [u8], at: usize) -> usize
-    requires { length w.now ≡ 1700 }
-{
+fn try_all(copy: &[u64; COPY_WORDS], out: &mut [u8], at: usize) -> usize {
     let mut next = at;
-    let mut wrong: u64 = 0;
-    let mut i: u64 = 0;
-    while i < 11 {
-        let t = attempt(i, w);
+    let mut wrong = false;
+    for operation in OPERATIONS {
+        let t = attempt(operation, copy);
         next = text::put_decimal(out, next, t.refused);
-        wrong = wrong | t.wrong;
-        i += 1;
+        wrong |= t.wrong;
     }
-    next = text::put_decimal(out, next, wrong);
+    next = text::put_decimal(out, next, u64::from(wrong));
     text::put(out, next, b'\n')
 }
 
-// ---- The input.
-fn store(w: &mut [u64], index: u64, value: u64) {
-    if index < w.len() as u64 {
-        w[index as usize] = value;
-    }
-}
-
+// ---- The input. What is no number ends it.
 // So many changes, each an index and a value; the place after them.
-fn change(s: &[u8], at: usize, changes: u64, w: &mut [u64]) -> usize {
+fn change(s: &[u8], at: usize, changes: u64, copy: &mut [u64; COPY_WORDS]) -> Option<usize> {
     let mut next = at;
-    let mut left = changes;
-    while 0 < left {
-        let Parsed::Number(index, middle) = text::number(s, next) else {
-            return s.len();
-        };
-        let Parsed::Number(value, after) = text::number(s, middle) else {
-            return s.len();
-        };
-        store(w, index, value);
+    for _ in 0..changes {
+        let (index, middle) = text::number(s, next)?;
+        let (value, after) = text::number(s, middle)?;
+        if let Some(word) = copy.get_mut(index as usize) {
+            *word = value;
+        }
         next = after;
-        left -= 1;
     }
-    next
+    Some(next)
 }
 
-// The copies of one ledger; the place after them.
-fn copies(s: &[u8], at: usize, good: &[u64], out: &mut [u8]) -> usize
-    requires { length good.now ≡ 1700 }
-{
+// The copies of one ledger; the place after them. Each has a byte at least.
+fn copies(s: &[u8], at: usize, good: &[u64; COPY_WORDS], out: &mut [u8]) -> Option<usize> {
     let mut next = at;
     let mut filled: usize = 0;
-    let mut turns = s.len();
-    while 0 < turns {
-        let Parsed::Number(changes, first) = text::number(s, next) else {
-            return s.len();
-        };
+    for _ in 0..s.len() {
+        let (changes, first) = text::number(s, next)?;
         if changes == LAST {
             text::flush(out, filled);
-            return first;
+            return Some(first);
         }
-        let mut w = [0u64; 1700];
-        copy(good, &mut w);
-        next = change(s, first, changes, &mut w);
-        filled = try_all(&w, out, filled);
-        turns -= 1;
+        let mut copy = *good;
+        next = change(s, first, changes, &mut copy).unwrap_or(s.len());
+        filled = try_all(&copy, out, filled);
     }
-    s.len()
+    None
 }
 
-fn run(s: &[u8], out: &mut [u8]) {
+// The ledgers, each of which has a byte at least.
+fn run(s: &[u8], out: &mut [u8]) -> Option<()> {
     let mut at: usize = 0;
-    let mut turns = s.len();
-    while 0 < turns {
-        let mut good = [0u64; 1700];
-        let l = text::numbers(s, at, &mut good);
-        if !l.ok {
-            return;
-        }
-        at = copies(s, l.at, &good, out);
-        turns -= 1;
+    for _ in 0..s.len() {
+        let mut good = [0u64; COPY_WORDS];
+        let first = text::numbers(s, at, &mut good)?;
+        at = copies(s, first, &good, out)?;
     }
+    Some(())
 }
 
 fn main() {
-    let mut input = input_buffer();
+    let mut input: [u8; 524288] = filled(0);
     let mut out = io::large_buffer();
     let n = io::read_full(0, &mut input);
     text::join_lines(&mut input);
-    run(&input[0..n], &mut out);
-}
-
-// ---- Buffers, each with its length said.
-// The input.
-fn input_buffer() -> [u8; 524288]
-    ensures { 524288 ≡ length result }
-{
-    [0; 524288]
-}
-
-// Scratch for rows and for atoms, all used.
-fn used_rows() -> [u64; 10]
-    ensures { 10 ≡ length result }
-{
-    [11; 10]
-}
-
-fn used_atoms() -> [u64; 3210]
-    ensures { 3210 ≡ length result }
-{
-    [11; 3210]
+    run(&input[..n], &mut out);
 }

@@ -1,9 +1,0 @@
--- The invariant of `run`: the output buffer stays as long as it was. Assumes nothing.
-use Rattle.std.proofs.Common.{◌≡◌, length}
-use Rattle.replay.proofs.run.Given as goal
-
-abbrev pub invariant-loop-turns : goal.invariant-loop-turns
-invariant-loop-turns l = length l.out ≡ length l.initial.out
-
-abbrev pub decreases-loop-turns : goal.decreases-loop-turns
-decreases-loop-turns l = l.turns
