@@ -1,6 +1,6 @@
 -- The slots of a tier as one buffer, and its changes word by word. Assumes nothing.
-use Rattle.std.specs.Prelude.{Bool, true, false, ◌&&◌, ◌||◌, not, List, [], ◌∷◌, ◌++◌, ℕ, zero, suc, ◌+◌, ◌*◌, eqb, ltb, get_or, set, take, drop}
-use Rattle.std.specs.Prelude.{Option, Some, None}
+use Rattle.std.specs.Prelude.{Bool, true, false, ◌&&◌, ◌||◌, not, List, [], ◌∷◌, ◌++◌, ℕ, zero, suc, ◌+◌, ◌*◌}
+use Rattle.std.specs.Prelude.{eqb, ltb, get_or, set, take, drop, Option, Some, None}
 use Rattle.std.proofs.Math.Option as maybe
 use Rattle.meter.specs.Meter.{pick}
 use Rattle.model.specs.Records.{Entry, slot_words, saturating_add, hits_at, unshared_at, born_at, delivered_at, source_at}

@@ -1,7 +1,7 @@
 -- `count_postings`. The zeros are counted off row 0, and the end is found by halves. Assumes nothing.
 use mathlib.Core.Path.{◌≡◌, ap, ap₂, ◌∙◌}
 use mathlib.Core.List.{List, map}
-use Prim.Native.Nat.{ℕ, ◌+◌, ◌-◌, ◌/◌}
+use Prim.Native.Nat.{ℕ, ◌+◌}
 use native.Mathlib.Omega.{arith}
 use lib.Dec.{ltb}
 use lib.ListN.{length}
@@ -16,7 +16,8 @@ use Rattle.slots.specs.Cursor.{list_of}
 use Rattle.slots.specs.Layout.{Laid, slot_at, rows_in}
 use Rattle.slots.proofs.Storing.{laid-stored}
 use Rattle.postings.specs.Searching.{zero_first}
-use Rattle.postings.proofs.Ends.{EndsAt, long, ends-parted, ends-at}
+use Rattle.postings.proofs.Cuts.{cut-long}
+use Rattle.postings.proofs.Ends.{EndsAt, ends-parted, ends-at}
 use Rattle.postings.proofs.Standing.{here-zeros, here-short, postings-long, posted-some, posted-none}
 use Rattle.postings.proofs.searching.count_postings.Goals.{After-zero_first-outputs, Start}
 use Rattle.postings.proofs.searching.count_postings.Goals as goal
@@ -73,7 +74,8 @@ slice_bounds-partition_point-start c = omega (arith, (ends c).order, (ends c).wi
 pub overflow_add-result : goal.overflow_add-result
 overflow_add-result c =
     let e = ends (goal.at.overflow_add-result c).After-zero_first-outputs in
-    omega (arith, c.partition_point.ensures.bound, e.order, e.within, long e)
+    let long = cut-long (c.zero_first-conditions.result + c.zero_first-outputs.result) c.args.postings.now in
+    omega (arith, c.partition_point.ensures.bound, e.order, e.within, long)
 
 pub returns : goal.returns
 returns c =
