@@ -1,20 +1,20 @@
 // Rows on their way to a slot: the test of an offered row, and a row laid out as a proposal.
 #![tactic(auto)]
 
-ghost use Rattle.std.specs.Prelude.{◌≡◌, ◌&&◌, true, ◌<◌, ◌≤◌, length};
+ghost use Rattle.std.specs.Prelude.{◌≡◌, ◌&&◌, true, ◌<◌, ◌≤◌, length, OnOk};
 ghost use Rattle.lists.specs.Lists.{put};
-ghost use Rattle.meter.specs.Meter.{pay, judged};
+ghost use Rattle.meter.specs.Meter.{pay};
+ghost use Rattle.meter.specs.Results.{read_end};
 ghost use Rattle.model.specs.Records.{within, is_row_over, literals, slot_words, max_conditions, max_outputs};
 ghost use Rattle.model.specs.Slots.{row_in};
 ghost use Rattle.slots.specs.Cursor.{Sound, list_of};
 ghost use Rattle.slots.specs.Layout.{Laid, proposal, row_of};
-ghost use Rattle.meter.specs.Results.{WhereYes};
 ghost use Rattle.row_propose.specs.Parts.{blank_of};
 
 use lists::{copy, fill_zero};
-use meter::{Account, Judged, Meter, Payment, Verdict};
+use meter::{Purse, Unpaid};
 use model::{BODY_AT, CONDITIONS_AT, OUTPUTS_AT};
-use slots::{Side, Step};
+use slots::Side;
 use words::ascends;
 
 // Whether the lists are a row over so many atoms, with at most so many conditions and outputs.
@@ -41,31 +41,23 @@ pub fn is_row(
 }
 
 // The first words of out become the literals of a side, if they are paid for: one read a literal.
-fn copy_side(slot: &[u64], side: Side, out: &mut [u64], account: Account, work: Meter) -> Judged
+fn copy_side(slot: &[u64], side: Side, out: &mut [u64], purse: &mut Purse) -> Result<(), Unpaid>
     requires fact_1 { Sound slot.now side }
     requires fact_2 { length (list_of slot.now side) ≤ length out.old }
-    ensures { (result ≡ judged true (pay (length (list_of slot.now side)) account work))
-        × WhereYes result.verdict (out.new ≡ put 0 (list_of slot.now side) out.old) }
+    ensures paid { read_end result purse.new
+        ≡ pay (length (list_of slot.now side)) purse.old.account purse.old.meter }
+    ensures written { OnOk result (out.new ≡ put 0 (list_of slot.now side) out.old) }
 {
-    let mut account = account;
-    let mut meter = work;
     let mut cursor = slots::start();
-    let mut i: usize = 0;
-    loop {
-        let Step::Literal(c, k) = slots::next(slot, side, cursor) else {
-            return meter::answer(true, account, meter);
+    for word in out.iter_mut() {
+        let Some((literal, past)) = slots::next(slot, side, cursor) else {
+            break;
         };
-        match meter::pay_read(account, meter) {
-            Payment::Paid(p, m) => {
-                account = p;
-                meter = m;
-            }
-            Payment::Ended(j) => return j,
-        }
-        out[i] = c;
-        i += 1;
-        cursor = k;
+        purse.pay()?;
+        *word = literal;
+        cursor = past;
     }
+    Ok(())
 }
 
 // A proposal of so many conditions and outputs, with no literal yet.
@@ -93,27 +85,16 @@ pub fn propose(conditions: &[u64], outputs: &[u64], p: &mut [u64])
 }
 
 // p becomes the proposal of the row in a slot, if its literals are paid for: one read a literal.
-pub fn to_literals(slot: &[u64], p: &mut [u64], account: Account, work: Meter) -> Judged
+pub fn to_literals(slot: &[u64], p: &mut [u64], purse: &mut Purse) -> Result<(), Unpaid>
     requires fact_1 { Laid slot.now }
     requires fact_2 { length p.old ≡ slot_words }
-    ensures { (result ≡ judged true (pay (literals (row_in slot.now)) account work))
-        × WhereYes result.verdict (p.new ≡ proposal (row_in slot.now)) }
+    ensures paid { read_end result purse.new
+        ≡ pay (literals (row_in slot.now)) purse.old.account purse.old.meter }
+    ensures written { OnOk result (p.new ≡ proposal (row_in slot.now)) }
 {
     let n = slot[CONDITIONS_AT];
     blank(p, n, slot[OUTPUTS_AT]);
-    let first = copy_side(
-        slot,
-        slots::conditions(slot),
-        &mut p[BODY_AT..],
-        account,
-        work,
-    );
-    let verdict = first.verdict;
-    let Verdict::Yes = verdict else {
-        return first;
-    };
-    let account = first.account;
-    let meter = first.meter;
+    copy_side(slot, slots::conditions(slot), &mut p[BODY_AT..], purse)?;
     let at = BODY_AT + n as usize;
-    copy_side(slot, slots::outputs(slot), &mut p[at..], account, meter)
+    copy_side(slot, slots::outputs(slot), &mut p[at..], purse)
 }

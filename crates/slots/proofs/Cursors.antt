@@ -4,6 +4,7 @@ use mathlib.Core.Bool.{Bool, true, false}
 use mathlib.Core.List.{List, [], ◌∷◌, ◌++◌}
 use Prim.Native.Nat.{ℕ, suc, ◌+◌, ◌-◌, ◌*◌, ◌≤◌, ◌<◌}
 use native.Mathlib.Omega.{arith}
+use Rattle.std.specs.Prelude.{Some}
 use lib.Bits.{bit_or}
 use lib.ListN.{length, get_or, take, drop}
 use lib.Seq.{drop-cons}
@@ -12,8 +13,6 @@ use Rattle.model.specs.Records.{group_length}
 use Rattle.model.specs.Slots.{codes_of, ungroup}
 use Rattle.slots.specs.declared.Side.{Side}
 use Rattle.slots.specs.declared.Cursor.{Cursor}
-use Rattle.slots.specs.declared.Step.{Step}
-use Rattle.slots.specs.declared.Step.TheVariants.{Literal, End}
 use Rattle.slots.specs.Cursor.{literals_at, word_at, pend, rest, given, Placed, PlacedStep, TakenFrom}
 use Rattle.slots.proofs.Codes.{codes-none}
 
@@ -42,16 +41,14 @@ literals-group ws at n h =
 -- ---- the cursor's steps
 module _ (ws : List ℕ) (s : Side) (c : Cursor) where
   -- a literal of the group that was begun
-  pub rest-taken : (r : Step) → TakenFrom c r → given ws s r ≡ rest ws s c
+  pub rest-taken : (r : ℕ × Cursor) → TakenFrom c r → given ws s (Some r) ≡ rest ws s c
   unfolding rest
-  rest-taken (Literal k d) t =
+  rest-taken (k, d) t =
       ap (λ (n : ℕ). k ∷ (pend d ++ literals_at s.packed ws (word_at s.packed s.base n) (s.count - n))) t.0
       ∙ ap (λ (l : List ℕ). l ++ literals_at s.packed ws (word_at s.packed s.base c.next) (s.count - c.next)) (sym t.2)
-  rest-taken End t = absurd t
 
-  pub placed-taken : (r : Step) → TakenFrom c r → Placed s c → PlacedStep s r
-  placed-taken (Literal k d) t p = (omega arith, omega arith)
-  placed-taken End t p = absurd t
+  pub placed-taken : (r : ℕ × Cursor) → TakenFrom c r → Placed s c → PlacedStep s (Some r)
+  placed-taken (k, d) t p = (omega arith, omega arith)
 
   module _ (none : bit_or c.absent c.present ≡ 0) where
     -- no group is begun

@@ -1,6 +1,6 @@
 -- 01, Slot: "the codes, one a word, or the groups (atom/64, present bits, absent bits)".
 -- What a cursor over one side of a slot has still to give. Assumes nothing.
-use Rattle.std.specs.Prelude.{◌≡◌, refl, Bool, true, false, List, [], ◌∷◌, ◌++◌, ℕ, ◌+◌, ◌-◌, ◌*◌, ◌≤◌, ◌<◌, length, get_or, take, drop}
+use Rattle.std.specs.Prelude.{◌≡◌, refl, Option, Some, None, Bool, true, false, List, [], ◌∷◌, ◌++◌, ℕ, ◌+◌, ◌-◌, ◌*◌, ◌≤◌, ◌<◌, length, get_or, take, drop}
 use Rattle.std.proofs.Common.{ap₂, add-zero}
 use Rattle.std.proofs.Math.Nat.{sub-zero}
 use Rattle.std.specs.Int.Bits.{bit_or}
@@ -11,8 +11,6 @@ use Rattle.model.specs.Records.{group_length}
 use Rattle.model.specs.Slots.{codes_of, ungroup}
 use Rattle.slots.specs.declared.Side.{Side}
 use Rattle.slots.specs.declared.Cursor.{Cursor}
-use Rattle.slots.specs.declared.Step.{Step}
-use Rattle.slots.specs.declared.Step.TheVariants.{Literal, End}
 
 -- the literals of n codes, or of n groups, from word `at` on
 unfoldable pub literals_at : Bool → List ℕ → ℕ → ℕ → List ℕ
@@ -39,10 +37,10 @@ rest ws s c = pend c ++ literals_at s.packed ws (word_at s.packed s.base c.next)
 abbrev pub begin : Cursor
 begin = record { next = 0; word = 0; present = 0; absent = 0 }
 
--- what a step gave and what it leaves
-abbrev pub given : List ℕ → Side → Step → List ℕ
-given ws s (Literal k c) = k ∷ rest ws s c
-given ws s End = []
+-- what a step gave, a literal with the cursor past it, and what it leaves
+abbrev pub given : List ℕ → Side → Option (ℕ × Cursor) → List ℕ
+given ws s (Some (k, c)) = k ∷ rest ws s c
+given ws s None = []
 
 -- the side lies within the slot, and each group has the index of a word of atoms with codes of w bits, and some bit
 pub record SoundWide (w : ℕ) (ws : List ℕ) (s : Side) : Type 0 where
@@ -58,14 +56,13 @@ Sound ws s = SoundWide code_bits ws s
 abbrev pub Placed : Side → Cursor → Type 0
 Placed s c = (c.next ≤ s.count) × (c.word < words_wide code_bits)
 
-abbrev pub PlacedStep : Side → Step → Type 0
-PlacedStep s (Literal k c) = Placed s c
-PlacedStep s End = Unit {0}
+abbrev pub PlacedStep : Side → Option (ℕ × Cursor) → Type 0
+PlacedStep s (Some (k, c)) = Placed s c
+PlacedStep s None = Unit {0}
 
 -- the first literal of a group that was begun
-abbrev pub TakenFrom : Cursor → Step → Type 0
-TakenFrom c (Literal k d) = (d.next ≡ c.next) × (d.word ≡ c.word) × (pend c ≡ k ∷ pend d)
-TakenFrom c End = ⊥
+abbrev pub TakenFrom : Cursor → ℕ × Cursor → Type 0
+TakenFrom c (k, d) = (d.next ≡ c.next) × (d.word ≡ c.word) × (pend c ≡ k ∷ pend d)
 
 -- ---- at the start all is left
 place-zero : (p : Bool) (b : ℕ) → word_at p b 0 ≡ b

@@ -31,13 +31,6 @@ pub struct Cursor {
     pub absent: u64,
 }
 
-// A literal and the cursor past it, or the end.
-#[derive(Clone, Copy)]
-pub enum Step {
-    Literal(u64, Cursor),
-    End,
-}
-
 // The first literal of a group, and the bits that are left of it.
 #[derive(Clone, Copy)]
 pub struct Pending {
@@ -57,14 +50,14 @@ pub fn take(word: u64, present: u64, absent: u64) -> Pending
     if absent & mask != 0 {
         Pending {
             code: 2 * (WORD_BITS * word + t),
-            present: present,
+            present,
             absent: absent & !mask,
         }
     } else {
         Pending {
             code: 2 * (WORD_BITS * word + t) + 1,
             present: present & !mask,
-            absent: absent,
+            absent,
         }
     }
 }
@@ -81,54 +74,51 @@ pub fn start() -> Cursor
     }
 }
 
-// The next literal of the group that was begun, which has one.
-fn taken(c: Cursor) -> Step
+// The next literal of the group that was begun, which has one, with the cursor past it.
+fn taken(c: Cursor) -> (u64, Cursor)
     requires { (c.word < words_wide code_bits) × (0 < bit_or c.absent c.present) }
     ensures { TakenFrom c result }
 {
     let p = take(c.word, c.present, c.absent);
-    Step::Literal(
+    (
         p.code,
         Cursor {
-            next: c.next,
-            word: c.word,
             present: p.present,
             absent: p.absent,
+            ..c
         },
     )
 }
 
-// The next literal of a side with the cursor past it, or End where none is left.
-pub fn next(slot: &[u64], side: Side, cursor: Cursor) -> Step
+// The next literal of a side with the cursor past it, or None where none is left.
+pub fn next(slot: &[u64], side: Side, cursor: Cursor) -> Option<(u64, Cursor)>
     requires fact_1 { Sound slot.now side }
     requires fact_2 { Placed side cursor }
     ensures { (given slot.now side result ≡ rest slot.now side cursor) × PlacedStep side result }
 {
     if cursor.absent | cursor.present != 0 {
-        return taken(cursor);
+        return Some(taken(cursor));
     }
     if side.count <= cursor.next {
-        return Step::End;
+        return None;
     }
     if side.packed {
         let at = side.base + GROUP_WORDS * cursor.next;
-        return taken(Cursor {
+        return Some(taken(Cursor {
             next: cursor.next + 1,
             word: slot[at],
             present: slot[at + 1],
             absent: slot[at + 2],
-        });
+        }));
     }
     let at = side.base + cursor.next;
-    Step::Literal(
+    Some((
         slot[at],
         Cursor {
             next: cursor.next + 1,
-            word: cursor.word,
-            present: cursor.present,
-            absent: cursor.absent,
+            ..cursor
         },
-    )
+    ))
 }
 
 // The side of the conditions of a slot.

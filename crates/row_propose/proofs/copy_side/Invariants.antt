@@ -1,21 +1,18 @@
--- `copy_side` meets its contract: the literals that the cursor has still to give, written from position i on, make the whole.
+-- `copy_side` meets its contract: the literals that the cursor has still to give, written from there on, make the whole.
 -- Assumes nothing.
 use mathlib.Core.Path.{◌≡◌}
-use mathlib.Core.Bool.{true}
 use Prim.Native.Nat.{◌+◌, ◌≤◌}
 use lib.ListN.{length}
 use Rattle.lists.specs.Lists.{put}
-use Rattle.meter.specs.Meter.{pay, judged}
-use Rattle.slots.specs.Cursor.{rest, Placed}
+use Rattle.meter.specs.Meter.{pay}
+use Rattle.slots.specs.Cursor.{rest, list_of, Placed}
 use Rattle.row_propose.proofs.copy_side.Given as goal
 
-abbrev pub invariant-loop-c : goal.invariant-loop-c
-invariant-loop-c l = Placed l.side l.cursor
-    × (length l.out ≡ length l.initial.out)
-    × (l.i + length (rest l.slot l.side l.cursor) ≤ length l.out)
-    × (put l.i (rest l.slot l.side l.cursor) l.out ≡ put l.initial.i (rest l.slot l.side l.initial.cursor) l.initial.out)
-    × (judged true (pay (length (rest l.slot l.side l.cursor)) l.account l.meter)
-    ≡ judged true (pay (length (rest l.slot l.side l.initial.cursor)) l.initial.account l.initial.meter))
-
-abbrev pub decreases-loop-c : goal.decreases-loop-c
-decreases-loop-c l = length (rest l.slot l.side l.cursor)
+abbrev pub invariant-loop-word : goal.invariant-loop-word
+invariant-loop-word l = record {
+  placed : Placed l.side l.cursor;
+  room : l.word-index + length (rest l.slot l.side l.cursor) ≤ length l.out;
+  written : put l.word-index (rest l.slot l.side l.cursor) l.out ≡ put 0 (list_of l.slot l.side) l.fn.out;
+  paid : pay (length (rest l.slot l.side l.cursor)) l.purse.account l.purse.meter
+      ≡ pay (length (list_of l.slot l.side)) l.fn.purse.account l.fn.purse.meter;
+}

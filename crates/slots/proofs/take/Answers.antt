@@ -1,4 +1,3 @@
-use native.Mathlib.Omega.{arith}
 use Prim.Native.Nat.{ℕ, ◌<◌}
 use lib.Bits.{bit_or}
 use Rattle.words.specs.Bit.{first_bit}
@@ -12,26 +11,8 @@ use Rattle.slots.proofs.take.Goals as goal
 place : (c : Start) → first_bit (bit_or c.args.absent c.args.present) < 64
 place c = first-place c.args.word c.args.present c.args.absent c.ranges.present.fits c.ranges.absent.fits c.requires.fact_2
 
-pub overflow_cast-t : goal.overflow_cast-t
-overflow_cast-t c = omega (arith, place c)
-
 pub overflow_shl-mask : goal.overflow_shl-mask
 overflow_shl-mask c = place c
-
-pub overflow_add-result : goal.overflow_add-result
-overflow_add-result c = omega (arith, place (goal.at.overflow_add-result c).Start)
-
-pub overflow_mul-result-then-absent-mask-ne0 : goal.overflow_mul-result-then-absent-mask-ne0
-overflow_mul-result-then-absent-mask-ne0 c = omega (arith, place (goal.at.overflow_mul-result-then-absent-mask-ne0 c).Start)
-
-pub overflow_add-result-else-absent-mask-ne0 : goal.overflow_add-result-else-absent-mask-ne0
-overflow_add-result-else-absent-mask-ne0 c = omega (arith, place (goal.at.overflow_add-result-else-absent-mask-ne0 c).Start)
-
-pub overflow_mul-result-else-absent-mask-ne0-2 : goal.overflow_mul-result-else-absent-mask-ne0-2
-overflow_mul-result-else-absent-mask-ne0-2 c = omega (arith, place (goal.at.overflow_mul-result-else-absent-mask-ne0-2 c).Start)
-
-pub overflow_add-result-else-absent-mask-ne0-2 : goal.overflow_add-result-else-absent-mask-ne0-2
-overflow_add-result-else-absent-mask-ne0-2 c = omega (arith, place (goal.at.overflow_add-result-else-absent-mask-ne0-2 c).Start)
 
 pub returns-then-absent-mask-ne0 : goal.returns-then-absent-mask-ne0
 returns-then-absent-mask-ne0 c =
