@@ -1,17 +1,14 @@
 -- The search for the end of the postings: from z on the words are not 0 up to n, and 0 from n on. Assumes nothing.
 use mathlib.Core.Path.{◌≡◌}
+use mathlib.Core.Bool.{true, false}
 use mathlib.Core.List.{List}
-use Prim.Native.Nat.{ℕ, ◌+◌, ◌≤◌, ◌<◌}
+use Prim.Native.Nat.{ℕ, ◌+◌, ◌-◌, ◌≤◌, ◌<◌}
 use native.Mathlib.Omega.{arith}
-use lib.ListN.{length, get_or, get_or-eq_default}
-
--- the words seen so far: from z to lo, and from hi on
-pub record Seen (ws : List ℕ) (z lo hi : ℕ) : Type 0 where
-  pub from : z ≤ lo
-  pub order : lo ≤ hi
-  pub within : hi ≤ length ws
-  pub before : (k : ℕ) → z ≤ k → k < lo → 0 < get_or ws k 0
-  pub after : (k : ℕ) → hi ≤ k → get_or ws k 0 ≡ 0
+use lib.Dec.{ltb}
+use lib.ListN.{length, get_or}
+use borrow.Author.Tests.{ltb-true, ltb-false, lt-ltb}
+use Rattle.std.specs.List.Sorted.{IsPartitionPoint, IsPartitionedBy}
+use Rattle.postings.proofs.Cuts.{cut, cut-long, cut-at}
 
 -- where the postings end at n
 pub record EndsAt (ws : List ℕ) (z n : ℕ) : Type 0 where
@@ -20,41 +17,30 @@ pub record EndsAt (ws : List ℕ) (z n : ℕ) : Type 0 where
   pub some : (k : ℕ) → z ≤ k → k < n → 0 < get_or ws k 0
   pub none : (k : ℕ) → n ≤ k → get_or ws k 0 ≡ 0
 
-module _ {ws : List ℕ} {z n : ℕ} where
-  pub seen_start : EndsAt ws z n → Seen ws z z (length ws)
-  seen_start e =
-      record {
-        from = omega arith;
-        order = omega (arith, e.order, e.within);
-        within = omega arith;
-        before = λ k h m. absurd (omega arith);
-        after = λ k h. get_or-eq_default ws 0 {n = k} h;
-      }
+module _ {ws : List ℕ} {z n : ℕ} (e : EndsAt ws z n) where
+  -- past the first z those that are not 0 come first
+  pub ends-parted : IsPartitionedBy (ltb 0) (cut z ws)
+  ends-parted i j d h l m =
+      let some : 0 < get_or (cut z ws) j d = ltb-true 0 (get_or (cut z ws) j d) m in
+      let past : n ≤ z + j → ⊥ = λ q. omega (arith, cut-at z ws j d l, e.none (z + j) q) in
+      lt-ltb 0 (get_or (cut z ws) i d)
+      (omega (arith, cut-at z ws i d (omega arith), e.some (z + i) (omega arith) (omega (arith, past))))
 
-  pub seen-zero : EndsAt ws z n → (lo hi mid : ℕ) → Seen ws z lo hi → lo ≤ mid → mid < hi → get_or ws mid 0 ≡ 0 → Seen ws z lo mid
-  seen-zero e lo hi mid s l m f =
-      let past : mid < n → ⊥ = λ h. omega (arith, e.some mid (omega (arith, s.from)) h) in
-      record {
-        from = s.from;
-        order = l;
-        within = omega (arith, s.within);
-        before = s.before;
-        after = λ k h. e.none k (omega (arith, past));
-      }
-
-  pub seen-some : EndsAt ws z n → (lo hi mid : ℕ) → Seen ws z lo hi → lo ≤ mid → mid < hi → (get_or ws mid 0 ≡ 0 → ⊥) → Seen ws z (mid + 1) hi
-  seen-some e lo hi mid s l m f =
-      let here : n ≤ mid → ⊥ = λ h. f (e.none mid h) in
-      record {
-        from = omega (arith, s.from);
-        order = omega arith;
-        within = s.within;
-        before = λ k h j. e.some k h (omega (arith, here));
-        after = s.after;
-      }
-
-  pub seen_end : EndsAt ws z n → (lo hi : ℕ) → Seen ws z lo hi → hi ≤ lo → lo ≡ n
-  seen_end e lo hi s l =
-      let low : lo < n → ⊥ = λ h. omega (arith, e.some lo s.from h, s.after lo l) in
-      let high : n < lo → ⊥ = λ h. omega (arith, s.before n e.order h, e.none n (omega arith)) in
+  -- and where they end the postings do
+  pub ends-at : (r : ℕ) → r ≤ length (cut z ws)
+      → IsPartitionPoint (λ x. ltb 0 x ≡ true) (λ x. ltb 0 x ≡ false) (cut z ws) r → z + r ≡ n
+  ends-at r l p =
+      let long = cut-long z ws in
+      let low : z + r < n → ⊥ = λ h.
+      let k : r < length (cut z ws) = omega (arith, e.within) in
+      omega (arith, ltb-false 0 (get_or (cut z ws) r 0) (p.1 r 0 (omega arith) k), cut-at z ws r 0 k, e.some (z + r) (omega arith) h) in
+      let high : n < z + r → ⊥ = λ h.
+      let k : n - z < length (cut z ws) = omega arith in
+      let q : z + (n - z) ≡ n = omega (arith, e.order) in
+      omega (
+        arith,
+        ltb-true 0 (get_or (cut z ws) (n - z) 0) (p.0 (n - z) 0 (omega arith) (omega (arith, e.order))),
+        cut-at z ws (n - z) 0 k,
+        e.none (z + (n - z)) (omega arith),
+      ) in
       omega (arith, low, high)

@@ -33,7 +33,8 @@ pub filed-length : (tier : ℕ) (stale : Bool) (rs : List Row) → length (posti
     → length (filed tier stale rs) ≡ posting_words * tier
 filed-length tier true rs l = ap length (filed-none tier rs) ∙ length-pad (posting_words * tier) [] (omega arith)
 filed-length tier false rs l =
-    ap length (filed-all tier rs) ∙ length-pad (posting_words * tier) (sort_of (postings_of rs)) (omega (arith, length-sort (postings_of rs)))
+    ap length (filed-all tier rs)
+    ∙ length-pad (posting_words * tier) (sort_of (postings_of rs)) (omega (arith, length-sort (postings_of rs)))
 
 -- ---- by how the filling of words b ended
 module _ (rs : List Row) (b : List ℕ) (work : Meter) (r : Walk Filled) where
@@ -53,8 +54,8 @@ module _ (rs : List Row) (b : List ℕ) (work : Meter) (r : Walk Filled) where
       → r.state.next ≡ length (postings_of rs)
   filling-count m q e = ap (λ (s : Filled). s.next) (filling-whole m q e)
 
-  pub filling-front : (m : Meter) → r ≡ walk put (postings_of rs) (filled_to 0 b) work → r.end ≡ Ticked m → length (postings_of rs) ≤ length b
-      →
+  pub filling-front : (m : Meter) → r ≡ walk put (postings_of rs) (filled_to 0 b) work → r.end ≡ Ticked m
+      → length (postings_of rs) ≤ length b →
       take r.state.next r.state.words ≡ postings_of rs
   filling-front m q e l =
       ap₂ (λ (k : ℕ) (w : List ℕ). take k w) (filling-count m q e)
@@ -92,7 +93,8 @@ pub ready-stale : (stale : Bool) (n : ℕ) (m : Meter) → stale ≡ true → re
 unfolding ready_ticks
 ready-stale stale n m e = rw (e, ready_ticks)
 
-pub ready-fresh : (tier : ℕ) (stale : Bool) (rs : List Row) (k : ℕ) (ws : List ℕ) (m : Meter) → stale ≡ false → k ≡ length (postings_of rs) →
+pub ready-fresh : (tier : ℕ) (stale : Bool) (rs : List Row) (k : ℕ) (ws : List ℕ) (m : Meter) → stale ≡ false
+    → k ≡ length (postings_of rs) →
     ws ≡ filed tier stale rs → walked (Ticked m) (filled_to k ws) ≡ refiled tier rs (ready_ticks stale (length (postings_of rs)) m)
 unfolding ready_ticks refiled
 ready-fresh tier stale rs k ws m e c f =

@@ -14,13 +14,15 @@ use Rattle.lists.specs.Counts.{Each}
 use Rattle.lists.proofs.Counts.{same_or, each-head, each_tail, each_map}
 use Rattle.lists.proofs.Sorts.{distinct-one, distinct-same, distinct-other}
 use Rattle.words.specs.Literal.{atoms_wide, codes_wide, atom}
+use Rattle.std.specs.Prelude.{Result, Err}
 use Rattle.meter.specs.declared.Meter.{Meter}
+use Rattle.meter.specs.declared.Stopped as meter
 use Rattle.meter.specs.Tick.{Tick, Ticked, Stopped}
 use Rattle.meter.specs.Meter.{tick_of}
 use Rattle.model.specs.Records.{max_rows}
 use Rattle.model.specs.Postings.{posting}
-use Rattle.postings.specs.Steps.{onward, steps, walk}
-use Rattle.postings.specs.Filling.{Filled, put, filled_to, later, side_postings, left_postings}
+use Rattle.postings.specs.Steps.{Walk, onward, steps, walk}
+use Rattle.postings.specs.Filling.{Filled, FilledBy, put, filled_to, later, side_postings, left_postings}
 use Rattle.postings.proofs.Walking.{walk_step}
 
 -- ---- neighbours
@@ -52,15 +54,6 @@ unfolding distinct
 later-all a [] h = later-none a
 later-all a (x ∷ xs) h =
     later-other a x xs (λ e. omega (arith, each-head (λ v. v < a) x xs h)) ∙ sym (distinct-later x xs)
-
-pub later-short : (a : ℕ) (xs : List ℕ) → length (later a xs) ≤ length xs
-later-short a [] = omega (arith, ap length (later-none a))
-later-short a (x ∷ xs) = go (same_or x a) (later-short a xs) (later-short x xs)
-  where
-    go : (x ≡ a) ⊎ (x ≡ a → ⊥) → length (later a xs) ≤ length xs → length (later x xs) ≤ length xs
-        → length (later a (x ∷ xs)) ≤ suc (length xs)
-    go (inl e) h k = omega (arith, ap length (later_same a x xs e))
-    go (inr n) h k = omega (arith, ap length (later-other a x xs n))
 
 -- ---- the postings left of a side
 module _ (p : ℕ) where
@@ -133,3 +126,8 @@ fill-next (x ∷ xs) n ws m = go (tick_of m) (fill-next xs (n + 1) (set ws n x))
         → (onward r (filled_to n ws) (λ t. walk put xs (put x t))).state.next ≤ n + suc (length xs)
     go (Ticked k) h = omega (arith, h k)
     go (Stopped k) h = omega arith
+
+-- ---- how a filling ended
+pub filled-ended : {r : Result ℕ meter.Stopped} {e : meter.Stopped} (w : Walk Filled) (m : Meter) (ws : List ℕ)
+    → r ≡ Err e → Stopped m ≡ w.end → FilledBy r m ws w
+filled-ended w m ws h q = rw h q

@@ -65,7 +65,8 @@ pub ticks-sort : (ps atoms : List ℕ) → search_ticks (sort_of ps) atoms ≡ s
 unfolding search_ticks sum
 ticks-sort ps [] = refl
 ticks-sort ps (a ∷ atoms) =
-    omega (arith, perm-length (posted_at (sort_of ps) a) (posted_at ps a) (posted-perm (sort_of ps) ps a (sort-perm ps)), ticks-sort ps atoms)
+    let same = perm-length (posted_at (sort_of ps) a) (posted_at ps a) (posted-perm (sort_of ps) ps a (sort-perm ps)) in
+    omega (arith, same, ticks-sort ps atoms)
 
 pub positions-sort : (ps atoms : List ℕ) → positions (sort_of ps) atoms ≡ positions ps atoms
 unfolding positions

@@ -6,6 +6,7 @@ pub mod Rows
 pub mod Filing
 pub mod Finding
 pub mod Marking
+pub mod Cuts
 pub mod Ends
 pub mod Answers
 pub mod Standing

@@ -6,6 +6,7 @@ use native.Mathlib.Numerals.{add-one}
 use native.Mathlib.Omega.{arith}
 use lib.ListN.{length}
 use Rattle.meter.specs.declared.Meter.{Meter}
+use Rattle.meter.specs.Tick.{Stopped}
 use Rattle.model.specs.Records.{posting_words}
 use Rattle.model.specs.Slots.{row_in}
 use Rattle.model.specs.Postings.{row_postings, postings_from, postings_of}
@@ -15,7 +16,7 @@ use Rattle.slots.proofs.Storing.{laid-stored}
 use Rattle.slots.proofs.Rows.{rows_from, rows_all, rows_next, rows_none, rows-length, rows_at}
 use Rattle.postings.specs.Steps.{Walk, onward, walk}
 use Rattle.postings.specs.Filling.{Filled, put, filled_to, side_postings, Postable, RowPostable, RowsPostable}
-use Rattle.postings.proofs.Walking.{walk-append}
+use Rattle.postings.proofs.Walking.{walk-append, walk-stopped}
 use Rattle.postings.proofs.Fills.{fill-next}
 use Rattle.postings.proofs.Posting.{RowFit, row-fit, row-sides, row-short, side-short, AllFit}
 
@@ -63,18 +64,28 @@ module _ {ws : List ℕ} {p at n : ℕ} where
         );
       }
 
+  row-parts : RowPostable ws p at n → row_postings p (row_in ws)
+      ≡ side_postings p (list_of ws (condition_side ws)) ++ side_postings p (list_of ws (output_side ws))
+  row-parts f =
+      row-sides f.holds.atoms p (row_in ws) (fit f)
+      ∙ ap₂ (λ (x y : List ℕ). side_postings p x ++ side_postings p y) (sym (row_laid f).conditions) (sym (row_laid f).outputs)
+
   -- the row, by how its conditions ended
   pub row-walk : RowPostable ws p at n → (r : Walk Filled) (b : List ℕ) (m : Meter) →
       r ≡ walk put (side_postings p (list_of ws (condition_side ws))) (filled_to at b) m →
       walk put (row_postings p (row_in ws)) (filled_to at b) m
       ≡ onward r.end r.state (walk put (side_postings p (list_of ws (output_side ws))))
   row-walk f r b m q =
-      let cs = side_postings p (list_of ws (condition_side ws)) in
-      let os = side_postings p (list_of ws (output_side ws)) in
-      let e : row_postings p (row_in ws) ≡ cs ++ os =
-      row-sides f.holds.atoms p (row_in ws) (fit f)
-      ∙ ap₂ (λ (x y : List ℕ). side_postings p x ++ side_postings p y) (sym (row_laid f).conditions) (sym (row_laid f).outputs) in
-      ap (λ (l : List ℕ). walk put l (filled_to at b) m) e ∙ walk-append put cs os (filled_to at b) m q
+      rw (row-parts f) (walk-append put (side_postings p (list_of ws (condition_side ws))) (side_postings p (list_of ws (output_side ws)))
+      (filled_to at b) m q)
+
+  -- stopped in its conditions, the row is stopped
+  pub row-stopped : RowPostable ws p at n → (b : List ℕ) (m k : Meter)
+      → Stopped k ≡ (walk put (side_postings p (list_of ws (condition_side ws))) (filled_to at b) m).end
+      → Stopped k ≡ (walk put (row_postings p (row_in ws)) (filled_to at b) m).end
+  row-stopped f b m k e =
+      rw (row-parts f) (walk-stopped put (side_postings p (list_of ws (condition_side ws))) (side_postings p (list_of ws (output_side ws)))
+      (filled_to at b) m k e)
 
 -- ---- the rows of slots
 pub rows_start : (n : ℕ) (ws : List ℕ) → postings_from 0 (rows_from n ws 0) ≡ postings_of (rows_in n ws)
@@ -131,3 +142,10 @@ pub rows-walk : (rows : ℕ) (ws : List ℕ) (p at : ℕ) (b : List ℕ) (m : Me
 rows-walk rows ws p at b m r l q =
     ap (λ (k : List ℕ). walk put k (filled_to at b) m) (rows-turn rows ws p l)
     ∙ walk-append put (row_postings p (row_in (slot_at ws p))) (postings_from (p + 1) (rows_from rows ws (p + 1))) (filled_to at b) m q
+
+pub rows-stopped : (rows : ℕ) (ws : List ℕ) (p at : ℕ) (b : List ℕ) (m k : Meter) → p < rows
+    → Stopped k ≡ (walk put (row_postings p (row_in (slot_at ws p))) (filled_to at b) m).end
+    → Stopped k ≡ (walk put (postings_from p (rows_from rows ws p)) (filled_to at b) m).end
+rows-stopped rows ws p at b m k l e =
+    rw (rows-turn rows ws p l) (walk-stopped put (row_postings p (row_in (slot_at ws p)))
+    (postings_from (p + 1) (rows_from rows ws (p + 1))) (filled_to at b) m k e)

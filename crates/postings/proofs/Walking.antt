@@ -1,10 +1,13 @@
 -- The laws of a walk: by its first step, in two parts, its ticks, and its steps where nothing stopped it. Assumes nothing.
-use mathlib.Core.Path.{◌≡◌, refl}
+use mathlib.Core.Path.{◌≡◌, refl, sym, ap, ◌∙◌}
 use mathlib.Core.List.{List, [], ◌∷◌, ◌++◌}
 use Prim.Native.Nat.{ℕ}
 use native.Mathlib.Omega.{arith}
 use lib.ListN.{length}
 use Rattle.meter.specs.declared.Meter.{Meter}
+use Rattle.std.specs.Prelude.{Result, Err}
+use Rattle.meter.specs.declared.Stopped as meter
+use Rattle.meter.specs.Results.{tick_end}
 use Rattle.meter.specs.Tick.{Tick, Ticked, Stopped}
 use Rattle.meter.specs.Meter.{tick_of, on_tick, ticks}
 use Rattle.postings.specs.Steps.{Walk, walked, onward, steps, walk}
@@ -33,6 +36,16 @@ module _ {A S : Type 0} (step : A → S → S) where
           ≡ onward (onward r s (λ t. walk step xs (step x t))).end (onward r s (λ t. walk step xs (step x t))).state (walk step ys)
       go (Ticked k) h = h k
       go (Stopped k) h = refl
+
+  -- no step is left
+  pub walk-done : (xs : List A) (s : S) (m : Meter) → xs ≡ [] → walked (Ticked m) s ≡ walk step xs s m
+  walk-done xs s m e = rw (e, walk_none s m) refl
+
+  -- stopped before the last of xs, it is stopped before the last of xs and ys
+  pub walk-stopped : (xs ys : List A) (s : S) (m k : Meter) → Stopped k ≡ (walk step xs s m).end
+      → Stopped k ≡ (walk step (xs ++ ys) s m).end
+  walk-stopped xs ys s m k e =
+      ap (λ (t : Tick). (onward t (walk step xs s m).state (walk step ys)).end) e ∙ ap (λ (w : Walk S). w.end) (sym (walk-both xs ys s m))
 
   -- xs, then ys, by how xs ended
   pub walk-append : (xs ys : List A) (s : S) (m : Meter) {r : Walk S} → r ≡ walk step xs s m →
@@ -65,3 +78,8 @@ module _ {A S : Type 0} (step : A → S → S) where
         where
           never : Stopped n ≡ Ticked k → ⊥
           never f = let z : ◌≡◌ {A = ℕ} 0 1 = cc in omega arith
+
+-- a walk that an error ended
+pub walk-ended : {A S : Type 0} {r : Result A meter.Stopped} {e : meter.Stopped} {w : Walk S} (m : Meter) (s : S)
+    → r ≡ Err e → walked (Stopped m) s ≡ w → walked (tick_end r m) s ≡ w
+walk-ended m s h q = rw h q

@@ -1,15 +1,16 @@
 -- 01, Posting and module 7: 'a stale ledger is rebuilt, one tick a posting'. The steps of a rebuilding, and its end. Assumes nothing.
-use Rattle.std.specs.Prelude.{true, false, List, [], ◌∷◌, map, ℕ, ◌+◌, ◌*◌, ◌≤◌, ◌<◌, eqb, length, set}
+use Rattle.std.specs.Prelude.{true, false, List, [], ◌∷◌, map, ℕ, ◌+◌, ◌*◌, ◌≤◌, ◌<◌, eqb, length, set, ◌≡◌, Result, Ok, Err}
 use Rattle.lists.specs.Lists.{distinct}
 use Rattle.lists.specs.Counts.{Each}
 use Rattle.words.specs.Literal.{code_bits, codes_wide, atom}
+use Rattle.meter.specs.declared.Meter.{Meter}
+use Rattle.meter.specs.declared.Stopped as meter
 use Rattle.meter.specs.Tick.{Tick, Ticked, Stopped}
 use Rattle.model.specs.Records.{Row, max_rows, posting_words}
 use Rattle.model.specs.Postings.{posting, postings_of, filed}
 use Rattle.slots.specs.declared.Side.{Side}
 use Rattle.slots.specs.Cursor.{Sound, list_of}
 use Rattle.slots.specs.Layout.{Holds, Rows}
-use Rattle.postings.specs.declared.filling.Posted.{Posted}
 use Rattle.postings.specs.Steps.{Walk, walked}
 
 -- ---- the postings of one side of the row at a position
@@ -36,8 +37,15 @@ filled_to n ws = record { next = n; words = ws }
 abbrev pub put : ℕ → Filled → Filled
 put x s = record { next = s.next + 1; words = set s.words s.next x }
 
-abbrev pub posted : Posted → List ℕ → Walk Filled
-posted r ws = walked r.end (filled_to r.next ws)
+-- what a filling did, from its result, the meter and the words after it: of one that was stopped, that it was
+abbrev pub FilledBy : Result ℕ meter.Stopped → Meter → List ℕ → Walk Filled → Type 0
+FilledBy (Ok n) m ws w = walked (Ticked m) (filled_to n ws) ≡ w
+FilledBy (Err e) m ws w = Stopped m ≡ w.end
+
+-- the same of a rebuilding, which leaves no posting where it was stopped
+abbrev pub posted : Result ℕ meter.Stopped → Meter → List ℕ → Walk Filled
+posted (Ok n) m ws = walked (Ticked m) (filled_to n ws)
+posted (Err e) m ws = walked (Stopped m) (filled_to 0 ws)
 
 -- how a rebuilding ends: all postings in order, or none
 unfoldable pub refiled : ℕ → List Row → Tick → Walk Filled

@@ -4,5 +4,5 @@
 mod filling;
 mod searching;
 
-pub use filling::{Posted, rebuild_postings};
+pub use filling::rebuild_postings;
 pub use searching::{Searched, candidates};

@@ -4,6 +4,7 @@ ghost use Rattle.lists.specs.Counts.{Sorted};
 ghost use Rattle.lists.specs.Marks.{lower_bound};
 ghost use Rattle.words.specs.Literal.{atom as atom_of};
 ghost use Rattle.meter.specs.Meter.{ticks};
+ghost use Rattle.meter.specs.Results.{tick_end};
 ghost use Rattle.model.specs.Records.{max_rows};
 ghost use Rattle.model.specs.Postings.{postings_of, filed, search_ticks, searched, candidates as candidates_of};
 ghost use Rattle.slots.specs.Cursor.{Sound, list_of};
@@ -14,11 +15,11 @@ ghost use Rattle.postings.specs.Filling.{posted, refiled};
 ghost use Rattle.postings.specs.Searching.{zero_first, look, marks, looks, looks_all, ready_ticks, last_atom, Searchable, search_end};
 ghost use Rattle.postings.specs.Searching.{found_end, ledger_of};
 
-use crate::filling::{Posted, rebuild_postings};
+use crate::filling::rebuild_postings;
 use lists::{fill_zero, gather, partition_point, up_to};
-use meter::{Meter, Tick};
+use meter::{Meter, Stopped};
 use model::{CandidatesAnswer, Header, MAX_ROWS, SLOT_WORDS};
-use slots::{Side, Step};
+use slots::Side;
 use words::MAX_WORD;
 
 // Up to so many rows every search is a full scan.
@@ -45,8 +46,8 @@ fn zero_first(slot: &[u64], side: Side) -> usize
 {
     let first = slots::start();
     match slots::next(slot, side, first) {
-        Step::Literal(code, _) => { if code / 2 == 0 { 1 } else { 0 } }
-        Step::End => 0,
+        Some((code, _)) => { if code / 2 == 0 { 1 } else { 0 } }
+        None => 0,
     }
 }
 
@@ -61,75 +62,62 @@ fn count_postings(header: Header, slots: &[u64], postings: &[u64]) -> usize
     let row = &slots[0..SLOT_WORDS];
     let conditions = zero_first(row, slots::conditions(row));
     let outputs = zero_first(row, slots::outputs(row));
-    let mut lo = conditions + outputs;
-    let mut hi = postings.len();
-    while lo < hi {
-        let mid = lo + (hi - lo) / 2;
-        if postings[mid] == 0 {
-            hi = mid;
-        } else {
-            lo = mid + 1;
-        }
-    }
-    lo
+    let zeros = conditions + outputs;
+    zeros + postings[zeros..].partition_point(|posting| 0 < *posting)
 }
 
-// The postings of a ledger, rebuilt if it is stale; their number is next.
-fn ready_postings(header: Header, slots: &[u64], postings: &mut [u64], work: Meter) -> Posted
+// The postings of a ledger, rebuilt if it is stale; their number.
+fn ready_postings(
+    header: Header,
+    slots: &[u64],
+    postings: &mut [u64],
+    meter: &mut Meter,
+) -> Result<usize, Stopped>
     requires fact_1 { Stands header slots.now postings.old }
     requires fact_2 { 0 < header.rows }
-    ensures { posted result postings.new
+    ensures { posted result meter.new postings.new
         ≡ refiled header.limits.tier_rows (rows_in header.rows slots.now)
-        (ready_ticks header.stale (length (postings_of (rows_in header.rows slots.now))) work) }
+        (ready_ticks header.stale (length (postings_of (rows_in header.rows slots.now))) meter.old) }
 {
     if header.stale {
-        return rebuild_postings(header, slots, postings, work);
+        return rebuild_postings(header, slots, postings, meter);
     }
-    Posted {
-        end: Tick::Ticked(work),
-        next: count_postings(header, slots, postings),
-    }
+    Ok(count_postings(header, slots, postings))
 }
 
 // Marks the position of each posting of an atom, one tick before each, from the first posting that is not below the atom's.
-fn mark_from(postings: &[u64], from: usize, atom: u64, answer: &mut [u64], work: Meter) -> Tick
+fn mark_from(
+    postings: &[u64],
+    from: usize,
+    atom: u64,
+    answer: &mut [u64],
+    meter: &mut Meter,
+) -> Result<(), Stopped>
     requires fact_1 { Searchable (length answer.old) postings.now }
     requires fact_2 { from ≡ lower_bound (atom * max_rows) postings.now }
-    ensures { walked result answer.new ≡ walk look (marks postings.now atom) answer.old work }
+    ensures { walked (tick_end result meter.new) answer.new ≡ walk look (marks postings.now atom) answer.old meter.old }
 {
-    let mut i = from;
-    let mut meter = work;
-    while i < postings.len() {
-        let posting = postings[i];
-        if posting / MAX_ROWS != atom {
-            return Tick::Ticked(meter);
+    for posting in &postings[from..] {
+        if *posting / MAX_ROWS != atom {
+            return Ok(());
         }
-        match meter.tick() {
-            Tick::Ticked(m) => meter = m,
-            Tick::Stopped(m) => return Tick::Stopped(m),
-        }
-        let position = (posting % MAX_ROWS) as usize;
+        meter.tick()?;
+        let position = (*posting % MAX_ROWS) as usize;
         answer[position] = 1;
-        i += 1;
     }
-    Tick::Ticked(meter)
+    Ok(())
 }
 
 // From a place on, past at most so many words that are below a bound.
 fn skip_near(postings: &[u64], near: usize, bound: u64) -> usize {
-    let mut at = near;
-    let mut left = NEAR;
-    while 0 < left {
-        if postings.len() <= at {
-            return at;
-        }
-        if bound <= postings[at] {
-            return at;
-        }
-        at += 1;
-        left -= 1;
-    }
-    at
+    let Some(rest) = postings.get(near..) else {
+        return near;
+    };
+    near + rest
+        .iter()
+        .take(NEAR)
+        .take_while(|posting| **posting < bound)
+        .count()
 }
 
 // Whether the last word before a place is below a bound.
@@ -178,40 +166,41 @@ fn place_from(postings: &[u64], near: usize, atom: u64) -> usize
 }
 
 // One tick for an atom, whatever number it is; then its postings are marked.
-fn mark_atom(postings: &[u64], from: usize, atom: u64, answer: &mut [u64], work: Meter) -> Tick
+fn mark_atom(
+    postings: &[u64],
+    from: usize,
+    atom: u64,
+    answer: &mut [u64],
+    meter: &mut Meter,
+) -> Result<(), Stopped>
     requires fact_1 { Searchable (length answer.old) postings.now }
     requires fact_2 { (atom ≤ last_atom → from ≡ lower_bound (atom * max_rows) postings.now) }
-    ensures { walked result answer.new ≡ walk look (looks postings.now atom) answer.old work }
+    ensures { walked (tick_end result meter.new) answer.new ≡ walk look (looks postings.now atom) answer.old meter.old }
 {
-    match work.tick() {
-        Tick::Ticked(m) => {
-            if LAST_ATOM < atom {
-                return Tick::Ticked(m);
-            }
-            mark_from(postings, from, atom, answer, m)
-        }
-        Tick::Stopped(m) => Tick::Stopped(m),
+    meter.tick()?; // that of the atom
+    if LAST_ATOM < atom {
+        return Ok(());
     }
+    mark_from(postings, from, atom, answer, meter)
 }
 
 // The same for every atom given, in turn.
-fn mark_atoms(postings: &[u64], atoms: &[u64], answer: &mut [u64], work: Meter) -> Tick
+fn mark_atoms(
+    postings: &[u64],
+    atoms: &[u64],
+    answer: &mut [u64],
+    meter: &mut Meter,
+) -> Result<(), Stopped>
     requires { Searchable (length answer.old) postings.now }
-    ensures { walked result answer.new
-        ≡ walk look (looks_all postings.now atoms.now) answer.old work }
+    ensures { walked (tick_end result meter.new) answer.new
+        ≡ walk look (looks_all postings.now atoms.now) answer.old meter.old }
 {
-    let mut meter = work;
     let mut near: usize = 0;
-    let mut i: usize = 0;
-    while i < atoms.len() {
-        near = place_from(postings, near, atoms[i]);
-        match mark_atom(postings, near, atoms[i], answer, meter) {
-            Tick::Ticked(m) => meter = m,
-            Tick::Stopped(m) => return Tick::Stopped(m),
-        }
-        i += 1;
+    for atom in atoms {
+        near = place_from(postings, near, *atom);
+        mark_atom(postings, near, *atom, answer, meter)?;
     }
-    Tick::Ticked(meter)
+    Ok(())
 }
 
 // The positions posted under the atoms given, ascending and distinct, then zeros. One tick an atom and one a posting found: where the
@@ -230,22 +219,23 @@ fn search(
         (ticks (search_ticks postings.now atoms.now) work))
         (length answer.old) }
 {
+    let mut meter = work;
     fill_zero(answer);
-    match mark_atoms(postings, atoms, answer, work) {
-        Tick::Ticked(m) => {
+    match mark_atoms(postings, atoms, answer, &mut meter) {
+        Ok(()) => {
             let count = gather(answer);
             Searched {
                 answer: CandidatesAnswer::Count(count as u64),
-                header: header,
-                meter: m,
+                header,
+                meter,
             }
         }
-        Tick::Stopped(m) => {
+        Err(_) => {
             fill_zero(answer);
             Searched {
                 answer: CandidatesAnswer::Stopped,
-                header: header,
-                meter: m,
+                header,
+                meter,
             }
         }
     }
@@ -280,11 +270,9 @@ pub fn candidates(
             meter: work,
         };
     }
-    let ready = ready_postings(header, slots, postings, work);
-    let end = ready.end;
-    let count = ready.next;
-    match end {
-        Tick::Ticked(m) => search(
+    let mut meter = work;
+    match ready_postings(header, slots, postings, &mut meter) {
+        Ok(count) => search(
             Header {
                 stale: false,
                 ..header
@@ -292,14 +280,14 @@ pub fn candidates(
             &postings[0..count],
             atoms,
             answer,
-            m,
+            meter,
         ),
-        Tick::Stopped(m) => {
+        Err(_) => {
             fill_zero(answer);
             Searched {
                 answer: CandidatesAnswer::Stopped,
-                header: header,
-                meter: m,
+                header,
+                meter,
             }
         }
     }

@@ -14,8 +14,6 @@ use Rattle.words.specs.Region.{has, next_from}
 use Rattle.model.specs.declared.LearningLimits.{LearningLimits}
 use Rattle.model.specs.Records.{Entry, founded_rows}
 use Rattle.model.specs.Retention.{Examined, any_replaced, place_of, protects, victim_among, victim}
-use Rattle.model.proofs.Entries.{victim-held}
-use Rattle.tier.specs.Tier.{at_or}
 use Rattle.retain_compare.specs.Passes.{examined_by}
 use Rattle.retain.specs.declared.Room.{Room}
 use Rattle.retain.specs.declared.Room.TheVariants.{After, First, Victim, Protected}
@@ -52,7 +50,8 @@ module _ (ws : List ℕ) (es : List Entry) where
   unfolding next_from
   next-is rows e =
       let n : rows - 0 ≡ length es = omega arith in
-      ap (λ (k : ℕ). first (select (has ws) (range 0 k))) n ∙ next-from (has ws) 0 es ∙ ap (sought (any_replaced ks)) (zero-add (place_of ks))
+      ap (λ (k : ℕ). first (select (has ws) (range 0 k))) n ∙ next-from (has ws) 0 es
+      ∙ ap (sought (any_replaced ks)) (zero-add (place_of ks))
 
   next-some : (rows t : ℕ) → length es ≡ rows → some t ≡ next_from rows ws 0 → (any_replaced ks ≡ true) × (t ≡ place_of ks)
   next-some rows t e q = go (any_replaced ks) (q ∙ next-is rows e)
@@ -92,26 +91,10 @@ module _ (ws : List ℕ) (es : List Entry) where
       pub room_after : rows < l.tier_rows → After ≡ room_of l es ks
       room_after h = tested (next-none rows e q) (lt-ltb (length es) l.tier_rows (omega arith)) refl
 
-      -- the tier is full, and `at` is what was found
-      module _ (h : l.tier_rows ≤ rows) (founded at : ℕ) (c : founded ≡ founded_rows es)
-          (w : at ≡ at_or rows (victim_among (leb founded l.founded_floor) es)) where
-        found : at ≡ at_or rows (victim l es)
-        unfolding victim protects
-        found = w ∙ ap (λ (n : ℕ). at_or rows (victim_among (leb n l.founded_floor) es)) c
-
-        by-victim : (x : Option ℕ) → victim l es ≡ x → tests false false x ≡ room_of l es ks
-        by-victim x s = tested (next-none rows e q) (le-ltb (length es) l.tier_rows (omega arith)) s
-
-        pub room-protected : at ≡ rows → Protected ≡ room_of l es ks
-        room-protected k = go (victim l es) refl
-          where
-            go : (x : Option ℕ) → victim l es ≡ x → Protected ≡ room_of l es ks
-            go none s = by-victim none s
-            go (some v) s = let m = victim-held l es v s in let n = found ∙ ap (at_or rows) s in absurd (omega arith)
-
-        pub room-victim : (at ≡ rows → ⊥) → Victim at ≡ room_of l es ks
-        room-victim k = go (victim l es) refl
-          where
-            go : (x : Option ℕ) → victim l es ≡ x → Victim at ≡ room_of l es ks
-            go none s = absurd (k (found ∙ ap (at_or rows) s))
-            go (some v) s = ap Victim (found ∙ ap (at_or rows) s) ∙ by-victim (some v) s
+      -- the tier is full: the victim, if there is one
+      pub room-full : l.tier_rows ≤ rows → (founded : ℕ) → founded ≡ founded_rows es
+          → (x : Option ℕ) → x ≡ victim_among (leb founded l.founded_floor) es → tests false false x ≡ room_of l es ks
+      unfolding victim protects
+      room-full h founded c x w =
+          tested (next-none rows e q) (le-ltb (length es) l.tier_rows (omega arith))
+          (sym (w ∙ ap (λ (n : ℕ). victim_among (leb n l.founded_floor) es) c))

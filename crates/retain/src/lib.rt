@@ -59,10 +59,10 @@ fn find_room(
                 return Room::After;
             }
             let victim = tier::victim(slots, rows, founded <= limits.founded_floor);
-            if victim == rows {
-                return Room::Protected;
+            match victim {
+                Some(at) => Room::Victim(at),
+                None => Room::Protected,
             }
-            Room::Victim(victim)
         }
     }
 }

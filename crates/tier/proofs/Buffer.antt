@@ -5,7 +5,8 @@ use mathlib.Core.List.{List, [], ◌∷◌, ◌++◌, map}
 use Prim.Native.Nat.{ℕ, zero, suc, ◌+◌, ◌-◌, ◌*◌, ◌≤◌, ◌<◌}
 use native.Mathlib.Omega.{arith}
 use lib.ListN.{length, get_or, set, length-set, take, drop, replicate, length-take, length-drop, take-append-drop}
-use lib.Seq.{length-take-le, drop-drop, set-append_left, get_or-drop, get_or-take}
+use lib.Seq.{drop-drop, set-append_left, get_or-drop, get_or-take}
+use Rattle.std.proofs.lemmas.List.{take-set-le, drop-set-add}
 use Rattle.lists.specs.Lists.{all, concat, pad, adjust}
 use Rattle.lists.proofs.Selects.{adjust-set, length-adjust}
 use Rattle.lists.proofs.Concats.{block-put}
@@ -47,13 +48,15 @@ valid-set (suc p) (x ∷ es) e v w = (v.0, valid-set p es e v.1 w)
 
 -- a slot written anew
 pub put-slot : (tier p : ℕ) (es : List Entry) (e : Entry) → AllValid es → Valid e.row → p < length es
-    → take (slot_words * p) (slots_of tier es) ++ (slot_of e ++ drop (slot_words * p + slot_words) (slots_of tier es)) ≡ slots_of tier (set es p e)
+    → take (slot_words * p) (slots_of tier es) ++ (slot_of e ++ drop (slot_words * p + slot_words) (slots_of tier es))
+    ≡ slots_of tier (set es p e)
 unfolding slots_of pad
 put-slot tier p es e v w h =
     let zs : List ℕ = replicate (slot_words * tier - length (laid es)) 0 in
     let same : length (laid es) ≡ length (laid (set es p e)) =
     laid-length es v ∙ ap (λ (n : ℕ). slot_words * n) (sym (length-set es p e)) ∙ sym (laid-length (set es p e) (valid-set p es e v w)) in
-    ap (λ (l : List ℕ). take (slot_words * p) (laid es ++ zs) ++ (slot_of e ++ l)) (sym (drop-drop slot_words (slot_words * p) (laid es ++ zs)))
+    ap (λ (l : List ℕ). take (slot_words * p) (laid es ++ zs) ++ (slot_of e ++ l))
+    (sym (drop-drop slot_words (slot_words * p) (laid es ++ zs)))
     ∙ block-put slot_of slot_words es p e zs (valid-blocks es v) h
     ∙ ap (λ (n : ℕ). laid (set es p e) ++ replicate (slot_words * tier - n) 0) same
 
@@ -61,27 +64,20 @@ put-slot tier p es e v w h =
 pub set-part : (ws : List ℕ) (a k v : ℕ) → k < slot_words → a + slot_words ≤ length ws
     → set ws (a + k) v ≡ take a ws ++ (set (take slot_words (drop a ws)) k v ++ drop (a + slot_words) ws)
 set-part ws a k v h f =
-    ap (λ (l : List ℕ). set l (a + k) v) (sym (take-append-drop a ws))
-    ∙ set-later (take a ws) (drop a ws) a k v (length-take-le a ws (omega arith))
-    ∙ ap (λ (l : List ℕ). take a ws ++ l)
-    (ap (λ (l : List ℕ). set l k v) (sym (take-append-drop slot_words (drop a ws)))
-    ∙ set-append_left (take slot_words (drop a ws)) (drop slot_words (drop a ws)) k v
+    let slot : List ℕ = take slot_words (drop a ws) in
+    sym (take-append-drop a (set ws (a + k) v))
+    ∙ ap₂ (λ (x y : List ℕ). x ++ y) (take-set-le a ws (a + k) v (omega arith)) (drop-set-add a ws k v
+    ∙ ap (λ (l : List ℕ). set l k v) (sym (take-append-drop slot_words (drop a ws)))
+    ∙ set-append_left slot (drop slot_words (drop a ws)) k v
     (let m = length-take slot_words (drop a ws) in let n = length-drop a ws in omega arith)
-    ∙ ap (λ (l : List ℕ). set (take slot_words (drop a ws)) k v ++ l) (drop-drop slot_words a ws))
-  where
-    set-later : (xs ys : List ℕ) (n k a : ℕ) → length xs ≡ n → set (xs ++ ys) (n + k) a ≡ xs ++ set ys k a
-    set-later [] ys n k a e = let q : n + k ≡ k = omega (arith, e) in ap (λ (j : ℕ). set ys j a) q
-    set-later (x ∷ xs) ys zero k a e = absurd (omega (arith, e))
-    set-later (x ∷ xs) ys (suc n) k a e =
-        let l : length xs ≡ n = omega arith in
-        let q : suc n + k ≡ suc (n + k) = omega arith in
-        ap (λ (j : ℕ). set (x ∷ (xs ++ ys)) j a) q ∙ ap (λ (l : List ℕ). x ∷ l) (set-later xs ys n k a l)
+    ∙ ap (λ (l : List ℕ). set slot k v ++ l) (drop-drop slot_words a ws))
 
 -- one word of a slot
 pub word_of : (tier p k : ℕ) (es : List Entry) (d : Entry) → AllValid es → p < length es → k < slot_words
     → get_or (slots_of tier es) (slot_words * p + k) 0 ≡ get_or (slot_of (get_or es p d)) k 0
 word_of tier p k es d v h l =
-    sym (get_or-drop (slot_words * p) (slots_of tier es) k 0) ∙ sym (get_or-take slot_words (drop (slot_words * p) (slots_of tier es)) k 0 l)
+    sym (get_or-drop (slot_words * p) (slots_of tier es) k 0)
+    ∙ sym (get_or-take slot_words (drop (slot_words * p) (slots_of tier es)) k 0 l)
     ∙ ap (λ (w : List ℕ). get_or w k 0) (slot-at tier p es d v h)
 
 pub set_word : (tier p k v : ℕ) (es : List Entry) (d e : Entry) → AllValid es → Valid e.row → p < length es → length es ≤ tier
@@ -100,12 +96,6 @@ unfolding adjust
 adjust-adjust f g p [] = refl
 adjust-adjust f g zero (e ∷ es) = refl
 adjust-adjust f g (suc p) (e ∷ es) = ap (λ (l : List Entry). e ∷ l) (adjust-adjust f g p es)
-
-get-adjust : (f : Entry → Entry) (p : ℕ) (es : List Entry) (d : Entry) → p < length es → get_or (adjust f p es) p d ≡ f (get_or es p d)
-unfolding adjust
-get-adjust f p [] d h = absurd (omega arith)
-get-adjust f zero (e ∷ es) d h = refl
-get-adjust f (suc p) (e ∷ es) d h = get-adjust f p es d (omega arith)
 
 pub valid-adjust : (f : Entry → Entry) (p : ℕ) (es : List Entry) → ((e : Entry) → (f e).row ≡ e.row) → AllValid es
     → AllValid (adjust f p es)
@@ -214,8 +204,8 @@ module _ {atoms : ℕ} (rows p : ℕ) (ws : List ℕ) (k : Held atoms rows ws) (
       let y : ℕ = saturating_add (get_or held p no-entry).unshared 1 in
       let es = adjust (λ e. with_hits e x) p held in
       let n : length es ≡ length held = length-adjust (λ e. with_hits e x) p held in
-      ap₂ (λ (a b : ℕ). set (set ws (slot_words * p + hits_at) (saturating_add a 1)) (slot_words * p + unshared_at) (saturating_add b 1)) hits_at_lem
-      unshared-at
+      ap₂ (λ (a b : ℕ). set (set ws (slot_words * p + hits_at) (saturating_add a 1)) (slot_words * p + unshared_at) (saturating_add b 1))
+      hits_at_lem unshared-at
       ∙ ap (λ (w : List ℕ). set (set w (slot_words * p + hits_at) x) (slot_words * p + unshared_at) y) (sym k.same)
       ∙ ap (λ (w : List ℕ). set w (slot_words * p + unshared_at) y) (hits-set (tier_of ws) p held f.valid at f.room x)
       ∙ unshared-set (tier_of ws) p es (valid-adjust (λ e. with_hits e x) p held (λ e. refl) f.valid) (subst (λ (m : ℕ). p < m) (sym n) at)

@@ -20,18 +20,6 @@ use Rattle.slots.proofs.Holding.{held-few, holding}
 use Rattle.tier.specs.Tier.{kept_by, moved, kept_words, kept_place, closed_up, moved_down}
 use Rattle.tier.proofs.Buffer.{laid, laid_nil, laid_cons, valid-take, valid-drop}
 
-moved_length : (from to : ℕ) (ws : List ℕ) → to ≤ from → slot_words * from + slot_words ≤ length ws → length (moved from to ws) ≡ length ws
-unfolding moved
-moved_length from to ws l h =
-    let a = length-append (take (slot_words * to) ws)
-    (take slot_words (drop (slot_words * from) ws) ++ drop (slot_words * to + slot_words) ws) in
-    let b = length-append (take slot_words (drop (slot_words * from) ws)) (drop (slot_words * to + slot_words) ws) in
-    let c = length-take-le (slot_words * to) ws (omega arith) in
-    let d = length-drop (slot_words * from) ws in
-    let e = length-take-le slot_words (drop (slot_words * from) ws) (omega arith) in
-    let f = length-drop (slot_words * to + slot_words) ws in
-    omega arith
-
 -- the places from `to` up to `rows` zeroed
 abbrev pub cleared : ℕ → List ℕ × ℕ → List ℕ
 cleared rows r = take (slot_words * r.1) r.0 ++ (replicate (slot_words * rows - slot_words * r.1) 0 ++ drop (slot_words * rows) r.0)
@@ -167,18 +155,6 @@ module _ (f : ℕ → Bool) (tier rows : ℕ) where
       go false p q = q
 
 -- ---- one slot, kept or not
-pub kept-marked : (b : Bool) (from to : ℕ) (ws : List ℕ) → b ≡ true → (ws ≡ kept_words b from to ws) × (to ≡ kept_place b to)
-kept-marked b from to ws e = rw e (refl, refl)
-
-pub kept-moved : (b : Bool) (from to : ℕ) (ws now : List ℕ) → b ≡ false → now ≡ moved from to ws
-    → (now ≡ kept_words b from to ws) × (to + 1 ≡ kept_place b to)
-kept-moved b from to ws now e m = rw e (m, refl)
-
-pub kept-length : (b : Bool) (from to : ℕ) (ws : List ℕ) → to ≤ from → slot_words * from + slot_words ≤ length ws
-    → length (kept_words b from to ws) ≡ length ws
-kept-length true from to ws l h = refl
-kept-length false from to ws l h = moved_length from to ws l h
-
 pub kept-place : (b : Bool) (to from : ℕ) → to ≤ from → kept_place b to ≤ from + 1
 kept-place true to from l = omega arith
 kept-place false to from l = omega arith
@@ -232,42 +208,34 @@ close-held {atoms} f rows first ws k l =
         ∙ ap₂ (λ (x : List ℕ) (m : ℕ). x ++ replicate m 0) (ap laid (sym e) ∙ concat-map-append slot_of done rest) q
         ∙ append_assoc (laid done) (laid rest) (replicate z 0)
 
--- what the loop keeps: bounds, and that what is left to do from here ends as from the start
-abbrev pub Down : (ℕ → Bool) → ℕ → ℕ → List ℕ → List ℕ → ℕ → ℕ → Type 0
-Down f rows first old ws to i =
-    (to ≤ i) × (i ≤ rows) × (slot_words * rows ≤ length ws) × (length ws ≡ length old)
-    × (moved_down f (rows - i) i to ws ≡ moved_down f (rows - (first + 1)) (first + 1) (first + 1) old)
+-- what the loop keeps: what is left to do from here ends as from the start
+pub record Down (f : ℕ → Bool) (rows first : ℕ) (old ws : List ℕ) (to i : ℕ) : Type 0 where
+  pub behind : to ≤ i
+  pub ends : moved_down f (rows - i) i to ws ≡ moved_down f (rows - (first + 1)) (first + 1) (first + 1) old
 
 pub down_turn : (f : ℕ → Bool) (rows first : ℕ) (old ws : List ℕ) (to i : ℕ) (now : List ℕ) (r : ℕ) → Down f rows first old ws to i
-    → i < rows
-    → (now ≡ kept_words (f i) i to ws) × (r ≡ kept_place (f i) to) → Down f rows first old now r (i + 1)
+    → i < rows → (now ≡ kept_words (f i) i to ws) × (r ≡ kept_place (f i) to) → Down f rows first old now r (i + 1)
 down_turn f rows first old ws to i now r d l e =
-    let n : length now ≡ length ws = ap length e.0 ∙ kept-length (f i) i to ws d.0 (let h = d.2 in omega arith) in
     let q : (rows - (i + 1)) + 1 ≡ rows - i = omega arith in
-    let p = kept-place (f i) to i d.0 in
-    let h = d.2 in
-    let m = d.3 in (
-      rw e.1 p,
-      omega arith,
-      omega arith,
-      omega arith,
-      ap₂ (λ (x : ℕ) (y : List ℕ). moved_down f (rows - (i + 1)) (i + 1) x y) e.1 e.0
-          ∙ down_step f (rows - (i + 1)) i to ws ∙ ap (λ (x : ℕ). moved_down f x i to ws) q ∙ d.4,
-    )
+    record {
+      behind = rw e.1 (kept-place (f i) to i d.behind);
+      ends = ap₂ (λ (x : ℕ) (y : List ℕ). moved_down f (rows - (i + 1)) (i + 1) x y) e.1 e.0
+          ∙ down_step f (rows - (i + 1)) i to ws ∙ ap (λ (x : ℕ). moved_down f x i to ws) q ∙ d.ends;
+    }
 
 pub down-end : {atoms : ℕ} (f : ℕ → Bool) (rows first : ℕ) (old ws : List ℕ) (to i : ℕ) (z : List ℕ) → Held atoms rows old → first < rows
-    → Down f rows first old ws to i → rows ≤ i
+    → length ws ≡ length old → Down f rows first old ws to i → i ≡ rows
     → z ≡ zeroed (mid_of (slot_words * to) (slot_words * rows - slot_words * to) ws)
-    → (put_mid (slot_words * to) (slot_words * rows - slot_words * to) ws z ≡ slots_of (tier_of old) (closed_up f first (entries_in rows old)))
+    → (put_mid (slot_words * to) (slot_words * rows - slot_words * to) ws z
+    ≡ slots_of (tier_of old) (closed_up f first (entries_in rows old)))
     × (to ≡ length (closed_up f first (entries_in rows old)))
 unfolding zeroed
-down-end {atoms} f rows first old ws to i z k l d h e =
-    let t = d.0 in
-    let u = d.1 in
-    let m = d.2 in
-    let n : rows - i ≡ 0 = omega arith in
+down-end {atoms} f rows first old ws to i z k l n d h e =
+    let t = d.behind in
+    let m = k.over.long in
+    let s : rows - i ≡ 0 = omega arith in
     let r : moved_down f (rows - (first + 1)) (first + 1) (first + 1) old
-    ≡ (ws, to) = sym d.4 ∙ ap (λ (x : ℕ). moved_down f x i to ws) n ∙ down-none f i to ws in
+    ≡ (ws, to) = sym d.ends ∙ ap (λ (x : ℕ). moved_down f x i to ws) s ∙ down-none f i to ws in
     let c = close-held f rows first old k l in
     let len : length (mid_of (slot_words * to) (slot_words * rows - slot_words * to) ws)
     ≡ slot_words * rows - slot_words * to = mid_len (slot_words * to) (slot_words * rows) ws (omega arith) in (

@@ -10,7 +10,6 @@ use Rattle.model.specs.Records.{Entry, with_hits, slot_words, hits_at}
 use Rattle.model.specs.Slots.{slots_of, entries_in}
 use Rattle.model.specs.Retention.{halved}
 use Rattle.model.proofs.Slots.{AllValid, entries-length}
-use Rattle.model.proofs.Accepting.{slots_length}
 use Rattle.slots.specs.Layout.{tier_of, Held}
 use Rattle.slots.proofs.Holding.{no-entry, holding}
 use Rattle.tier.proofs.Buffer.{word-hits, hits-set}
@@ -55,13 +54,6 @@ module _ {atoms : ℕ} (rows : ℕ) (ws : List ℕ) (k : Held atoms rows ws) whe
   pub halve-start : ws ≡ slots_of (tier_of ws) (halved_to 0 (entries_in rows ws))
   unfolding halved_to
   halve-start = sym k.same
-
-  pub halve-length : (i : ℕ) → length (slots_of (tier_of ws) (halved_to i (entries_in rows ws))) ≡ length ws
-  halve-length i =
-      let f = holding rows ws k in
-      slots_length (tier_of ws) (halved_to i (entries_in rows ws)) (half-valid i (entries_in rows ws) f.valid)
-      (subst (λ (n : ℕ). n ≤ tier_of ws) (sym (half_length i (entries_in rows ws))) f.room)
-      ∙ sym f.long
 
   pub halve-step : (i : ℕ) (now : List ℕ) → i < rows → now ≡ slots_of (tier_of ws) (halved_to i (entries_in rows ws))
       → set now (slot_words * i + hits_at) (get_or now (slot_words * i + hits_at) 0 / 2)

@@ -1,6 +1,7 @@
 -- The slots of a tier as one buffer, and its changes word by word. Assumes nothing.
-use Rattle.std.specs.Prelude.{Bool, true, false, ◌&&◌, ◌||◌, not, List, [], ◌∷◌, ◌++◌, ℕ, zero, suc, ◌+◌, ◌*◌, eqb, ltb, get_or, set, take, drop}
-use Rattle.std.proofs.Math.Option.{Option, none, some}
+use Rattle.std.specs.Prelude.{Bool, true, false, ◌&&◌, ◌||◌, not, List, [], ◌∷◌, ◌++◌, ℕ, zero, suc, ◌+◌, ◌*◌}
+use Rattle.std.specs.Prelude.{eqb, ltb, get_or, set, take, drop, Option, Some, None}
+use Rattle.std.proofs.Math.Option as maybe
 use Rattle.meter.specs.Meter.{pick}
 use Rattle.model.specs.Records.{Entry, slot_words, saturating_add, hits_at, unshared_at, born_at, delivered_at, source_at}
 
@@ -67,11 +68,16 @@ lesser_of ws at i =
 unfoldable pub may_go : List ℕ → ℕ → Bool → Bool
 may_go ws p guarded = not guarded || eqb (get_or ws (word_at p source_at) 0) 1
 
--- of the least so far, n while there is none, and position i, if its row may be evicted
-unfoldable pub least_by : List ℕ → ℕ → ℕ → ℕ → Bool → ℕ
-least_by ws n at i guarded = pick (may_go ws i guarded) (pick (eqb at n) i (lesser_of ws at i)) at
+-- the lesser of the least so far, if there is one, and position i
+abbrev pub lesser_after : List ℕ → Option ℕ → ℕ → ℕ
+lesser_after ws None i = i
+lesser_after ws (Some at) i = lesser_of ws at i
 
--- a position, or n for none
-abbrev pub at_or : ℕ → Option ℕ → ℕ
-at_or n none = n
-at_or n (some p) = p
+-- of the least so far and position i, if its row may be evicted
+unfoldable pub least_by : List ℕ → Option ℕ → ℕ → Bool → Option ℕ
+least_by ws least i guarded = pick (may_go ws i guarded) (Some (lesser_after ws least i)) least
+
+-- the code's answer to `victim_among`
+abbrev pub victim_at : Option ℕ → maybe.Option ℕ
+victim_at None = maybe.none
+victim_at (Some at) = maybe.some at

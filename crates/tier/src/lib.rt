@@ -1,20 +1,21 @@
 // The slots of a tier as one buffer: the numbers of a row changed in place, the victim, hits halved, places closed up.
 #![tactic(auto)]
 
-ghost use Rattle.std.specs.Prelude.{◌≡◌, ◌++◌, ◌+◌, ◌-◌, ◌*◌, ◌<◌, ◌≤◌, length, take, drop, replicate};
+ghost use Rattle.std.specs.Prelude.{◌≡◌, ◌++◌, ◌+◌, ◌-◌, ◌*◌, ◌<◌, ◌≤◌, length, take, drop, replicate, IfSome};
 ghost use Rattle.words.specs.Region.{has, max_atoms};
 ghost use Rattle.model.specs.Records.{slot_words, founded_rows};
 ghost use Rattle.model.specs.Slots.{slots_of, entries_in};
 ghost use Rattle.model.specs.Retention.{victim_among, halved};
 ghost use Rattle.slots.specs.Layout.{tier_of, Held};
-ghost use Rattle.tier.specs.Tier.{hit_words, hits_added, marked_delivered, shared_out, lesser_of, may_go, least_by, at_or, moved, kept_words};
-ghost use Rattle.tier.specs.Tier.{kept_place, closed_up};
+ghost use Rattle.tier.specs.Tier.{hit_words, hits_added, marked_delivered, shared_out, lesser_of, may_go, least_by, victim_at};
+ghost use Rattle.tier.specs.Tier.{moved, kept_words, kept_place, closed_up};
 
 use lists::fill_zero;
 use model::{BORN_AT, DELIVERED_AT, HITS_AT, SLOT_WORDS, SOURCE_AT, UNSHARED_AT, saturating_add};
 use words::contains;
 
 // One hit more for the row at `position`, shared with nobody yet.
+#[tactic(auto, unfolding(crate::specs::Tier::hit_words))]
 pub fn hit(slots: &mut [u64], position: usize)
     requires { slot_words * position + slot_words ≤ length slots.old }
     ensures { slots.new ≡ hit_words position slots.old }
@@ -27,6 +28,7 @@ pub fn hit(slots: &mut [u64], position: usize)
 }
 
 // `hits` hits more for the row at `position`.
+#[tactic(auto, unfolding(crate::specs::Tier::hits_added))]
 pub fn add_hits(slots: &mut [u64], position: usize, hits: u64)
     requires { slot_words * position + slot_words ≤ length slots.old }
     ensures { slots.new ≡ hits_added position hits slots.old }
@@ -36,6 +38,7 @@ pub fn add_hits(slots: &mut [u64], position: usize, hits: u64)
 }
 
 // The row at `position` came from a store: it has nothing to deliver.
+#[tactic(auto, unfolding(crate::specs::Tier::marked_delivered))]
 pub fn mark_delivered(slots: &mut [u64], position: usize)
     requires { slot_words * position + slot_words ≤ length slots.old }
     ensures { slots.new ≡ marked_delivered position slots.old }
@@ -45,6 +48,7 @@ pub fn mark_delivered(slots: &mut [u64], position: usize)
 }
 
 // The row at `position` is delivered, and so are its hits.
+#[tactic(auto, unfolding(crate::specs::Tier::shared_out))]
 pub fn share_out(slots: &mut [u64], position: usize)
     requires { slot_words * position + slot_words ≤ length slots.old }
     ensures { slots.new ≡ shared_out position slots.old }
@@ -55,6 +59,7 @@ pub fn share_out(slots: &mut [u64], position: usize)
 }
 
 // The position with the less (hits, born) of two; the first where they are equal.
+#[tactic(auto, unfolding(crate::specs::Tier::lesser_of))]
 fn lesser(slots: &[u64], at: usize, i: usize) -> usize
     requires fact_1 { slot_words * at + slot_words ≤ length slots.now }
     requires fact_2 { slot_words * i + slot_words ≤ length slots.now }
@@ -75,6 +80,7 @@ fn lesser(slots: &[u64], at: usize, i: usize) -> usize
 }
 
 // Whether the row at `position` may be evicted: any, or where the floor guards the Founded ones a Tip.
+#[tactic(auto, unfolding(crate::specs::Tier::may_go))]
 fn may_go(slots: &[u64], position: usize, guarded: bool) -> bool
     requires { slot_words * position + slot_words ≤ length slots.now }
     ensures { result ≡ may_go slots.now position guarded }
@@ -85,35 +91,32 @@ fn may_go(slots: &[u64], position: usize, guarded: bool) -> bool
     true
 }
 
-// The least so far, `rows` while there is none, or the row at `i` where it may be evicted and is less.
-fn least_after(slots: &[u64], rows: usize, at: usize, i: usize, guarded: bool) -> usize
-    requires fact_1 { slot_words * rows ≤ length slots.now }
-    requires fact_2 { at ≤ rows }
-    requires fact_3 { i < rows }
-    ensures { result ≡ least_by slots.now rows at i guarded }
+// The least so far, or the row at `i` where it may be evicted and is less, or is the first such row.
+#[tactic(auto, unfolding(crate::specs::Tier::least_by))]
+fn least_after(slots: &[u64], least: Option<usize>, i: usize, guarded: bool) -> Option<usize>
+    requires fact_1 { IfSome least (λ at. slot_words * at + slot_words ≤ length slots.now) }
+    requires fact_2 { slot_words * i + slot_words ≤ length slots.now }
+    ensures { result ≡ least_by slots.now least i guarded }
 {
     if !may_go(slots, i, guarded) {
-        return at;
+        return least;
     }
-    if at == rows {
-        return i;
+    match least {
+        Some(at) => Some(lesser(slots, at, i)),
+        None => Some(i),
     }
-    lesser(slots, at, i)
 }
 
-// The row that a full tier gives up: the least (hits, born), the first on ties, where the floor guards the Founded rows of the Tips alone;
-// `rows` where there is none.
-pub fn victim(slots: &[u64], rows: usize, guarded: bool) -> usize
+// The row that a full tier gives up: the least (hits, born), the first on ties, where the floor guards the Founded rows of the Tips alone.
+pub fn victim(slots: &[u64], rows: usize, guarded: bool) -> Option<usize>
     requires { Held max_atoms rows slots.now }
-    ensures { result ≡ at_or rows (victim_among guarded (entries_in rows slots.now)) }
+    ensures { victim_at result ≡ victim_among guarded (entries_in rows slots.now) }
 {
-    let mut at = rows;
-    let mut i: usize = 0;
-    while i < rows {
-        at = least_after(slots, rows, at, i, guarded);
-        i += 1;
+    let mut least: Option<usize> = None;
+    for i in 0..rows {
+        least = least_after(slots, least, i, guarded);
     }
-    at
+    least
 }
 
 // How many rows are Founded.
@@ -122,10 +125,8 @@ pub fn count_founded(slots: &[u64], rows: usize) -> u64
     ensures { result ≡ founded_rows (entries_in rows slots.now) }
 {
     let mut count: u64 = 0;
-    let mut i: usize = 0;
-    while i < rows {
+    for i in 0..rows {
         count += 1 - slots[SLOT_WORDS * i + SOURCE_AT];
-        i += 1;
     }
     count
 }
@@ -135,27 +136,21 @@ pub fn halve(slots: &mut [u64], rows: usize)
     requires { Held max_atoms rows slots.old }
     ensures { slots.new ≡ slots_of (tier_of slots.old) (halved (entries_in rows slots.old)) }
 {
-    let mut i: usize = 0;
-    while i < rows {
+    for i in 0..rows {
         let at = SLOT_WORDS * i + HITS_AT;
-        slots[at] = slots[at] / 2;
-        i += 1;
+        slots[at] /= 2;
     }
 }
 
 // The slot at `from` copied down to `to`.
+#[tactic(auto, unfolding(crate::specs::Tier::moved))]
 fn move_slot(slots: &mut [u64], from: usize, to: usize)
     requires fact_1 { to ≤ from }
     requires fact_2 { slot_words * from + slot_words ≤ length slots.old }
     ensures { slots.new ≡ moved from to slots.old }
 {
-    let a = SLOT_WORDS * to;
-    let b = SLOT_WORDS * from;
-    let mut i: usize = 0;
-    while i < SLOT_WORDS {
-        slots[a + i] = slots[b + i];
-        i += 1;
-    }
+    let start = SLOT_WORDS * from;
+    slots.copy_within(start..start + SLOT_WORDS, SLOT_WORDS * to);
 }
 
 // The slot at `from` copied down to `to` unless it is marked; the place after it.
@@ -181,10 +176,8 @@ pub fn close_up(slots: &mut [u64], rows: usize, first: usize, replaced: &[u64]) 
         × (result ≡ length (closed_up (has replaced.now) first (entries_in rows slots.old))) }
 {
     let mut to = first + 1;
-    let mut i = first + 1;
-    while i < rows {
+    for i in first + 1..rows {
         to = keep(slots, i, to, replaced);
-        i += 1;
     }
     let a = SLOT_WORDS * to;
     let e = SLOT_WORDS * rows;

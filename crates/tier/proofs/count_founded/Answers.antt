@@ -2,21 +2,15 @@ use native.Mathlib.Omega.{arith}
 use Rattle.tier.proofs.Victims.{source-most, founded-step, founded-end}
 use Rattle.tier.proofs.count_founded.Goals as goal
 
-pub loop-i-init : goal.loop-i-init
-loop-i-init c = (omega arith, omega arith, c.requires.over.few, c.requires.over.long, omega arith)
-
 pub overflow_sub-count : goal.overflow_sub-count
-overflow_sub-count c =
-    source-most _ _ c.requires c.loop-i.i (omega arith)
+overflow_sub-count c = source-most _ _ c.requires c.loop-i.i (omega arith)
 
 pub loop-i-preserved : goal.loop-i-preserved
 loop-i-preserved c =
     let n = founded-step _ _ c.requires c.loop-i.i (omega arith) in
-    let h = c.loop-i.invariant.4 in
-    (omega arith, omega arith, c.loop-i.invariant.2, c.loop-i.invariant.3, omega arith)
+    record { few = omega arith; all = omega arith }
 
 pub returns : goal.returns
 returns c =
     let n = founded-end _ _ c.requires c.loop-i.i (omega arith) in
-    let h = c.loop-i.invariant.4 in
     omega arith

@@ -9,10 +9,12 @@ use Rattle.postings.proofs.Fills.{Room}
 use Rattle.postings.proofs.filling.post_side.Given as goal
 
 abbrev pub invariant-loop-next : goal.invariant-loop-next
-invariant-loop-next l =
-    Placed l.side l.cursor × (length l.postings ≡ length l.initial.postings) × Room code_bits (rest l.slot l.side l.cursor) l.next (length l.initial.postings)
-    × (walk put (left_postings l.position l.last (rest l.slot l.side l.cursor)) (filled_to l.next l.postings) l.meter
-    ≡ walk put (side_postings l.position (list_of l.slot l.side)) (filled_to l.at l.initial.postings) l.initial.meter)
+invariant-loop-next l = record {
+  placed : Placed l.side l.cursor;
+  room : Room code_bits (rest l.slot l.side l.cursor) l.next (length l.postings);
+  same : walk put (left_postings l.position l.last (rest l.slot l.side l.cursor)) (filled_to l.next l.postings) l.meter
+      ≡ walk put (side_postings l.position (list_of l.slot l.side)) (filled_to l.at l.initial.postings) l.initial.meter;
+}
 
 abbrev pub decreases-loop-next : goal.decreases-loop-next
 decreases-loop-next l = length (rest l.slot l.side l.cursor)

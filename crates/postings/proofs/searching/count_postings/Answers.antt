@@ -1,9 +1,12 @@
 -- `count_postings`. The zeros are counted off row 0, and the end is found by halves. Assumes nothing.
 use mathlib.Core.Path.{◌≡◌, ap, ap₂, ◌∙◌}
 use mathlib.Core.List.{List, map}
-use Prim.Native.Nat.{ℕ, ◌+◌, ◌-◌, ◌/◌}
+use Prim.Native.Nat.{ℕ, ◌+◌}
 use native.Mathlib.Omega.{arith}
+use lib.Dec.{ltb}
 use lib.ListN.{length}
+use borrow.Author.Rules.{rules}
+use Rattle.std.proofs.lemmas.List.Sorted.{IsPartitionPoint-from_clause}
 use Rattle.lists.specs.Counts.{times}
 use Rattle.lists.proofs.Counts.{times-le}
 use Rattle.words.specs.Literal.{atom}
@@ -13,7 +16,8 @@ use Rattle.slots.specs.Cursor.{list_of}
 use Rattle.slots.specs.Layout.{Laid, slot_at, rows_in}
 use Rattle.slots.proofs.Storing.{laid-stored}
 use Rattle.postings.specs.Searching.{zero_first}
-use Rattle.postings.proofs.Ends.{EndsAt, seen_start, seen-zero, seen-some, seen_end}
+use Rattle.postings.proofs.Cuts.{cut-long}
+use Rattle.postings.proofs.Ends.{EndsAt, ends-parted, ends-at}
 use Rattle.postings.proofs.Standing.{here-zeros, here-short, postings-long, posted-some, posted-none}
 use Rattle.postings.proofs.searching.count_postings.Goals.{After-zero_first-outputs, Start}
 use Rattle.postings.proofs.searching.count_postings.Goals as goal
@@ -48,33 +52,33 @@ module _ (c : After-zero_first-outputs) where
 pub zero_first-conditions-requires : goal.zero_first-conditions-requires
 zero_first-conditions-requires c = rw c.conditions.ensures (laid (goal.at.zero_first-conditions-requires c).Start).first
 
-pub outputs-requires : goal.outputs-requires
-outputs-requires c = let l = laid (goal.at.outputs-requires c).Start in record {
-  fact_1 = omega (arith, l.long);
-  fact_2 = l.counted;
-}
+pub outputs-requires-clause-fact_2 : goal.outputs-requires-clause-fact_2
+outputs-requires-clause-fact_2 c = (laid (goal.at.outputs-requires-clause-fact_2 c).Start).counted
 
 pub zero_first-outputs-requires : goal.zero_first-outputs-requires
 zero_first-outputs-requires c =
     rw c.outputs.ensures (laid (goal.at.zero_first-outputs-requires c).Start).second
 
-pub overflow_add-lo : goal.overflow_add-lo
-overflow_add-lo c = omega (arith, (ends c).order, (ends c).within)
+pub overflow_add-zeros : goal.overflow_add-zeros
+overflow_add-zeros c = omega (arith, (ends c).order, (ends c).within)
 
-pub loop-lo-init : goal.loop-lo-init
-loop-lo-init c = seen_start (ends c)
+pub offset_bounds-postings-zeros : goal.offset_bounds-postings-zeros
+offset_bounds-postings-zeros c = omega (arith, (ends c).order, (ends c).within)
 
-pub loop-lo-preserved-then-postings-mid-eq0 : goal.loop-lo-preserved-then-postings-mid-eq0
-loop-lo-preserved-then-postings-mid-eq0 c =
-    seen-zero (ends (goal.at.loop-lo-preserved-then-postings-mid-eq0 c).After-zero_first-outputs)
-    c.loop-lo.lo c.loop-lo.hi (c.loop-lo.lo + (c.loop-lo.hi - c.loop-lo.lo) / 2) c.loop-lo.invariant (omega arith)
-    (omega (arith, c.loop-lo-test.true)) c.if-postings-mid-eq0.true
+pub slice_bounds-partition_point-count : goal.slice_bounds-partition_point-count
+slice_bounds-partition_point-count c = omega (arith, (ends c).order, (ends c).within)
 
-pub loop-lo-preserved : goal.loop-lo-preserved
-loop-lo-preserved c =
-    seen-some (ends (goal.at.loop-lo-preserved c).After-zero_first-outputs)
-    c.loop-lo.lo c.loop-lo.hi (c.loop-lo.lo + (c.loop-lo.hi - c.loop-lo.lo) / 2) c.loop-lo.invariant (omega arith)
-    (omega (arith, c.loop-lo-test.true)) c.if-postings-mid-eq0.false
+pub slice_bounds-partition_point-start : goal.slice_bounds-partition_point-start
+slice_bounds-partition_point-start c = omega (arith, (ends c).order, (ends c).within)
+
+pub overflow_add-result : goal.overflow_add-result
+overflow_add-result c =
+    let e = ends (goal.at.overflow_add-result c).After-zero_first-outputs in
+    let long = cut-long (c.zero_first-conditions.result + c.zero_first-outputs.result) c.args.postings.now in
+    omega (arith, c.partition_point.ensures.bound, e.order, e.within, long)
 
 pub returns : goal.returns
-returns c = seen_end (ends (goal.at.returns c).After-zero_first-outputs) c.loop-lo.lo c.loop-lo.hi c.loop-lo.invariant c.loop-lo-test.false
+returns c =
+    let e = ends (goal.at.returns c).After-zero_first-outputs in
+    ends-at e _ c.partition_point.ensures.bound
+    (IsPartitionPoint-from_clause (ltb 0) _ _ c.partition_point.ensures.partitioned (ends-parted e) (λ a r q k. search rules))

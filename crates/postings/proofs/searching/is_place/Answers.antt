@@ -1,15 +1,8 @@
 -- `is_place`: the words before and at the place are looked at. Assumes nothing.
-use mathlib.Core.Bool.{false≢true}
 use native.Mathlib.Omega.{arith}
 use borrow.Author.Tests.{leb-true}
 use Rattle.postings.proofs.Near.{lower-here}
 use Rattle.postings.proofs.searching.is_place.Goals as goal
-
-pub returns-then-postings-at : goal.returns-then-postings-at
-returns-then-postings-at c = λ e. absurd (false≢true e)
-
-pub returns-then-not-is_past : goal.returns-then-not-is_past
-returns-then-not-is_past c = λ e. absurd (false≢true e)
 
 pub returns-then-at-postings : goal.returns-then-at-postings
 returns-then-at-postings c =

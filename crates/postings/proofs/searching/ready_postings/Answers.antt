@@ -12,10 +12,10 @@ returns-then-header c =
     let rs = rows_in c.args.header.rows c.args.slots.now in
     c.rebuild_postings.ensures
     ∙ ap (refiled c.args.header.limits.tier_rows rs)
-    (sym (ready-stale c.args.header.stale (length (postings_of rs)) c.args.work c.if-header.true))
+    (sym (ready-stale c.args.header.stale (length (postings_of rs)) c.args.meter.now c.if-header.true))
 
 pub returns : goal.returns
 returns c =
     let rs = rows_in c.args.header.rows c.args.slots.now in
     ready-fresh c.args.header.limits.tier_rows c.args.header.stale rs c.count_postings.result c.args.postings.now
-    c.args.work c.if-header.false c.count_postings.ensures c.requires.fact_1.filing
+    c.args.meter.now c.if-header.false c.count_postings.ensures c.requires.fact_1.filing
