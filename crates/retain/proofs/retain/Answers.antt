@@ -49,7 +49,6 @@ compare-requires c =
       fact_3 = c.requires.fact_4;
       fact_4 = omega (arith, a.stands.held.over.few);
       fact_5 = has-zero (max_rows / word_bits);
-      stub = ?;
     }
 
 pub admit-requires : goal.admit-requires
