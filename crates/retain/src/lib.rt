@@ -26,7 +26,7 @@ use meter::{Purse, Unpaid};
 use model::{Header, LearningLimits, MAX_ROWS, SLOT_WORDS, Source};
 use retain_compare::compare;
 use row_write::{Form, prepare, write_row};
-use words::{Found, WORD_BITS};
+use words::WORD_BITS;
 
 // Where a proposal goes that no row subsumes: after all rows, into the first place that it replaces, or into a victim's place.
 #[derive(Clone, Copy)]
@@ -52,8 +52,8 @@ fn find_room(
         (examined_by (has replaced.now) 0 (entries_in rows slots.now)) }
 {
     match words::next_from(rows as u64, replaced, 0) {
-        Found::At(first) => Some(Room::First(first as usize)),
-        Found::Nothing => {
+        Some(first) => Some(Room::First(first as usize)),
+        None => {
             if (rows as u64) < limits.tier_rows {
                 return Some(Room::After);
             }

@@ -4,20 +4,20 @@ use Rattle.model.proofs.Slots.{entries-length}
 use Rattle.retain.proofs.Places.{room-first, room_after, room-full}
 use Rattle.retain.proofs.find_room.Goals as goal
 
-pub returns-in-At : goal.returns-in-At
-returns-in-At c = room-first _ _ _ _ (entries-length c.args.rows c.args.slots.now) _ c.in-At.ensures
+pub returns-in-Some : goal.returns-in-Some
+returns-in-Some c = room-first _ _ _ _ (entries-length c.args.rows c.args.slots.now) _ c.in-Some.ensures
 
 pub returns-then-rows-limits : goal.returns-then-rows-limits
 returns-then-rows-limits c =
-    room_after _ _ _ _ (entries-length c.args.rows c.args.slots.now) c.in-Nothing.ensures c.if-rows-limits.true
+    room_after _ _ _ _ (entries-length c.args.rows c.args.slots.now) c.in-None.ensures c.if-rows-limits.true
 
-pub returns-in_ok-victim-in-Nothing : goal.returns-in_ok-victim-in-Nothing
-returns-in_ok-victim-in-Nothing c =
-    room-full _ _ _ _ (entries-length c.args.rows c.args.slots.now) c.in-Nothing.ensures c.if-rows-limits.false _
-    c.requires.fact_2 _ c.in_ok-victim-in-Nothing.ensures
+pub returns-in_ok-victim-in-None : goal.returns-in_ok-victim-in-None
+returns-in_ok-victim-in-None c =
+    room-full _ _ _ _ (entries-length c.args.rows c.args.slots.now) c.in-None.ensures c.if-rows-limits.false _
+    c.requires.fact_2 _ c.in_ok-victim-in-None.ensures
 
-pub returns-in_err-victim-in-Nothing : goal.returns-in_err-victim-in-Nothing
-returns-in_err-victim-in-Nothing c =
+pub returns-in_err-victim-in-None : goal.returns-in_err-victim-in-None
+returns-in_err-victim-in-None c =
     c.from_residual.ensures
-    ∙ room-full _ _ _ _ (entries-length c.args.rows c.args.slots.now) c.in-Nothing.ensures c.if-rows-limits.false _
-    c.requires.fact_2 _ c.in_err-victim-in-Nothing.ensures
+    ∙ room-full _ _ _ _ (entries-length c.args.rows c.args.slots.now) c.in-None.ensures c.if-rows-limits.false _
+    c.requires.fact_2 _ c.in_err-victim-in-None.ensures
