@@ -6,16 +6,6 @@ use Rattle.contents.specs.Marked.{Walked}
 use Rattle.contents.proofs.Marks.{rest_at, walked-above}
 use Rattle.contents.proofs.by_postings.walk_on.Goals as goal
 
-pub loop-word-init : goal.loop-word-init
-loop-word-init c = record { at = omega arith; marked = c.requires.fact_3; walked = c.requires.fact_4 }
-
-pub sees-requires-clause-fact_3 : goal.sees-requires-clause-fact_3
-sees-requires-clause-fact_3 c = c.loop-word.invariant.marked
-
-pub overflow_add-walk : goal.overflow_add-walk
-overflow_add-walk c =
-    omega (arith, c.loop-word.invariant.at, c.loop-word-test.true, length-take {A = ℕ}, length-drop {A = ℕ})
-
 pub loop-word-preserved : goal.loop-word-preserved
 loop-word-preserved c =
     let a = c.args in
@@ -32,19 +22,3 @@ loop-word-preserved c =
           (walked-above ws due w.at w.word w.often v.walked l (omega (arith, e, c.if-x-walk.false))
           (subst (λ (x : ℕ). 1 ≤ times x due) e (c.if-not-sees.ensures.bound refl c.if-x-lt-MAX_ROWS.false)));
     }
-
-pub returns-after-loop-word : goal.returns-after-loop-word
-returns-after-loop-word c = let v = c.loop-word.invariant in record { walked = v.walked; at_le_at = omega (arith, v.at); marked = v.marked }
-
-pub returns-then-x-walk : goal.returns-then-x-walk
-returns-then-x-walk c = let v = c.loop-word.invariant in record { walked = v.walked; at_le_at = omega (arith, v.at); marked = v.marked }
-
-pub returns-then-not-sees : goal.returns-then-not-sees
-returns-then-not-sees c =
-    let v = c.loop-word.invariant in
-    record { walked = v.walked; at_le_at = omega (arith, v.at); marked = c.sees.ensures.marked }
-
-pub returns-then-x-lt-MAX_ROWS : goal.returns-then-x-lt-MAX_ROWS
-returns-then-x-lt-MAX_ROWS c =
-    let v = c.loop-word.invariant in
-    record { walked = v.walked; at_le_at = omega (arith, v.at); marked = c.sees.ensures.marked }
