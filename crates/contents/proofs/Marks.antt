@@ -14,7 +14,7 @@ use Rattle.lists.specs.Runs.{run_after}
 use Rattle.lists.specs.declared.runs.Run.{Run}
 use Rattle.lists.proofs.Counts.{same_or, lt-or-ge, is-other, is_same, times-at, times_more, times-take-le, perm-full}
 use Rattle.lists.proofs.Sorts.{sort-full, sort-id, sort-perm, sort_sorted, length-sort}
-use Rattle.lists.proofs.Pads.{get_or-pad, rest_part}
+use Rattle.lists.proofs.Pads.{get_or-pad}
 use Rattle.lists.proofs.Tests.{same-no, same_true}
 use Rattle.lists.proofs.Walks.{Checked, checked-back, checked-more, checked-small, word_after, times-same, times-new}
 use Rattle.model.specs.Records.{Row, slot_words, max_rows, total_groups_at}
@@ -25,11 +25,6 @@ use Rattle.slots_check.specs.Check.{all_zero}
 use Rattle.contents.specs.Lent.{postings_due, posted_atoms, LaidOut}
 use Rattle.contents.specs.Marked.{Form, Marked, Walked, Ended, nowhere}
 use Rattle.contents.proofs.Filing.{holds-code, posted-code, due-no, due-rest}
-
--- a word among those from a on, as the code lends them
-pub rest_at : (ws : List ℕ) (a k i : ℕ) → i ≡ a + k → get_or (take (length ws - a) (drop a ws)) k 0 ≡ get_or ws i 0
-rest_at ws a k i e =
-    ap (λ (l : List ℕ). get_or l k 0) (rest_part ws a) ∙ get_or-drop a ws k 0 ∙ ap (λ (j : ℕ). get_or ws j 0) (sym e)
 
 -- ---- places
 pub marked-none : (slots : List ℕ) (v : ℕ) → nowhere ≤ v → Marked 0 slots (replicate max_rows v)
@@ -65,7 +60,8 @@ module _ (n m : ℕ) (slots places : List ℕ) (p v : ℕ) where
           subst (λ (x : ℕ). Form x (get_or slots (slot_words * q + total_groups_at) 0)) (sym (get_or-set_other places p q v 0 d)) (h.form q b)
 
 -- the number of groups, in a slot as the code lends it
-pub total-code : (ws : List ℕ) (p : ℕ) {s : List ℕ} → s ≡ slot_at ws p → get_or s total_groups_at 0 ≡ get_or ws (slot_words * p + total_groups_at) 0
+pub total-code : (ws : List ℕ) (p : ℕ) {s : List ℕ} → s ≡ slot_at ws p
+    → get_or s total_groups_at 0 ≡ get_or ws (slot_words * p + total_groups_at) 0
 total-code ws p e =
     ap (λ (l : List ℕ). get_or l total_groups_at 0) e ∙ get_or-take slot_words (drop (slot_words * p) ws) total_groups_at 0 (omega arith)
     ∙ get_or-drop (slot_words * p) ws total_groups_at 0
@@ -96,16 +92,6 @@ module _ (xs ys : List ℕ) where
     held = h.held;
     runs = h.runs;
     few = λ v. times-take-le v i xs;
-  }
-
-  pub walked_start : Walked xs ys 0 0 0
-  walked_start = record {
-    far = omega arith;
-    sorted = tt;
-    top = λ v h. absurd (omega arith);
-    held = λ h. absurd (omega arith);
-    runs = refl;
-    few = λ v. omega arith;
   }
 
   pub walked-small : (i x n : ℕ) → Walked xs ys i x n → n ≤ i

@@ -47,7 +47,8 @@ returns-then-posted_less c =
     let s = (goal.at.returns-then-posted_less c).In-Some in
     let few = ltb-true _ c.next-run.result.times (sym c.if-posted_less.ensures) in
     let w = due (goal.at.returns-then-posted_less c).At-loop-word in
-    sym (same-no _ _ (walked_many _ _ _ _ _ _ c.loop-word.invariant.walked (inside s) (omega (arith, is_word s, c.if-x-walk.false)) (met at_run)
+    let above : c.loop-word.walk.word ≤ get_or c.args.words.now c.loop-word.walk.at 0 = omega (arith, is_word s, c.if-x-walk.false) in
+    sym (same-no _ _ (walked_many _ _ _ _ _ _ c.loop-word.invariant.walked (inside s) above (met at_run)
     (subst (λ (x : ℕ). times x w < c.next-run.result.times) (sym (is_word s)) few)))
 
 pub walk_on-walk-requires-in-Some-clause-fact_4 : goal.walk_on-walk-requires-in-Some-clause-fact_4
