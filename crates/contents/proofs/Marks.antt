@@ -14,7 +14,7 @@ use Rattle.lists.specs.Runs.{run_after}
 use Rattle.lists.specs.declared.runs.Run.{Run}
 use Rattle.lists.proofs.Counts.{same_or, lt-or-ge, is-other, is_same, times-at, times_more, times-take-le, perm-full}
 use Rattle.lists.proofs.Sorts.{sort-full, sort-id, sort-perm, sort_sorted, length-sort}
-use Rattle.lists.proofs.Pads.{get_or-pad, rest_part}
+use Rattle.lists.proofs.Pads.{get_or-pad}
 use Rattle.lists.proofs.Tests.{same-no, same_true}
 use Rattle.lists.proofs.Walks.{Checked, checked-back, checked-more, checked-small, word_after, times-same, times-new}
 use Rattle.model.specs.Records.{Row, slot_words, max_rows, total_groups_at}
@@ -23,13 +23,8 @@ use Rattle.model.specs.Postings.{postings_of}
 use Rattle.slots.specs.Layout.{rows_in, slot_at, Rows}
 use Rattle.slots_check.specs.Check.{all_zero}
 use Rattle.contents.specs.Lent.{postings_due, posted_atoms, LaidOut}
-use Rattle.contents.specs.Marked.{Form, Marked, Walked, Ended, packed_from, nowhere}
+use Rattle.contents.specs.Marked.{Form, Marked, Walked, Ended, nowhere}
 use Rattle.contents.proofs.Filing.{holds-code, posted-code, due-no, due-rest}
-
--- a word among those from a on, as the code lends them
-pub rest_at : (ws : List ℕ) (a k i : ℕ) → i ≡ a + k → get_or (take (length ws - a) (drop a ws)) k 0 ≡ get_or ws i 0
-rest_at ws a k i e =
-    ap (λ (l : List ℕ). get_or l k 0) (rest_part ws a) ∙ get_or-drop a ws k 0 ∙ ap (λ (j : ℕ). get_or ws j 0) (sym e)
 
 -- ---- places
 pub marked-none : (slots : List ℕ) (v : ℕ) → nowhere ≤ v → Marked 0 slots (replicate max_rows v)
@@ -65,44 +60,23 @@ module _ (n m : ℕ) (slots places : List ℕ) (p v : ℕ) where
           subst (λ (x : ℕ). Form x (get_or slots (slot_words * q + total_groups_at) 0)) (sym (get_or-set_other places p q v 0 d)) (h.form q b)
 
 -- the number of groups, in a slot as the code lends it
-pub total-code : (ws : List ℕ) (p : ℕ) {s : List ℕ} → s ≡ slot_at ws p → get_or s total_groups_at 0 ≡ get_or ws (slot_words * p + total_groups_at) 0
+pub total-code : (ws : List ℕ) (p : ℕ) {s : List ℕ} → s ≡ slot_at ws p
+    → get_or s total_groups_at 0 ≡ get_or ws (slot_words * p + total_groups_at) 0
 total-code ws p e =
     ap (λ (l : List ℕ). get_or l total_groups_at 0) e ∙ get_or-take slot_words (drop (slot_words * p) ws) total_groups_at 0 (omega arith)
     ∙ get_or-drop (slot_words * p) ws total_groups_at 0
 
--- a row by its place
-module _ (n : ℕ) (ws places : List ℕ) (r : Rows n ws) (e : length places ≡ max_rows) (h : Marked n ws places) (x k : ℕ)
-    (q : k ≡ get_or places (x % max_rows) 0) where
-  there : k < nowhere → x % max_rows < n
-  there l = h.there (x % max_rows) (omega arith) (omega arith)
+-- a row by its place, and its slot, as the code lends it
+module _ (n : ℕ) (ws places : List ℕ) (r : Rows n ws) (h : Marked n ws places) (x k : ℕ) (q : k ≡ get_or places (x % max_rows) 0)
+    (l : k < nowhere) (slot : List ℕ) (d : slot ≡ slot_at ws (x % max_rows)) where
+  there : x % max_rows < n
+  there = h.there (x % max_rows) (omega arith) (omega arith)
 
-  form : Form k (get_or ws (slot_words * (x % max_rows) + total_groups_at) 0)
-  form = subst (λ (v : ℕ). Form v (get_or ws (slot_words * (x % max_rows) + total_groups_at) 0)) (sym q) (h.form (x % max_rows) (omega arith))
+  pub lent-row : LaidOut slot
+  lent-row = holds-code n ws r (x % max_rows) d there
 
-  pub lent-end : k < nowhere → slot_words * (x % max_rows) + slot_words ≤ length ws
-  lent-end l = let t = there l in let m = r.over.long in omega arith
-
-  pub keep-scalar : k < packed_from → (v : ℕ) → Marked n ws (set places (x % max_rows) (v % packed_from))
-  keep-scalar l v =
-      marked-put n n ws places (x % max_rows) (v % packed_from) (omega arith) (there (omega arith)) e h
-      (record { scalar = λ b. form.scalar l; packed = λ g b. absurd (omega arith) })
-
-  pub keep-packed : packed_from ≤ k → k < nowhere → (v : ℕ) → Marked n ws (set places (x % max_rows) (k + v))
-  keep-packed g l v =
-      marked-put n n ws places (x % max_rows) (k + v) (omega arith) (there l) e h
-      (record { scalar = λ b. absurd (omega arith); packed = λ f b. form.packed g l })
-
-  -- its slot, as the code lends it
-  module _ (slot : List ℕ) (d : slot ≡ slot_at ws (x % max_rows)) where
-    pub lent-scalar : k < packed_from → LaidOut slot × (get_or slot total_groups_at 0 ≡ 0)
-    lent-scalar l = (holds-code n ws r (x % max_rows) d (there (omega arith)), total-code ws (x % max_rows) d ∙ form.scalar l)
-
-    pub lent-packed : packed_from ≤ k → k < nowhere → LaidOut slot × (get_or slot total_groups_at 0 ≡ 0 → ⊥)
-    lent-packed g l =
-        (holds-code n ws r (x % max_rows) d (there l), λ z. form.packed g l (sym (total-code ws (x % max_rows) d) ∙ z))
-
-    pub posted-once : k < nowhere → 1 ≤ times (x / max_rows) (posted_atoms (row_in slot)) → 1 ≤ times x (postings_of (rows_in n ws))
-    posted-once l o = omega (arith, posted-code n ws r x d (there l))
+  pub posted-once : 1 ≤ times (x / max_rows) (posted_atoms (row_in slot)) → 1 ≤ times x (postings_of (rows_in n ws))
+  posted-once o = omega (arith, posted-code n ws r x d there)
 
 -- ---- words that ascend, none more often than among ys
 module _ (xs ys : List ℕ) where
@@ -118,16 +92,6 @@ module _ (xs ys : List ℕ) where
     held = h.held;
     runs = h.runs;
     few = λ v. times-take-le v i xs;
-  }
-
-  pub walked_start : Walked xs ys 0 0 0
-  walked_start = record {
-    far = omega arith;
-    sorted = tt;
-    top = λ v h. absurd (omega arith);
-    held = λ h. absurd (omega arith);
-    runs = refl;
-    few = λ v. omega arith;
   }
 
   pub walked-small : (i x n : ℕ) → Walked xs ys i x n → n ≤ i

@@ -355,8 +355,8 @@ fn walk_on(words: &[u64], slots: &[u64], rows: usize, places: &mut [u16], from: 
     ensures marked { Marked rows slots.now places.new }
 {
     let mut walk = from;
-    for word in &words[from.at..] {
-        let x = *word;
+    for at in from.at..words.len() {
+        let x = words[at];
         if x <= walk.word {
             break;
         }
@@ -367,7 +367,7 @@ fn walk_on(words: &[u64], slots: &[u64], rows: usize, places: &mut [u16], from: 
             break;
         }
         walk = Walk {
-            at: walk.at + 1,
+            at: at + 1,
             word: x,
             often: 1,
         };

@@ -2,14 +2,14 @@
 use mathlib.Core.Path.{◌≡◌, refl, sym, ap, ap₂, ◌∙◌, subst}
 use mathlib.Core.Bool.{Bool, true, false, ◌&&◌}
 use mathlib.Core.List.{List, [], ◌∷◌, ◌++◌}
-use Prim.Native.Nat.{ℕ, zero, suc, ◌+◌, ◌-◌, ◌*◌, ◌/◌, ◌%◌, ◌^◌, ◌≤◌, ◌<◌, min}
+use Prim.Native.Nat.{ℕ, zero, suc, ◌+◌, ◌-◌, ◌*◌, ◌^◌, ◌≤◌, ◌<◌, min}
 use native.Mathlib.Numerals.{add-one}
 use native.Mathlib.Omega.{arith}
-use lib.Bits.{bit_and, bit_or}
+use lib.Bits.{bit_or}
 use lib.Count.{ones}
-use lib.Dec.{eqb, leb, ltb}
+use lib.Dec.{eqb, leb}
 use lib.ListN.{length, get_or}
-use borrow.Author.Tests.{lt-ltb, le-ltb, le-leb, lt-leb}
+use borrow.Author.Tests.{le-leb, lt-leb}
 use Rattle.std.specs.Prelude.{Option, Some, None}
 use Rattle.std.specs.Option.{option_eq}
 use Rattle.model.specs.Records.{group_length}
@@ -83,50 +83,6 @@ module _ (apart : Bool) (n : ℕ) (ws : List ℕ) where
           ≡ (b && eqb (code_count ws) m)
       go true = refl
       go false = refl
-
--- ---- one group
-pub inside-all : (n x bits : ℕ) → x < n / 64 → bits < 2 ^ 64 → true ≡ ltb bits (2 ^ bits_below n x)
-unfolding bits_below
-inside-all n x bits h l =
-    let e : min 64 (n - 64 * x) ≡ 64 = omega arith in
-    sym (ap (λ (k : ℕ). ltb bits (2 ^ k)) e ∙ lt-ltb bits (2 ^ 64) l)
-
-pub inside-none : (n x bits : ℕ) → n / 64 < x → 0 < bits → false ≡ ltb bits (2 ^ bits_below n x)
-unfolding bits_below
-inside-none n x bits h l = let e : min 64 (n - 64 * x) ≡ 0 = omega arith in sym (ap (λ (k : ℕ). ltb bits (2 ^ k)) e ∙ le-ltb bits 1 l)
-
-pub inside-last : (n x : ℕ) → x ≡ n / 64 → bits_below n x ≡ n % 64
-unfolding bits_below
-inside-last n x e = omega arith
-
-module _ (apart : Bool) (n x p a : ℕ) where
-  pub group_empty : bit_or p a ≡ 0 → false ≡ group_ok apart n x p a
-  unfolding group_ok
-  group_empty e =
-      sym (ap
-      (λ (b : Bool). (b && ltb (bit_or p a) (2 ^ bits_below n x)) && (elim apart as (λ k. Bool) [ true ↦ eqb (bit_and p a) 0 | false ↦ true ]))
-      (le-ltb 0 (bit_or p a) (omega arith)))
-
-  module _ (s : bit_or p a ≡ 0 → ⊥) where
-    group-some : group_ok apart n x p a
-        ≡ (ltb (bit_or p a) (2 ^ bits_below n x) && (elim apart as (λ k. Bool) [ true ↦ eqb (bit_and p a) 0 | false ↦ true ]))
-    unfolding group_ok
-    group-some =
-        ap (λ (b : Bool). (b && ltb (bit_or p a) (2 ^ bits_below n x))
-        && (elim apart as (λ k. Bool) [ true ↦ eqb (bit_and p a) 0 | false ↦ true ]))
-        (lt-ltb 0 (bit_or p a) (positive (bit_or p a) s))
-      where
-        positive : (k : ℕ) → (k ≡ 0 → ⊥) → 0 < k
-        positive k f = omega arith
-
-    pub group-outside : ltb (bit_or p a) (2 ^ bits_below n x) ≡ false → false ≡ group_ok apart n x p a
-    group-outside e = sym (group-some ∙ ap (λ (b : Bool). b && (elim apart as (λ k. Bool) [ true ↦ eqb (bit_and p a) 0 | false ↦ true ])) e)
-
-    pub group-apart : ltb (bit_or p a) (2 ^ bits_below n x) ≡ true → apart ≡ true → eqb (bit_and p a) 0 ≡ group_ok apart n x p a
-    group-apart e q = sym (group-some ∙ ap₂ (λ (b d : Bool). b && (elim d as (λ k. Bool) [ true ↦ eqb (bit_and p a) 0 | false ↦ true ])) e q)
-
-    pub group-plain : ltb (bit_or p a) (2 ^ bits_below n x) ≡ true → apart ≡ false → true ≡ group_ok apart n x p a
-    group-plain e q = sym (group-some ∙ ap₂ (λ (b d : Bool). b && (elim d as (λ k. Bool) [ true ↦ eqb (bit_and p a) 0 | false ↦ true ])) e q)
 
 -- a group that passes is of a word below the atoms' end
 pub group_index : (apart : Bool) (n x p a : ℕ) → group_ok apart n x p a ≡ true → 64 * x < n

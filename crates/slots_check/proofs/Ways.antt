@@ -212,15 +212,16 @@ module _ (n : ℕ) (ws : List ℕ) where
     pub packed-conditions : true ≡ not (option_eq eqb r (Some kc)) → false ≡ packed_ok n ws
     packed-conditions f = sides-no (no-left u1 u2 (sym first-test ∙ not-true _ (sym f)))
 
-    module _ (q : Option ℕ) (h : g ≤ w)
-        (d : q ≡ side_codes false n (take ((body_at + group_length * w) - (body_at + group_length * g)) (drop (body_at + group_length * g) ws))) where
+    module _ (q : Option ℕ) (h : g ≤ w) (d : q ≡ side_codes false n
+        (take ((body_at + group_length * w) - (body_at + group_length * g)) (drop (body_at + group_length * g) ws))) where
       next-test : option_eq eqb q (Some ko) ≡ u2
       next-test = ap (λ (o : Option ℕ). option_eq eqb o (Some ko)) (d ∙ ap (side_codes false n) (next-groups h))
 
       pub packed-outputs : true ≡ not (option_eq eqb q (Some ko)) → false ≡ packed_ok n ws
       packed-outputs f = sides-no (no-right u1 u2 (sym next-test ∙ not-true _ (sym f)))
 
-      pub packed-rest : (b : Bool) → 3 * w < 2 * (kc + ko) → false ≡ not (option_eq eqb r (Some kc)) → false ≡ not (option_eq eqb q (Some ko))
+      pub packed-rest : (b : Bool) → 3 * w < 2 * (kc + ko)
+          → false ≡ not (option_eq eqb r (Some kc)) → false ≡ not (option_eq eqb q (Some ko))
           → b ≡ all_zero (take (source_at - (body_at + group_length * w)) (drop (body_at + group_length * w) ws)) → b ≡ packed_ok n ws
       packed-rest b l i j z =
           after (t1 && t2) ((u1 && u2) && t7) b (and_yes t1 t2 (le-leb g w h) (lt-ltb (3 * w) (2 * (kc + ko)) l))

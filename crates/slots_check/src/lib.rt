@@ -14,6 +14,7 @@ use model::{
 };
 
 // Whether the bits of word x belong to atoms below `atoms`.
+#[tactic(auto, unfolding(crate::specs::Check::bits_below))]
 fn is_inside(bits: u64, x: u64, atoms: u64) -> bool
     requires { 0 < bits }
     ensures { result ≡ ltb bits (2 ^ bits_below atoms x) }
@@ -29,6 +30,7 @@ fn is_inside(bits: u64, x: u64, atoms: u64) -> bool
 }
 
 // Whether a group of word x has some bit, none of an atom outside, and where `apart` says so no atom in both signs.
+#[tactic(auto, unfolding(crate::specs::Check::group_ok))]
 fn is_group(x: u64, present: u64, absent: u64, apart: bool, atoms: u64) -> bool
     ensures { result ≡ group_ok apart atoms x present absent }
 {

@@ -22,10 +22,3 @@ returns-then-are_found c =
     let rs = rows_in a.rows a.slots.now in
     due-filed ps rs c.used-end.result c.used-end.ensures.0 c.used-end.ensures.1 (c.are_found.ensures c.if-are_found.true)
     ∙ ap (λ (b : Bool). same ps (pad (length ps) (postings_due b rs))) (sym c.if-stale.false)
-
-pub returns : goal.returns
-returns c =
-    let a = c.args in
-    let ps = a.postings.now in
-    c.are_postings.ensures ∙ ap (λ (b : Bool). same ps (pad (length ps) (postings_due b (rows_in a.rows a.slots.now))))
-    (sym c.if-stale.false)

@@ -5,17 +5,11 @@ use Rattle.lists.proofs.Pads.{rest_part}
 use Rattle.model.specs.Records.{slot_words, founded_rows}
 use Rattle.model.specs.Slots.{entries_in}
 use Rattle.slots_check.specs.Check.{all_zero}
-use Rattle.contents.proofs.Walks.{slots-bad, slots-good, slots_end, slots-start}
-use Rattle.contents.proofs.Slots.{founded-start, founded-most, founded-next, founded-last, counted-bad, counted-other}
+use Rattle.contents.proofs.Walks.{slots-bad, slots-good, slots_end}
+use Rattle.contents.proofs.Slots.{founded-most, founded-next, founded-last, counted-bad, counted-other}
 use Rattle.contents.proofs.Slots.{counted_same}
 use Rattle.contents.proofs.slots_ok.Goals.{After-loop-p}
 use Rattle.contents.proofs.slots_ok.Goals as goal
-
-pub loop-p-init : goal.loop-p-init
-loop-p-init c =
-    let a = c.args in
-    let n = founded-start a.rows a.slots.now in
-    (slots-start a.atoms a.born a.rows a.slots.now, omega arith, omega arith)
 
 pub returns-then-not-is_slot : goal.returns-then-not-is_slot
 returns-then-not-is_slot c =

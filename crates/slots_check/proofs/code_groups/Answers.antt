@@ -1,23 +1,20 @@
 use Rattle.std.proofs.Common.{◌≡◌, true, sym, ap, ◌∙◌, subst, arith, ℕ, ◌-◌, ◌<◌, length, drop}
 use Rattle.words.specs.Codes.{climbs, runs}
-use Rattle.slots_check.proofs.Climbs.{last-there, last-none, groups_none, groups-yes, last-high, last-low, down-fall, down-more, down-same, down-other}
+use Rattle.slots_check.proofs.Climbs.{last-there, last-none, groups_none, groups-yes, last-high, last-low}
+use Rattle.slots_check.proofs.Climbs.{down-fall, down-more, down-same, down-other}
 use Rattle.slots_check.proofs.code_groups.Goals as goal
 
-pub returns-in_default : goal.returns-in_default
-returns-in_default c = let a = c.args in record {
-  groups = groups_none a.atoms a.shift a.codes.now (last-none a.codes.now (sym c.in_default.ensures.value));
-  few = omega arith;
-}
-
-pub returns-then-atoms-last : goal.returns-then-atoms-last
-returns-then-atoms-last c =
+pub returns-in_default-clause-groups : goal.returns-in_default-clause-groups
+returns-in_default-clause-groups c =
     let a = c.args in
-    let l = last-there a.codes.now c.in-Some.last.now (sym c.in-Some.ensures.value) in record {
-      groups =
-          last-high a.atoms a.shift a.codes.now (length a.codes.now - 1) (omega (arith, l.0)) (omega (arith, l.0))
-          (omega (arith, l.1, c.if-atoms-last.true));
-      few = tt;
-    }
+    groups_none a.atoms a.shift a.codes.now (last-none a.codes.now (sym c.in_default.ensures.value))
+
+pub returns-then-atoms-last-clause-groups : goal.returns-then-atoms-last-clause-groups
+returns-then-atoms-last-clause-groups c =
+    let a = c.args in
+    let l = last-there a.codes.now c.in-Some.last.now (sym c.in-Some.ensures.value) in
+    last-high a.atoms a.shift a.codes.now (length a.codes.now - 1) (omega (arith, l.0)) (omega (arith, l.0))
+    (omega (arith, l.1, c.if-atoms-last.true))
 
 pub loop-i-init : goal.loop-i-init
 loop-i-init c =
@@ -27,17 +24,12 @@ loop-i-init c =
     (omega (arith, l.1, c.if-atoms-last.false)) in
     record { some = omega (arith, l.0); few = omega arith; order = h.0; groups = h.1 }
 
-pub returns-then-y-shift : goal.returns-then-y-shift
-returns-then-y-shift c =
-    let a = c.args in record {
-      groups =
-          down-fall a.atoms a.shift a.codes.now (c.loop-i.i - 1) (omega (arith, c.loop-i-test.true, c.loop-i.auto.i)) (omega (arith, c.loop-i-test.true))
-          c.if-y-shift.true;
-      few = tt;
-    }
-
-pub overflow_add-count : goal.overflow_add-count
-overflow_add-count c = omega (arith, c.loop-i.invariant.few, c.requires.fact_2)
+pub returns-then-y-shift-clause-groups : goal.returns-then-y-shift-clause-groups
+returns-then-y-shift-clause-groups c =
+    let a = c.args in
+    let i : ℕ = c.loop-i.i - 1 in
+    let l : i < length a.codes.now = omega (arith, c.loop-i-test.true, c.loop-i.auto.i) in
+    down-fall a.atoms a.shift a.codes.now i l (omega (arith, c.loop-i-test.true)) c.if-y-shift.true
 
 pub loop-i-preserved-then-x-y : goal.loop-i-preserved-then-x-y
 loop-i-preserved-then-x-y c =
@@ -67,14 +59,10 @@ loop-i-preserved c =
       groups = omega (arith, v.groups, t);
     }
 
-pub returns : goal.returns
-returns c =
+pub returns-clause-groups : goal.returns-clause-groups
+returns-clause-groups c =
     let a = c.args in
     let v = c.loop-i.invariant in
-    let e : c.loop-i.i - 1 ≡ 0 = omega (arith, c.loop-i-test.false) in record {
-      groups =
-          groups-yes a.atoms a.shift a.codes.now c.loop-i.count
-          (subst (λ (k : ℕ). climbs a.atoms a.shift (drop k a.codes.now) ≡ true) e v.order)
-          (v.groups ∙ ap (λ (k : ℕ). runs 7 (drop k a.codes.now)) e);
-      few = omega (arith, v.few, v.some);
-    }
+    let e : c.loop-i.i - 1 ≡ 0 = omega (arith, c.loop-i-test.false) in
+    groups-yes a.atoms a.shift a.codes.now c.loop-i.count (subst (λ (k : ℕ). climbs a.atoms a.shift (drop k a.codes.now) ≡ true) e v.order)
+    (v.groups ∙ ap (λ (k : ℕ). runs 7 (drop k a.codes.now)) e)

@@ -20,9 +20,6 @@ overflow_cast-count c = let e = either-few c in search rules
 pub returns-then-both-eq0 : goal.returns-then-both-eq0
 returns-then-both-eq0 c = (ones-apart c.args.present c.args.absent c.if-both-eq0.true, omega (arith, either-few (goal.at.returns-then-both-eq0 c).Start))
 
-pub overflow_cast-result : goal.overflow_cast-result
-overflow_cast-result c = let b = both-few (goal.at.overflow_cast-result c).Start in search rules
-
 pub overflow_add-result : goal.overflow_add-result
 overflow_add-result c =
     let at_start = (goal.at.overflow_add-result c).Start in

@@ -27,11 +27,6 @@ returns-then-not-is_group c =
     (sym c.loop-group.invariant.order
     ∙ groups-bad a.apart a.atoms c.loop-group.least _ _ _ (cut s) (three s) c.if-x-least.false (sym c.if-not-is_group.ensures))
 
-pub overflow_add-count : goal.overflow_add-count
-overflow_add-count c =
-    let s = (goal.at.overflow_add-count c).In-Some in
-    omega (arith, ap length (cut s), length-append {A = ℕ}, three s, c.codes_in-count.ensures.1, c.loop-group.invariant.few, c.requires.few)
-
 pub overflow_add-least : goal.overflow_add-least
 overflow_add-least c =
     let a = c.args in

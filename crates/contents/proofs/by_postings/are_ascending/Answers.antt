@@ -7,7 +7,7 @@ use Rattle.lists.proofs.Tests.{same-yes, same-no}
 use Rattle.model.specs.Postings.{postings_of}
 use Rattle.slots.specs.Layout.{rows_in}
 use Rattle.contents.specs.Marked.{Walked}
-use Rattle.contents.proofs.Marks.{walked_start, walked-small, walked-back, walked_more, walked_many, walked_end}
+use Rattle.contents.proofs.Marks.{walked-small, walked-back, walked_more, walked_many, walked_end}
 use Rattle.contents.proofs.by_postings.are_ascending.Goals.{In-Some, At-loop-word, After-next-run}
 use Rattle.contents.proofs.by_postings.are_ascending.Goals as goal
 
@@ -31,13 +31,6 @@ met c =
     ap (λ r. r.times) c.next-run.ensures
     ∙ ap (λ (x : ℕ). (run_after (record { word = w.word; times = w.often }) x).times) (sym (is_word (goal.at.After-next-run c).In-Some))
 
-pub walk_on-walk-requires : goal.walk_on-walk-requires
-walk_on-walk-requires c =
-    record { fact_1 = c.requires.fact_1; fact_2 = c.requires.fact_3; fact_3 = c.requires.fact_4; fact_4 = walked_start _ _ }
-
-pub loop-word-init : goal.loop-word-init
-loop-word-init c = let e = c.walk_on-walk.ensures in record { marked = e.marked; walked = e.walked }
-
 pub returns-then-x-walk : goal.returns-then-x-walk
 returns-then-x-walk c =
     let s = (goal.at.returns-then-x-walk c).In-Some in
@@ -54,31 +47,19 @@ returns-then-posted_less c =
     let s = (goal.at.returns-then-posted_less c).In-Some in
     let few = ltb-true _ c.next-run.result.times (sym c.if-posted_less.ensures) in
     let w = due (goal.at.returns-then-posted_less c).At-loop-word in
-    sym (same-no _ _ (walked_many _ _ _ _ _ _ c.loop-word.invariant.walked (inside s) (omega (arith, is_word s, c.if-x-walk.false)) (met at_run)
+    let above : c.loop-word.walk.word ≤ get_or c.args.words.now c.loop-word.walk.at 0 = omega (arith, is_word s, c.if-x-walk.false) in
+    sym (same-no _ _ (walked_many _ _ _ _ _ _ c.loop-word.invariant.walked (inside s) above (met at_run)
     (subst (λ (x : ℕ). times x w < c.next-run.result.times) (sym (is_word s)) few)))
 
-pub walk_on-walk-requires-in-Some : goal.walk_on-walk-requires-in-Some
-walk_on-walk-requires-in-Some c =
-    let at_run = (goal.at.walk_on-walk-requires-in-Some c).After-next-run in
-    let s = (goal.at.walk_on-walk-requires-in-Some c).In-Some in
+pub walk_on-walk-requires-in-Some-clause-fact_4 : goal.walk_on-walk-requires-in-Some-clause-fact_4
+walk_on-walk-requires-in-Some-clause-fact_4 c =
+    let at_run = (goal.at.walk_on-walk-requires-in-Some-clause-fact_4 c).After-next-run in
+    let s = (goal.at.walk_on-walk-requires-in-Some-clause-fact_4 c).In-Some in
     let few = ltb-false _ c.next-run.result.times (sym c.if-posted_less.ensures) in
-    let w = due (goal.at.walk_on-walk-requires-in-Some c).At-loop-word in record {
-      fact_1 = c.requires.fact_1;
-      fact_2 = omega arith;
-      fact_3 = c.loop-word.invariant.marked;
-      fact_4 =
-          subst (λ (x : ℕ). Walked c.args.words.now w (c.loop-word.walk.at + 1) x c.next-run.result.times) (is_word s)
-          (walked_more _ _ _ _ _ _ c.loop-word.invariant.walked (inside s) (omega (arith, is_word s, c.if-x-walk.false)) (met at_run)
-          (subst (λ (x : ℕ). c.next-run.result.times ≤ times x w) (sym (is_word s)) few));
-    }
-
-pub loop-word-smaller : goal.loop-word-smaller
-loop-word-smaller c =
-    let s = (goal.at.loop-word-smaller c).In-Some in
-    omega (arith, c.walk_on-walk-in-Some.ensures.at_le_at, inside s)
-
-pub loop-word-preserved : goal.loop-word-preserved
-loop-word-preserved c = let e = c.walk_on-walk-in-Some.ensures in record { marked = e.marked; walked = e.walked }
+    let w = due (goal.at.walk_on-walk-requires-in-Some-clause-fact_4 c).At-loop-word in
+    subst (λ (x : ℕ). Walked c.args.words.now w (c.loop-word.walk.at + 1) x c.next-run.result.times) (is_word s)
+    (walked_more _ _ _ _ _ _ c.loop-word.invariant.walked (inside s) (omega (arith, is_word s, c.if-x-walk.false)) (met at_run)
+    (subst (λ (x : ℕ). c.next-run.result.times ≤ times x w) (sym (is_word s)) few))
 
 pub returns : goal.returns
 returns c =

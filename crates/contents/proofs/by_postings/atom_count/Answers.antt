@@ -3,11 +3,6 @@ use Rattle.std.specs.Slice.Iter.{chunks_exact_rest}
 use Rattle.contents.proofs.Walks.{atoms-next, atoms-end}
 use Rattle.contents.proofs.by_postings.atom_count.Goals as goal
 
-pub overflow_add-count : goal.overflow_add-count
-overflow_add-count c =
-    let s = c.in-Some.ensures.steps in
-    omega (arith, ap length s.1.0, length-append {A = ℕ}, s.1.1, c.loop-group.invariant.size, c.atoms_in-count.ensures.1, c.loop-group.invariant.few, c.requires)
-
 pub loop-group-preserved : goal.loop-group-preserved
 loop-group-preserved c =
     let s = c.in-Some.ensures.steps in

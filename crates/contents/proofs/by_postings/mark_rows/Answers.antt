@@ -1,10 +1,9 @@
-use mathlib.Core.Path.{◌≡◌, refl, subst}
-use Prim.Native.Nat.{ℕ, ◌+◌}
+use mathlib.Core.Path.{refl, subst}
+use Prim.Native.Nat.{◌+◌}
 use native.Mathlib.Omega.{arith}
-use Rattle.contents.specs.Marked.{Form, Marked}
+use Rattle.contents.specs.Marked.{Form}
 use Rattle.contents.proofs.Filing.{holds-code, total-start, total-step, total-end}
 use Rattle.contents.proofs.Marks.{marked-put, total-code}
-use borrow.Author.Rules.{rules}
 use Rattle.contents.proofs.by_postings.mark_rows.Goals as goal
 
 pub loop-p-init : goal.loop-p-init
@@ -15,12 +14,6 @@ loop-p-init c =
 pub literal_count-count-requires : goal.literal_count-count-requires
 literal_count-count-requires c =
     holds-code c.args.rows c.args.slots.now c.requires.fact_1 c.loop-p.p c.slot_at-slot.ensures.slot c.loop-p-test.true
-
-pub overflow_add-count : goal.overflow_add-count
-overflow_add-count c =
-    let k = c.literal_count-count.ensures.1 in
-    let f = c.requires.fact_1.over.few in
-    search rules
 
 pub first_place-requires : goal.first_place-requires
 first_place-requires c =
@@ -40,10 +33,7 @@ loop-p-preserved c =
           (subst (Form _) (total-code c.args.slots.now c.loop-p.p c.slot_at-slot.ensures.slot) c.first_place.ensures),
     )
 
-pub returns : goal.returns
-returns c =
+pub returns-clause-lower_bound : goal.returns-clause-lower_bound
+returns-clause-lower_bound c =
     let z = total-end c.args.rows c.args.slots.now c.requires.fact_1 c.loop-p.p c.loop-p-test.false in
-    let e : c.loop-p.p ≡ c.args.rows = omega (arith, c.loop-p-test.false) in record {
-      lower_bound = (omega (arith, c.loop-p.invariant.1), omega (arith, c.loop-p.invariant.0));
-      marked = subst (λ (m : ℕ). Marked m c.args.slots.now c.loop-p.places) e c.loop-p.invariant.2;
-    }
+    (omega (arith, c.loop-p.invariant.1), omega (arith, c.loop-p.invariant.0, c.loop-p-test.false))

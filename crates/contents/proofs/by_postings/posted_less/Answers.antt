@@ -8,18 +8,15 @@ use Rattle.model.specs.Records.{max_rows}
 use Rattle.model.specs.Postings.{postings_of}
 use Rattle.slots.specs.Layout.{rows_in}
 use Rattle.contents.proofs.Filing.{holds-code, posted-none, posted-code, none-less}
-use borrow.Author.Rules.{rules}
 use Rattle.contents.proofs.by_postings.posted_less.Goals as goal
 
 pub returns-then-rows-p : goal.returns-then-rows-p
 returns-then-rows-p c =
     ap (λ (t : ℕ). ltb t c.args.often) (posted-none c.args.rows c.args.slots.now c.requires c.args.posting c.if-rows-p.true)
 
-pub has_atom-requires : goal.has_atom-requires
-has_atom-requires c = record {
-  fact_1 = holds-code c.args.rows c.args.slots.now c.requires (c.args.posting % max_rows) c.slot_at-slot.ensures.slot c.if-rows-p.false;
-  fact_2 = search rules;
-}
+pub has_atom-requires-clause-fact_1 : goal.has_atom-requires-clause-fact_1
+has_atom-requires-clause-fact_1 c =
+    holds-code c.args.rows c.args.slots.now c.requires (c.args.posting % max_rows) c.slot_at-slot.ensures.slot c.if-rows-p.false
 
 pub returns-then-often-eq1 : goal.returns-then-often-eq1
 returns-then-often-eq1 c =
@@ -28,11 +25,9 @@ returns-then-often-eq1 c =
     ∙ none-less (times c.args.posting (postings_of (rows_in c.args.rows c.args.slots.now)))
     ∙ ap (ltb (times c.args.posting (postings_of (rows_in c.args.rows c.args.slots.now)))) (sym c.if-often-eq1.true)
 
-pub times_posted-requires : goal.times_posted-requires
-times_posted-requires c = record {
-  fact_1 = holds-code c.args.rows c.args.slots.now c.requires (c.args.posting % max_rows) c.slot_at-slot.ensures.slot c.if-rows-p.false;
-  fact_2 = search rules;
-}
+pub times_posted-requires-clause-fact_1 : goal.times_posted-requires-clause-fact_1
+times_posted-requires-clause-fact_1 c =
+    holds-code c.args.rows c.args.slots.now c.requires (c.args.posting % max_rows) c.slot_at-slot.ensures.slot c.if-rows-p.false
 
 pub returns : goal.returns
 returns c =

@@ -1,15 +1,8 @@
 -- `contents::by_postings::times_posted`. By the form of the slot. Assumes nothing.
 use mathlib.Core.Path.{ap, ◌∙◌}
-use native.Mathlib.Omega.{arith}
 use Rattle.contents.specs.Lent.{one_if}
-use Rattle.contents.proofs.Holding.{one-le, times-scalar, times-packed}
+use Rattle.contents.proofs.Holding.{times-scalar, times-packed}
 use Rattle.contents.proofs.by_postings.times_posted.Goals as goal
-
-pub overflow_add-result : goal.overflow_add-result
-overflow_add-result c =
-    let x = one-le c.codes_have.result in
-    let y = one-le c.codes_have-then-slot-eq0.result in
-    omega (arith, c.one_if.ensures.0, c.one_if-then-slot-eq0.ensures.0)
 
 pub returns-then-slot-eq0 : goal.returns-then-slot-eq0
 returns-then-slot-eq0 c =
@@ -19,12 +12,6 @@ returns-then-slot-eq0 c =
     c.args.atom _ _
     (c.one_if.ensures.0 ∙ ap one_if c.codes_have.ensures)
     (c.one_if-then-slot-eq0.ensures.0 ∙ ap one_if c.codes_have-then-slot-eq0.ensures)
-
-pub overflow_add-result-2 : goal.overflow_add-result-2
-overflow_add-result-2 c =
-    let x = one-le c.groups_have.result in
-    let y = one-le c.groups_have-2.result in
-    omega (arith, c.one_if-2.ensures.0, c.one_if-3.ensures.0)
 
 pub returns : goal.returns
 returns c =

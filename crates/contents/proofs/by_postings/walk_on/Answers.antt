@@ -1,50 +1,20 @@
-use Rattle.std.proofs.Common.{refl, sym, subst, arith, ℕ, List, ◌+◌, ◌≤◌, ◌<◌, length, length-take, length-drop}
-use Rattle.lists.specs.Counts.{times}
+use Rattle.std.proofs.Common.{refl, subst, ℕ, List}
 use Rattle.model.specs.Postings.{postings_of}
 use Rattle.slots.specs.Layout.{rows_in}
 use Rattle.contents.specs.Marked.{Walked}
-use Rattle.contents.proofs.Marks.{rest_at, walked-above}
+use Rattle.contents.proofs.Marks.{walked-above}
 use Rattle.contents.proofs.by_postings.walk_on.Goals as goal
 
-pub loop-word-init : goal.loop-word-init
-loop-word-init c = record { at = omega arith; marked = c.requires.fact_3; walked = c.requires.fact_4 }
-
-pub sees-requires-clause-fact_3 : goal.sees-requires-clause-fact_3
-sees-requires-clause-fact_3 c = c.loop-word.invariant.marked
-
-pub overflow_add-walk : goal.overflow_add-walk
-overflow_add-walk c =
-    omega (arith, c.loop-word.invariant.at, c.loop-word-test.true, length-take {A = ℕ}, length-drop {A = ℕ})
-
-pub loop-word-preserved : goal.loop-word-preserved
-loop-word-preserved c =
+pub loop-at-preserved : goal.loop-at-preserved
+loop-at-preserved c =
     let a = c.args in
-    let v = c.loop-word.invariant in
-    let w = c.loop-word.walk in
-    let ws = a.words.now in
+    let v = c.loop-at.invariant in
+    let w = c.loop-at.walk in
     let due : List ℕ = postings_of (rows_in a.rows a.slots.now) in
-    let l : w.at < length ws = omega (arith, v.at, c.loop-word-test.true, length-take {A = ℕ}, length-drop {A = ℕ}) in
-    let e = rest_at ws a.from.at c.loop-word.word-index w.at v.at in record {
-      at = omega (arith, v.at);
+    let far = subst (λ (i : ℕ). Walked a.words.now due i w.word w.often) v.at v.walked in record {
+      at = refl;
       marked = c.sees.ensures.marked;
       walked =
-          subst (λ (x : ℕ). Walked ws due (w.at + 1) x 1) (sym e)
-          (walked-above ws due w.at w.word w.often v.walked l (omega (arith, e, c.if-x-walk.false))
-          (subst (λ (x : ℕ). 1 ≤ times x due) e (c.if-not-sees.ensures.bound refl c.if-x-lt-MAX_ROWS.false)));
+          walked-above a.words.now due c.loop-at.at w.word w.often far c.loop-at-test.true c.if-x-walk.false
+          (c.if-not-sees.ensures.bound refl c.if-x-lt-MAX_ROWS.false);
     }
-
-pub returns-after-loop-word : goal.returns-after-loop-word
-returns-after-loop-word c = let v = c.loop-word.invariant in record { walked = v.walked; at_le_at = omega (arith, v.at); marked = v.marked }
-
-pub returns-then-x-walk : goal.returns-then-x-walk
-returns-then-x-walk c = let v = c.loop-word.invariant in record { walked = v.walked; at_le_at = omega (arith, v.at); marked = v.marked }
-
-pub returns-then-not-sees : goal.returns-then-not-sees
-returns-then-not-sees c =
-    let v = c.loop-word.invariant in
-    record { walked = v.walked; at_le_at = omega (arith, v.at); marked = c.sees.ensures.marked }
-
-pub returns-then-x-lt-MAX_ROWS : goal.returns-then-x-lt-MAX_ROWS
-returns-then-x-lt-MAX_ROWS c =
-    let v = c.loop-word.invariant in
-    record { walked = v.walked; at_le_at = omega (arith, v.at); marked = c.sees.ensures.marked }

@@ -1,13 +1,13 @@
 -- `contents::by_postings::walk_on`. Each word above the last one and posted at least once is met once. Assumes nothing.
-use Rattle.std.proofs.Common.{◌≡◌, ◌+◌}
+use Rattle.std.proofs.Common.{◌≡◌}
 use Rattle.model.specs.Postings.{postings_of}
 use Rattle.slots.specs.Layout.{rows_in}
 use Rattle.contents.specs.Marked.{Marked, Walked}
 use Rattle.contents.proofs.by_postings.walk_on.Given as goal
 
-abbrev pub invariant-loop-word : goal.invariant-loop-word
-invariant-loop-word l = record {
-  at : l.walk.at ≡ l.fn.from.at + l.word-index;
+abbrev pub invariant-loop-at : goal.invariant-loop-at
+invariant-loop-at l = record {
+  at : l.walk.at ≡ l.at;
   marked : Marked l.rows l.slots l.places;
   walked : Walked l.words (postings_of (rows_in l.rows l.slots)) l.walk.at l.walk.word l.walk.often;
 }

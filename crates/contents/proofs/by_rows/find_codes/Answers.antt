@@ -18,14 +18,17 @@ loop-code-init c =
       met = tt;
       few = omega arith;
       sum = omega (arith, later-start a.codes.now);
-      grown = grown-none a.words.now a.position a.places.now (λ k. one_if (has_atom k (take 0 a.codes.now))) (λ k. has-nothing k a.codes.now);
+      grown =
+          grown-none a.words.now a.position a.places.now (λ k. one_if (has_atom k (take 0 a.codes.now)))
+          (λ k. has-nothing k a.codes.now);
     }
 
 pub find_new-requires-clause-fact_4 : goal.find_new-requires-clause-fact_4
 find_new-requires-clause-fact_4 c =
     let a = c.args in
-    let b : get_or a.codes.now c.loop-code.code-index 0
-    < codes_wide code_bits = each_at (λ v. v < codes_wide code_bits) a.codes.now c.loop-code.code-index c.requires.fact_4 c.loop-code-test.true in
+    let i = c.loop-code.code-index in
+    let b : get_or a.codes.now i 0 < codes_wide code_bits =
+    each_at (λ v. v < codes_wide code_bits) a.codes.now i c.requires.fact_4 c.loop-code-test.true in
     omega arith
 
 pub overflow_add-count : goal.overflow_add-count

@@ -8,10 +8,12 @@ use Rattle.contents.proofs.by_rows.find_row.Goals.{In_ok-n, After-atom_count}
 use Rattle.contents.proofs.by_rows.find_row.Goals as goal
 
 -- the number that is returned
-counted-scalar : (c : In_ok-n) → let ws = c.args.slot.now in get_or ws 0 0 + c.in_ok-n.n ≡ length (posted_atoms (row_in ws))
+counted-scalar : (c : In_ok-n) → let ws = c.args.slot.now in
+    get_or ws 0 0 + c.in_ok-n.n ≡ length (posted_atoms (row_in ws))
 counted-scalar c = count_scalar c.args.slot.now c.requires.fact_4 c.if-slot-eq0.true _ c.in_ok-n.ensures.0
 
-counted-packed : (c : After-atom_count) → let ws = c.args.slot.now in get_or ws 0 0 + c.atom_count.result ≡ length (posted_atoms (row_in ws))
+counted-packed : (c : After-atom_count) → let ws = c.args.slot.now in
+    get_or ws 0 0 + c.atom_count.result ≡ length (posted_atoms (row_in ws))
 counted-packed c = count-packed c.args.slot.now c.requires.fact_4 c.if-slot-eq0.false _ c.atom_count.ensures
 
 pub find_codes-requires-clause-fact_4 : goal.find_codes-requires-clause-fact_4

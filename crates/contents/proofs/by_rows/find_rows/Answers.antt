@@ -12,8 +12,10 @@ step : (c : In_ok-found) → let a = c.args in
     let p = c.loop-p.p in
     let n = c.in_ok-found.found in
     (n ≤ posting_words)
-    × (length (postings_from p (rows_from a.rows a.slots.now p)) ≡ n + length (postings_from (p + 1) (rows_from a.rows a.slots.now (p + 1))))
-step c = total-step c.args.rows c.args.slots.now c.requires.fact_3 c.loop-p.p _ c.slot_at.ensures.slot c.loop-p-test.true c.in_ok-found.ensures.0
+    × (length (postings_from p (rows_from a.rows a.slots.now p))
+    ≡ n + length (postings_from (p + 1) (rows_from a.rows a.slots.now (p + 1))))
+step c =
+    total-step c.args.rows c.args.slots.now c.requires.fact_3 c.loop-p.p _ c.slot_at.ensures.slot c.loop-p-test.true c.in_ok-found.ensures.0
 
 pub loop-p-init : goal.loop-p-init
 loop-p-init c = record {
@@ -23,7 +25,8 @@ loop-p-init c = record {
 }
 
 pub find_row-requires-clause-fact_4 : goal.find_row-requires-clause-fact_4
-find_row-requires-clause-fact_4 c = holds-code c.args.rows c.args.slots.now c.requires.fact_3 c.loop-p.p c.slot_at.ensures.slot c.loop-p-test.true
+find_row-requires-clause-fact_4 c =
+    holds-code c.args.rows c.args.slots.now c.requires.fact_3 c.loop-p.p c.slot_at.ensures.slot c.loop-p-test.true
 
 pub overflow_add-count : goal.overflow_add-count
 overflow_add-count c = omega (arith, (step c).0, c.loop-p-test.true, c.loop-p.invariant.few, c.requires.fact_3.over.few)
@@ -36,8 +39,8 @@ loop-p-preserved c =
       few = omega (arith, n.0, v.few);
       sum = omega (arith, n.1, v.sum);
       met =
-          rows_more a.words.now a.slots.now a.rows c.requires.fact_3 c.loop-p.places _ c.loop-p.p c.slot_at.ensures.slot c.loop-p-test.true c.in_ok-found.ensures.1
-          v.met;
+          rows_more a.words.now a.slots.now a.rows c.requires.fact_3 c.loop-p.places _ c.loop-p.p c.slot_at.ensures.slot
+          c.loop-p-test.true c.in_ok-found.ensures.1 v.met;
     }
 
 pub returns : goal.returns

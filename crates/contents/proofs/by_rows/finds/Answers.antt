@@ -1,14 +1,7 @@
 -- `contents::by_rows::finds`. The posting stands there, or the answer is no. Assumes nothing.
 use mathlib.Core.Path.{refl}
-use mathlib.Core.Bool.{false≢true}
 use Rattle.contents.proofs.Places.{filed-one}
 use Rattle.contents.proofs.by_rows.finds.Goals as goal
-
-pub returns-then-words-i : goal.returns-then-words-i
-returns-then-words-i c = λ e. absurd (false≢true e)
-
-pub returns-then-words-i-2 : goal.returns-then-words-i-2
-returns-then-words-i-2 c = λ e. absurd (false≢true e)
 
 pub returns : goal.returns
 returns c =
