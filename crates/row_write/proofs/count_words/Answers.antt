@@ -23,9 +23,6 @@ loop-code-init c =
     let u = group-under max_atoms cs 0 c.requires c.in-len1-up.len_at_least in
     (omega (arith, ap length (rest-is cs)), omega arith, omega (arith, count-start cs c.in-len1-up.len_at_least, ap length (rest-is cs)))
 
-pub overflow_sub-count : goal.overflow_sub-count
-overflow_sub-count c = omega arith
-
 pub overflow_cast-previous-in-loop-code : goal.overflow_cast-previous-in-loop-code
 overflow_cast-previous-in-loop-code c = omega (arith, rest-under max_atoms c.args.codes.now c.loop-code.code-index c.requires c.loop-code-test.true)
 

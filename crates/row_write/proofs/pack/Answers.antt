@@ -43,14 +43,8 @@ overflow_mul-at c = omega (arith, few c)
 pub overflow_sub-at : goal.overflow_sub-at
 overflow_sub-at c = omega (arith, fits c)
 
-pub enter-requires : goal.enter-requires
-enter-requires c =
-    let at_after_begins = (goal.at.enter-requires c).After-begins in
-    let b = c.loop-code.invariant.1 in
-    let p = c.requires in record {
-      fact_1 = omega (arith, room at_after_begins);
-      fact_2 = omega (arith, room at_after_begins, b.long, p.fact_1, p.fact_2);
-    }
+pub enter-requires-clause-fact_1 : goal.enter-requires-clause-fact_1
+enter-requires-clause-fact_1 c = omega (arith, room (goal.at.enter-requires-clause-fact_1 c).After-begins)
 
 pub loop-code-preserved : goal.loop-code-preserved
 loop-code-preserved c =
