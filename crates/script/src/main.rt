@@ -5,20 +5,21 @@
 mod dispatch;
 mod feed;
 
+use script_notation::ledgers::Memory;
 use script_notation::memory;
 
 fn main(rt: HostRuntime) {
     let mut buf = memory::text();
-    let mut table = memory::table();
+    let mut heads = memory::heads();
     let mut slots = memory::slots();
     let mut postings = memory::postings();
+    let mut points = memory::points();
     let mut out = io::large_buffer();
-    feed::run(
-        rt.stdin(),
-        &mut buf,
-        &mut table,
-        &mut slots,
-        &mut postings,
-        &mut out,
-    );
+    let mut shared = Memory {
+        heads: &mut heads,
+        slots: &mut slots,
+        postings: &mut postings,
+        points: &mut points,
+    };
+    feed::run(rt.stdin(), &mut buf, &mut shared, &mut out);
 }

@@ -1,14 +1,70 @@
 // The codes of a row, read from the words of its slot, whatever they are.
-ghost use Rattle.std.specs.Prelude.{◌≤◌, length};
-ghost use Rattle.model.specs.Records.{body_at};
+ghost use Rattle.std.specs.Prelude.{◌+◌, ◌≤◌, length};
+ghost use Rattle.model.specs.Records.{max_outputs};
 
 use model::{
-    BODY_AT, CONDITION_GROUPS_AT, CONDITIONS_AT, GROUP_WORDS, OUTPUTS_AT, SLOT_WORDS,
+    BODY_AT, CONDITION_GROUPS_AT, CONDITIONS_AT, GROUP_WORDS, MAX_OUTPUTS, OUTPUTS_AT, SLOT_WORDS,
     TOTAL_GROUPS_AT,
 };
 use std::num::wrapping_sub_u64;
-use text::Span;
 use words::{MAX_ATOMS, WORD_BITS};
+
+// The most codes that a side of a row has.
+const MOST: usize = MAX_OUTPUTS as usize;
+
+// The words of a slot.
+pub type Slot = [u64; SLOT_WORDS];
+
+// Codes, as many as a side of a row has at most.
+#[derive(Drop)]
+pub struct Codes {
+    list: [u64; MOST],
+    count: usize,
+    ghost fit: { count ≤ max_outputs },
+}
+
+impl Codes {
+    // None.
+    pub fn new() -> Codes {
+        Codes {
+            list: [0; MOST],
+            count: 0,
+        }
+    }
+
+    // A code behind the others, where there is room.
+    fn push(&mut self, code: u64) {
+        if self.count < MOST {
+            self.list[self.count] = code;
+            self.count += 1;
+        }
+    }
+
+    // The codes of a group behind the others: of two signs absent is first.
+    fn push_group(&mut self, index: u64, present: u64, absent: u64) {
+        if MAX_ATOMS <= index {
+            return;
+        }
+        for bit in 0..WORD_BITS {
+            let code = 2 * (WORD_BITS * index + bit);
+            if (absent >> bit) % 2 == 1 {
+                self.push(code);
+            }
+            if (present >> bit) % 2 == 1 {
+                self.push(code + 1);
+            }
+        }
+    }
+
+    pub fn as_slice(&self) -> &[u64] {
+        &self.list[..self.count]
+    }
+}
+
+// Whether a row is packed: its codes stand in groups.
+pub fn is_packed(slot: &Slot) -> bool {
+    slot[TOTAL_GROUPS_AT] != 0
+}
 
 // The words of so many codes or groups; none where a slot cannot have as many.
 fn word_count(packed: bool, count: u64) -> usize {
@@ -21,134 +77,56 @@ fn word_count(packed: bool, count: u64) -> usize {
     count as usize
 }
 
-// So many codes or groups from `from` on; none where the slot ends before.
-pub fn span(slot: &[u64], from: usize, packed: bool, count: u64) -> Span
-    requires { from ≤ length slot.now }
-    ensures { (result.from ≤ result.to) × (result.to ≤ length slot.now) }
+// The words of the first so many codes or groups; none where there are not as many.
+pub fn front(words: &[u64], packed: bool, count: u64) -> &[u64]
+    ensures { length result.now ≤ length words.now }
 {
-    let n = word_count(packed, count);
-    if n <= slot.len() - from {
-        return Span { from, to: from + n };
-    }
-    Span { from, to: from }
-}
-
-// A code behind the others, where it is there and there is room.
-fn push(list: &mut [u64], n: usize, there: bool, code: u64) -> usize
-    requires { n ≤ length list.old }
-    ensures { result ≤ length list.old }
-{
-    if !there {
-        return n;
-    }
-    if n < list.len() {
-        list[n] = code;
-        return n + 1;
-    }
-    n
-}
-
-// The codes of a group behind the others: of two signs absent is first.
-fn push_group(list: &mut [u64], n: usize, index: u64, present: u64, absent: u64) -> usize
-    requires { n ≤ length list.old }
-    ensures { result ≤ length list.old }
-{
-    if MAX_ATOMS <= index {
-        return n;
-    }
-    let mut count = n;
-    let mut bit: u64 = 0;
-    while bit < WORD_BITS {
-        let code = 2 * (WORD_BITS * index + bit);
-        count = push(list, count, (absent >> bit) % 2 == 1, code);
-        count = push(list, count, (present >> bit) % 2 == 1, code + 1);
-        bit += 1;
-    }
-    count
-}
-
-// The codes of groups, put into a list.
-fn unpack(groups: &[u64], list: &mut [u64]) -> usize
-    ensures { result ≤ length list.old }
-{
-    let mut count: usize = 0;
-    let mut i: usize = 0;
-    while GROUP_WORDS <= groups.len() - i {
-        count = push_group(list, count, groups[i], groups[i + 1], groups[i + 2]);
-        i += GROUP_WORDS;
-    }
-    count
-}
-
-// Codes, put into a list.
-fn take(codes: &[u64], list: &mut [u64]) -> usize
-    ensures { result ≤ length list.old }
-{
-    let mut count: usize = 0;
-    let mut i: usize = 0;
-    while i < codes.len() {
-        count = push(list, count, true, codes[i]);
-        i += 1;
-    }
-    count
+    words.get(..word_count(packed, count)).unwrap_or(&[])
 }
 
 // The words of the conditions of a slot.
-fn conditions(slot: &[u64]) -> Span
-    requires { body_at ≤ length slot.now }
-    ensures { (result.from ≤ result.to) × (result.to ≤ length slot.now) }
+fn conditions(slot: &Slot) -> &[u64]
+    ensures { BODY_AT + length result.now ≤ SLOT_WORDS }
 {
-    if slot[TOTAL_GROUPS_AT] == 0 {
-        return span(slot, BODY_AT, false, slot[CONDITIONS_AT]);
+    let body = &slot[BODY_AT..];
+    if is_packed(slot) {
+        return front(body, true, slot[CONDITION_GROUPS_AT]);
     }
-    span(slot, BODY_AT, true, slot[CONDITION_GROUPS_AT])
+    front(body, false, slot[CONDITIONS_AT])
 }
 
 // The words of the outputs of a slot.
-fn outputs(slot: &[u64]) -> Span
-    requires { body_at ≤ length slot.now }
-    ensures { (result.from ≤ result.to) × (result.to ≤ length slot.now) }
-{
-    let c = conditions(slot);
-    if slot[TOTAL_GROUPS_AT] == 0 {
-        return span(slot, c.to, false, slot[OUTPUTS_AT]);
+fn outputs(slot: &Slot) -> &[u64] {
+    let behind = &slot[BODY_AT + conditions(slot).len()..];
+    if is_packed(slot) {
+        let groups = wrapping_sub_u64(slot[TOTAL_GROUPS_AT], slot[CONDITION_GROUPS_AT]);
+        return front(behind, true, groups);
     }
-    span(
-        slot,
-        c.to,
-        true,
-        wrapping_sub_u64(slot[TOTAL_GROUPS_AT], slot[CONDITION_GROUPS_AT]),
-    )
+    front(behind, false, slot[OUTPUTS_AT])
 }
 
-// The codes of one side of a row, put into a list.
-fn codes(packed: bool, side: &[u64], list: &mut [u64]) -> usize
-    ensures { result ≤ length list.old }
-{
+// The codes of one side of a row, from its words.
+fn codes_in(packed: bool, side: &[u64]) -> Codes {
+    let mut codes = Codes::new();
     if packed {
-        return unpack(side, list);
+        let (groups, _) = side.as_chunks::<GROUP_WORDS>();
+        for group in groups {
+            codes.push_group(group[0], group[1], group[2]);
+        }
+    } else {
+        for code in side {
+            codes.push(*code);
+        }
     }
-    take(side, list)
+    codes
 }
 
-// The codes of the conditions of a row, put into a list.
-pub fn condition_codes(slot: &[u64], list: &mut [u64]) -> usize
-    requires { body_at ≤ length slot.now }
-    ensures { result ≤ length list.old }
-{
-    let c = conditions(slot);
-    let a = c.from;
-    let e = c.to;
-    codes(slot[TOTAL_GROUPS_AT] != 0, &slot[a..e], list)
+// The codes of the conditions of a row.
+pub fn condition_codes(slot: &Slot) -> Codes {
+    codes_in(is_packed(slot), conditions(slot))
 }
 
-// The codes of the outputs of a row, put into a list.
-pub fn output_codes(slot: &[u64], list: &mut [u64]) -> usize
-    requires { body_at ≤ length slot.now }
-    ensures { result ≤ length list.old }
-{
-    let o = outputs(slot);
-    let a = o.from;
-    let e = o.to;
-    codes(slot[TOTAL_GROUPS_AT] != 0, &slot[a..e], list)
+// The codes of the outputs of a row.
+pub fn output_codes(slot: &Slot) -> Codes {
+    codes_in(is_packed(slot), outputs(slot))
 }

@@ -7,60 +7,39 @@ use wire::{
 };
 
 // The beginning of a line: the call, as it stands in the line that is answered, and a ledger's number.
-pub fn put_call(out: &mut [u8], at: usize, s: &[u8], index: u64) -> usize {
-    let w = word(s, 0);
-    let from = w.from;
-    let to = w.to;
-    let at = put_text(out, at, &s[from..to]);
+pub fn put_call(out: &mut [u8], at: usize, line: &[u8], index: u64) -> usize {
+    let (call, _) = word(line, 0);
+    let at = put_text(out, at, call);
     put_field(out, at, b" ", index)
 }
 
-// The whole end of a line that refuses.
+// The whole end of a line that refuses, by the number that the function for C gave, which is 0 where it does not.
 pub fn put_refused(out: &mut [u8], at: usize, n: u64) -> usize {
     let at = put_field(out, at, b" Refused ", n);
     put_text(out, at, b" charge=0")
 }
 
-// The answer's case by its name, the word of `names` that it counts. Where the name ends with a colon the answer's value stands for it.
+// The answer's case by its name, the word of `names` that it counts.
 pub fn put_case(out: &mut [u8], at: usize, names: &[u8], answer: &[u64; ANSWER_WORDS]) -> usize {
-    let w = nth(names, answer[0]);
-    let from = w.from;
-    let to = w.to;
     let at = put(out, at, b' ');
-    if from < to {
-        let last = to - 1;
-        if names[last] == b':' {
-            let at = put_text(out, at, &names[from..last]);
-            return put_field(out, at, b" ", answer[1]);
-        }
-    }
-    put_text(out, at, &names[from..to])
+    put_text(out, at, nth(names, answer[0] as usize))
 }
 
 // The seed mark of a header.
-fn put_mark(out: &mut [u8], at: usize, marked: u64, number: u64, born: u64) -> usize {
-    if marked == 0 {
+fn put_mark(out: &mut [u8], at: usize, head: &[u64; HEADER_WORDS]) -> usize {
+    if head[HEAD_MARKED_AT] == 0 {
         return put_text(out, at, b" mark=none");
     }
-    let at = put_field(out, at, b" mark=", number);
-    put_field(out, at, b":", born)
+    let at = put_field(out, at, b" mark=", head[HEAD_MARK_NUMBER_AT]);
+    put_field(out, at, b":", head[HEAD_MARK_BORN_AT])
 }
 
 // The header, but for its limits and its number.
-pub fn put_head(out: &mut [u8], at: usize, head: &[u64]) -> usize {
-    if head.len() < HEADER_WORDS {
-        return at;
-    }
+pub fn put_head(out: &mut [u8], at: usize, head: &[u64; HEADER_WORDS]) -> usize {
     let names =
         b"rows= born= epoch= attempts= remaining= sharing= evicted= deliveries= seeded= stale= full=";
     let at = put_fields(out, at, names, &head[HEAD_ROWS_AT..HEAD_MARKED_AT]);
-    let at = put_mark(
-        out,
-        at,
-        head[HEAD_MARKED_AT],
-        head[HEAD_MARK_NUMBER_AT],
-        head[HEAD_MARK_BORN_AT],
-    );
+    let at = put_mark(out, at, head);
     put_field(out, at, b" founded=", head[HEAD_FOUNDED_AT])
 }
 
@@ -70,7 +49,7 @@ pub fn put_charge(out: &mut [u8], at: usize, ticks: u64) -> usize {
 }
 
 // The end of a line: the charge and the header.
-pub fn put_end(out: &mut [u8], at: usize, ticks: u64, head: &[u64]) -> usize {
+pub fn put_end(out: &mut [u8], at: usize, ticks: u64, head: &[u64; HEADER_WORDS]) -> usize {
     let at = put_charge(out, at, ticks);
     put_head(out, at, head)
 }

@@ -1,8 +1,6 @@
-// The calls of the script language.
-ghost use Rattle.std.specs.Prelude.{◌≤◌, length};
+// The calls of the script language, and why a line is none.
 
-// A call, and a word that is none.
-#[derive(Clone, Copy)]
+#[derive(Clone, Copy, Debug, PartialEq, Eq)]
 pub enum Call {
     Make,
     Decide,
@@ -21,49 +19,53 @@ pub enum Call {
     Next,
     Candidates,
     Dump,
-    Unknown,
 }
 
-// The place after an answer line, whose end is yet to be put; or a line that is no call, for which nothing was put.
-#[derive(Clone, Copy)]
-pub enum Said {
-    Line(usize),
-    Error,
+// Why a line is answered by `error LINE`: then nothing was put for it, and no ledger and no name has changed.
+#[derive(Clone, Copy, Debug, PartialEq, Eq)]
+pub enum LineError {
+    // Its first word is no call.
+    UnknownCall,
+    // The words behind the call are not those that it takes.
+    Malformed,
+    // There is no such ledger, or it is not made.
+    NoLedger,
+    // The program has no room for the ledger, the atoms or the name.
+    NoRoom,
+    // The atom has another name, or the name is another atom's.
+    NameTaken,
 }
 
-// A call on one ledger: the ledger's number, the place after it in the line, and the place for the answer.
+// A call on one ledger: the ledger's number, the line and the place after that number in it, and the place for the answer.
 #[derive(Clone, Copy)]
-pub struct Asked {
+pub struct Asked<'a> {
     pub call: Call,
     pub index: u64,
+    pub line: &'a [u8],
     pub at: usize,
     pub to: usize,
 }
 
-// The call that the bytes from `from` on and before `to` name.
-pub fn call_of(s: &[u8], from: usize, to: usize) -> Call
-    requires { (from ≤ to) × (to ≤ length s.now) }
-{
-    let names =
-        b"make decide reset point seed deliver begin hit offer rule tip deduce close plan next candidates dump";
-    match text::position(s, from, to, names) {
-        0 => Call::Make,
-        1 => Call::Decide,
-        2 => Call::Reset,
-        3 => Call::Point,
-        4 => Call::Seed,
-        5 => Call::Deliver,
-        6 => Call::Begin,
-        7 => Call::Hit,
-        8 => Call::Offer,
-        9 => Call::Rule,
-        10 => Call::Tip,
-        11 => Call::Deduce,
-        12 => Call::Close,
-        13 => Call::Plan,
-        14 => Call::Next,
-        15 => Call::Candidates,
-        16 => Call::Dump,
-        _ => Call::Unknown,
+// The call that a word names.
+pub fn call_of(word: &[u8]) -> Option<Call> {
+    match word {
+        b"make" => Some(Call::Make),
+        b"decide" => Some(Call::Decide),
+        b"reset" => Some(Call::Reset),
+        b"point" => Some(Call::Point),
+        b"seed" => Some(Call::Seed),
+        b"deliver" => Some(Call::Deliver),
+        b"begin" => Some(Call::Begin),
+        b"hit" => Some(Call::Hit),
+        b"offer" => Some(Call::Offer),
+        b"rule" => Some(Call::Rule),
+        b"tip" => Some(Call::Tip),
+        b"deduce" => Some(Call::Deduce),
+        b"close" => Some(Call::Close),
+        b"plan" => Some(Call::Plan),
+        b"next" => Some(Call::Next),
+        b"candidates" => Some(Call::Candidates),
+        b"dump" => Some(Call::Dump),
+        _ => None,
     }
 }

@@ -4,8 +4,8 @@
 
 pub mod arguments;
 pub mod calls;
+pub mod ledgers;
 pub mod literals;
 pub mod memory;
-pub mod places;
 pub mod points;
 pub mod regions;

@@ -4,68 +4,45 @@ ghost use Rattle.std.specs.Prelude.{◌≤◌, length};
 use crate::arguments::Lists;
 use crate::literals::CODES;
 use crate::memory::ATOMS;
-use crate::points::put_atom;
+use crate::points::{Point, put_atom};
 use std::num::wrapping_add_u64;
-use text::{Parsed, ended, find, is_text, put, put_comma, put_text, value, word};
+use text::{ended, put, put_comma, put_text, value, word};
 use words::{Found, WORD_BITS};
 
-// A set that was read: the place after it, and whether every atom lies below its bound; `ok` is false for a word that is no list.
+// A set that was read: whether every atom lies below its bound, and the place after it.
 #[derive(Clone, Copy)]
 struct Set {
-    ok: bool,
     fit: bool,
     at: usize,
 }
 
-// Puts an atom below `atoms` among the words; `fit` becomes false where it is none.
-fn mark(atoms: u64, atom: u64, words: &mut [u64], fit: bool) -> bool {
+// Puts an atom among the words where it is below `atoms`, and answers whether it is.
+fn mark(atoms: u64, atom: u64, words: &mut [u64]) -> bool {
     if atoms <= atom {
         return false;
     }
     words::insert(words, atom);
-    fit
+    true
 }
 
-// The atoms between the commas of a word.
-fn read_atoms(s: &[u8], from: usize, to: usize, atoms: u64, words: &mut [u64]) -> Set
-    requires { (from ≤ to) × (to ≤ length s.now) }
-{
+// The atoms between the commas of a word, put among the words; answers whether every one is below `atoms`.
+fn read_atoms(word: &[u8], atoms: u64, words: &mut [u64]) -> Option<bool> {
     let mut fit = true;
-    let mut i = from;
-    loop {
-        let end = find(s, i, to, b',');
-        let Parsed::Number(atom, _) = value(s, i, end) else {
-            return Set {
-                ok: false,
-                fit: false,
-                at: 0,
-            };
-        };
-        fit = mark(atoms, atom, words, fit);
-        if to <= end {
-            return Set {
-                ok: true,
-                fit,
-                at: to,
-            };
-        }
-        i = end + 1;
+    for item in word.split(|byte| *byte == b',') {
+        let atom = value(item)?;
+        fit = mark(atoms, atom, words) && fit;
     }
+    Some(fit)
 }
 
 // The list of atoms that the next word is, put among the words, which hold none yet.
-fn read_set(s: &[u8], at: usize, atoms: u64, words: &mut [u64]) -> Set {
-    let w = word(s, at);
-    let from = w.from;
-    let to = w.to;
-    if is_text(s, from, to, b"-") {
-        return Set {
-            ok: true,
-            fit: true,
-            at: to,
-        };
+fn read_set(line: &[u8], at: usize, atoms: u64, words: &mut [u64]) -> Option<Set> {
+    let (word, at) = word(line, at);
+    if word == b"-".as_slice() {
+        return Some(Set { fit: true, at });
     }
-    read_atoms(s, from, to, atoms, words)
+    let fit = read_atoms(word, atoms, words)?;
+    Some(Set { fit, at })
 }
 
 // How many words a set over `atoms` atoms has: one too many where an atom does not fit, none where `atoms` is too large. Such words are no
@@ -76,101 +53,98 @@ fn word_count(atoms: u64, words: &[u64], fit: bool) -> usize
     if ATOMS < atoms {
         return 0;
     }
-    let n = ((atoms + (WORD_BITS - 1)) / WORD_BITS) as usize;
+    let n = atoms.div_ceil(WORD_BITS) as usize;
     if words.len() <= n {
         return 0;
     }
-    if fit {
-        return n;
-    }
-    n + 1
+    if fit { n } else { n + 1 }
 }
 
-// The two lists from `at` on, held and cut, as a region over `atoms` atoms. The words hold no atom yet.
-pub fn read_region(s: &[u8], at: usize, atoms: u64, held: &mut [u64], cut: &mut [u64]) -> Lists
-    ensures { (result.first ≤ length held.old) × (result.second ≤ length cut.old) }
-{
-    let h = read_set(s, at, atoms, held);
-    let c = read_set(s, h.at, atoms, cut);
+// The region over `atoms` atoms that these words hold, if all its atoms fit.
+fn region<'a>(
+    atoms: u64,
+    held: &'a mut [u64],
+    held_fit: bool,
+    cut: &'a mut [u64],
+    cut_fit: bool,
+) -> Lists<'a> {
+    let n = word_count(atoms, held, held_fit);
+    let m = word_count(atoms, cut, cut_fit);
     Lists {
-        ok: h.ok && c.ok && ended(s, c.at),
-        first: word_count(atoms, held, h.fit),
-        second: word_count(atoms, cut, c.fit),
+        first: &mut held[..n],
+        second: &mut cut[..m],
         source: 0,
     }
 }
 
-// Puts the atom of a literal among those held or cut; `fit` becomes false where it is not below `atoms`.
-fn mark_code(atoms: u64, code: u64, held: &mut [u64], cut: &mut [u64], fit: bool) -> bool {
-    if code % 2 == 1 {
-        return mark(atoms, code / 2, held, fit);
+// The two lists from `at` on, held and cut, as a region over `atoms` atoms. The words hold no atom yet.
+pub fn read_region<'a>(
+    line: &[u8],
+    at: usize,
+    atoms: u64,
+    held: &'a mut [u64],
+    cut: &'a mut [u64],
+) -> Option<Lists<'a>> {
+    let h = read_set(line, at, atoms, held)?;
+    let c = read_set(line, h.at, atoms, cut)?;
+    if !ended(line, c.at) {
+        return None;
     }
-    mark(atoms, code / 2, cut, fit)
+    Some(region(atoms, held, h.fit, cut, c.fit))
+}
+
+// Puts the atom of a literal among those held or cut, and answers whether it is below `atoms`.
+fn mark_code(atoms: u64, code: u64, held: &mut [u64], cut: &mut [u64]) -> bool {
+    if code % 2 == 1 {
+        mark(atoms, code / 2, held)
+    } else {
+        mark(atoms, code / 2, cut)
+    }
 }
 
 // Puts the atoms of all literals of a set among those held and cut, and answers whether all lie below `atoms`.
 fn mark_codes(atoms: u64, set: &[u64], held: &mut [u64], cut: &mut [u64]) -> bool {
     let mut fit = true;
     let mut from: u64 = 0;
-    let mut turns = CODES;
-    while 0 < turns {
+    for _ in 0..CODES {
         let Found::At(code) = words::next_from(CODES, set, from) else {
             return fit;
         };
-        fit = mark_code(atoms, code, held, cut, fit);
+        fit = mark_code(atoms, code, held, cut) && fit;
         from = wrapping_add_u64(code, 1);
-        turns -= 1;
     }
     fit
 }
 
-// The region over `atoms` atoms of the literals of a set of codes, if the line was `ok`. The words hold no atom yet.
-pub fn region_of(ok: bool, atoms: u64, set: &[u64], held: &mut [u64], cut: &mut [u64]) -> Lists
-    ensures { (result.first ≤ length held.old) × (result.second ≤ length cut.old) }
-{
+// The region over `atoms` atoms of the literals of a set of codes. The words hold no atom yet.
+pub fn region_of<'a>(
+    atoms: u64,
+    set: &[u64],
+    held: &'a mut [u64],
+    cut: &'a mut [u64],
+) -> Lists<'a> {
     let fit = mark_codes(atoms, set, held, cut);
-    Lists {
-        ok,
-        first: word_count(atoms, held, fit),
-        second: word_count(atoms, cut, fit),
-        source: 0,
-    }
-}
-
-// A list as far as it is put: the place after it, and whether it has an item.
-#[derive(Clone, Copy)]
-struct Listing {
-    to: usize,
-    some: bool,
-}
-
-// The next atom of a set, where it is one: by its name, or by its number.
-fn put_next(out: &mut [u8], l: Listing, words: &[u64], points: &[u64], atom: u64) -> Listing {
-    if !words::contains(words, atom) {
-        return l;
-    }
-    let to = put_comma(out, l.to, l.some);
-    Listing {
-        to: put_atom(out, to, points, atom),
-        some: true,
-    }
+    region(atoms, held, fit, cut, fit)
 }
 
 // The atoms of a set, with commas between them, or `-` for none.
-fn put_atoms(out: &mut [u8], at: usize, atoms: u64, words: &[u64], points: &[u64]) -> usize {
-    let mut l = Listing {
-        to: at,
-        some: false,
-    };
-    let mut atom: u64 = 0;
-    while atom < atoms {
-        l = put_next(out, l, words, points, atom);
-        atom += 1;
+fn put_atoms(
+    out: &mut [u8],
+    at: usize,
+    atoms: u64,
+    words: &[u64],
+    points: &[Option<Point>],
+) -> usize {
+    let mut to = at;
+    let mut some = false;
+    for atom in 0..atoms {
+        if words::contains(words, atom) {
+            to = put_comma(out, to, some);
+            to = put_atom(out, to, points, atom);
+            some = true;
+        }
     }
-    if l.some {
-        return l.to;
-    }
-    put(out, at, b'-')
+    if some { to } else { put(out, at, b'-') }
 }
 
 // A region: the atoms held, and the atoms cut, by the names that they have in `points`.
@@ -180,7 +154,7 @@ pub fn put_region(
     atoms: u64,
     held: &[u64],
     cut: &[u64],
-    points: &[u64],
+    points: &[Option<Point>],
 ) -> usize {
     let at = put_text(out, at, b" held=");
     let at = put_atoms(out, at, atoms, held, points);

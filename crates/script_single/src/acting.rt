@@ -13,14 +13,18 @@
 ghost use Rattle.std.specs.Prelude.{◌≤◌};
 
 use boundary::{ledger_begin, ledger_close, ledger_deduce, ledger_hit, ledger_offer};
-use script_answers::{put_call, put_case, put_charge, put_head, put_refused, put_row};
-use script_notation::arguments::read_lists;
-use script_notation::calls::{Asked, Call, Said};
+use script_answers::{
+    Deduced, Offered, contradicted, put_call, put_case, put_charge, put_head, put_refused, put_row,
+};
+use script_notation::arguments::{Lists, read_lists};
+use script_notation::calls::{Asked, Call, LineError};
+use script_notation::ledgers::Ledger;
 use script_notation::literals::put_literal;
-use script_notation::memory;
+use script_notation::memory::{self, Head};
+use script_notation::points::Point;
 use script_notation::regions::put_region;
 use text::{kept, put, put_field, put_text};
-use wire::{ANSWER_WORDS, HEAD_ATOMS_AT, HEAD_TIER_ROWS_AT, HEADER_WORDS, METER_WORDS};
+use wire::{ANSWER_WORDS, HEAD_ATOMS_AT, HEAD_TIER_ROWS_AT, METER_WORDS};
 
 // How many numbers stand before the lists.
 fn number_count(call: Call) -> usize
@@ -35,7 +39,7 @@ fn number_count(call: Call) -> usize
 
 // The closing, with scratch as long as the header's limits ask for.
 fn close(
-    head: &mut [u64; HEADER_WORDS],
+    head: &mut Head,
     answer: &mut [u64; ANSWER_WORDS],
     meter: &mut [u64; METER_WORDS],
     slots: &mut [u64],
@@ -47,31 +51,35 @@ fn close(
     let mut atoms = memory::decided();
     let n = kept(&rows, head[HEAD_TIER_ROWS_AT] as usize);
     let m = kept(&atoms, head[HEAD_ATOMS_AT] as usize);
-    let rows = &mut rows[0..n];
-    let atoms = &mut atoms[0..m];
+    let rows = &mut rows[..n];
+    let atoms = &mut atoms[..m];
     ledger_close(head, answer, meter, slots, postings, held, cut, rows, atoms)
 }
 
-// The call itself; `given` are its numbers, `source` that of the row offered. Its refusal, or 0.
+// The call itself, of these numbers and lists. Its refusal, or 0, as the functions for C have it.
 fn operate(
     call: Call,
     given: &[u64; 2],
-    head: &mut [u64; HEADER_WORDS],
+    ledger: &mut Ledger,
+    lists: &mut Lists,
     answer: &mut [u64; ANSWER_WORDS],
-    slots: &mut [u64],
-    postings: &mut [u64],
-    first: &mut [u64],
-    second: &mut [u64],
-    source: u64,
 ) -> u64 {
     let mut meter = [0u64; METER_WORDS];
     meter[1] = given[0];
+    let head = &mut *ledger.head;
+    let slots = &mut *ledger.slots;
+    let postings = &mut *ledger.postings;
+    let first = &mut *lists.first;
+    let second = &mut *lists.second;
     match call {
         Call::Begin => ledger_begin(head, answer, slots, postings),
         Call::Hit => ledger_hit(head, answer, slots, postings, given[0]),
-        Call::Offer | Call::Rule | Call::Tip => ledger_offer(
-            head, answer, &mut meter, slots, postings, first, second, source,
-        ),
+        Call::Offer | Call::Rule | Call::Tip => {
+            let source = lists.source;
+            ledger_offer(
+                head, answer, &mut meter, slots, postings, first, second, source,
+            )
+        }
         Call::Deduce => ledger_deduce(
             head, answer, &mut meter, slots, postings, given[1], first, second,
         ),
@@ -79,65 +87,80 @@ fn operate(
     }
 }
 
-// A deduction; a Require is 3, and names the output that is contradicted.
-fn put_deduced(out: &mut [u8], to: usize, answer: &[u64; ANSWER_WORDS]) -> usize {
-    let to = put_case(out, to, b"Nothing Force Stopped Require:", answer);
-    if answer[0] != 3 {
-        return to;
-    }
-    put_field(out, to, b" contradicted=", answer[3])
-}
-
-// The answer's words.
-fn put_word(out: &mut [u8], to: usize, call: Call, answer: &[u64; ANSWER_WORDS]) -> usize {
-    match call {
-        Call::Offer | Call::Rule | Call::Tip => put_case(
-            out,
-            to,
-            b"- Shut Stopped Declined Subsumed: Added:",
-            answer,
-        ),
-        Call::Deduce => put_deduced(out, to, answer),
-        Call::Close | Call::Plan => put_case(out, to, b"Closed Conflict Stopped", answer),
-        _ => put_text(out, to, b" Done"),
+// How an offer ended.
+fn put_offered(out: &mut [u8], to: usize, offered: Offered) -> usize {
+    match offered {
+        Offered::Shut => put_text(out, to, b" Shut"),
+        Offered::Stopped => put_text(out, to, b" Stopped"),
+        Offered::Declined => put_text(out, to, b" Declined"),
+        Offered::Subsumed(position) => put_field(out, to, b" Subsumed ", position),
+        Offered::Added(position) => put_field(out, to, b" Added ", position),
     }
 }
 
-// After the answer of `rule` and `tip` the row at its position, where it has one: Subsumed is 4 and Added 5.
+// The same with the row that took the offer in.
 fn put_joined(
     out: &mut [u8],
     to: usize,
-    call: Call,
-    answer: &[u64; ANSWER_WORDS],
+    offered: Offered,
     slots: &[u64],
-    points: &[u64],
+    points: &[Option<Point>],
 ) -> usize {
-    match call {
-        Call::Rule | Call::Tip => {
-            if answer[0] < 4 {
-                return to;
-            }
-            put_row(out, to, points, slots, answer[1])
+    let to = put_offered(out, to, offered);
+    match offered {
+        Offered::Subsumed(position) | Offered::Added(position) => {
+            put_row(out, to, points, slots, position)
         }
         _ => to,
     }
 }
 
-// The output that a closing names, by its code; the value is 0 where it names none.
-fn put_contradicted(out: &mut [u8], to: usize, answer: &[u64; ANSWER_WORDS]) -> usize {
-    if answer[1] == 0 {
-        return put_text(out, to, b" contradicted=none");
+// What a row says.
+fn put_deduced(out: &mut [u8], to: usize, deduced: Deduced) -> usize {
+    match deduced {
+        Deduced::Nothing => put_text(out, to, b" Nothing"),
+        Deduced::Force => put_text(out, to, b" Force"),
+        Deduced::Stopped => put_text(out, to, b" Stopped"),
+        Deduced::Require { code, contradicted } => {
+            let to = put_field(out, to, b" Require ", code);
+            put_field(out, to, b" contradicted=", contradicted)
+        }
     }
-    put_field(out, to, b" contradicted=", answer[3])
+}
+
+// The answer's words; of `rule` and `tip` with the row that took the offer in.
+fn put_word(
+    out: &mut [u8],
+    to: usize,
+    call: Call,
+    answer: &[u64; ANSWER_WORDS],
+    slots: &[u64],
+    points: &[Option<Point>],
+) -> usize {
+    match call {
+        Call::Offer => put_offered(out, to, Offered::from(*answer)),
+        Call::Rule | Call::Tip => put_joined(out, to, Offered::from(*answer), slots, points),
+        Call::Deduce => put_deduced(out, to, Deduced::from(*answer)),
+        Call::Close | Call::Plan => put_case(out, to, b"Closed Conflict Stopped", answer),
+        _ => put_text(out, to, b" Done"),
+    }
+}
+
+// The output that a closing names, by its code.
+fn put_contradicted(out: &mut [u8], to: usize, output: Option<u64>) -> usize {
+    match output {
+        Some(code) => put_field(out, to, b" contradicted=", code),
+        None => put_text(out, to, b" contradicted=none"),
+    }
 }
 
 // The same as an item.
-fn put_because(out: &mut [u8], to: usize, answer: &[u64; ANSWER_WORDS], points: &[u64]) -> usize {
+fn put_because(out: &mut [u8], to: usize, output: Option<u64>, points: &[Option<Point>]) -> usize {
     let to = put_text(out, to, b" because=");
-    if answer[1] == 0 {
-        return put(out, to, b'-');
+    match output {
+        Some(code) => put_literal(out, to, points, code),
+        None => put(out, to, b'-'),
     }
-    put_literal(out, to, points, answer[3])
 }
 
 // After the charge of `close` and `plan` the region, and the output that they name.
@@ -147,18 +170,17 @@ fn put_closed(
     call: Call,
     answer: &[u64; ANSWER_WORDS],
     atoms: u64,
-    held: &[u64],
-    cut: &[u64],
-    points: &[u64],
+    region: &Lists,
+    points: &[Option<Point>],
 ) -> usize {
     match call {
         Call::Close => {
-            let to = put_region(out, to, atoms, held, cut, &points[0..0]);
-            put_contradicted(out, to, answer)
+            let to = put_region(out, to, atoms, region.first, region.second, &[]);
+            put_contradicted(out, to, contradicted(answer))
         }
         Call::Plan => {
-            let to = put_region(out, to, atoms, held, cut, points);
-            put_because(out, to, answer, points)
+            let to = put_region(out, to, atoms, region.first, region.second, points);
+            put_because(out, to, contradicted(answer), points)
         }
         _ => to,
     }
@@ -170,93 +192,39 @@ fn put_answer(
     to: usize,
     call: Call,
     answer: &[u64; ANSWER_WORDS],
-    head: &[u64; HEADER_WORDS],
-    slots: &[u64],
-    first: &[u64],
-    second: &[u64],
-    points: &[u64],
+    ledger: &Ledger,
+    lists: &Lists,
+    points: &[Option<Point>],
 ) -> usize {
-    let to = put_word(out, to, call, answer);
-    let to = put_joined(out, to, call, answer, slots, points);
+    let head = *ledger.head;
+    let to = put_word(out, to, call, answer, ledger.slots, points);
     let to = put_charge(out, to, answer[2]);
-    let to = put_closed(
-        out,
-        to,
-        call,
-        answer,
-        head[HEAD_ATOMS_AT],
-        first,
-        second,
-        points,
-    );
-    put_head(out, to, head)
-}
-
-// The line; `refusal` is 0 for none.
-fn put_line(
-    q: Asked,
-    s: &[u8],
-    refusal: u64,
-    answer: &[u64; ANSWER_WORDS],
-    head: &[u64; HEADER_WORDS],
-    slots: &[u64],
-    first: &[u64],
-    second: &[u64],
-    points: &[u64],
-    out: &mut [u8],
-) -> Said {
-    let to = put_call(out, q.to, s, q.index);
-    if refusal != 0 {
-        return Said::Line(put_refused(out, to, refusal));
-    }
-    let call = q.call;
-    Said::Line(put_answer(out, to, call, answer, head, slots, first, second, points))
+    let to = put_closed(out, to, call, answer, head[HEAD_ATOMS_AT], lists, points);
+    put_head(out, to, &head)
 }
 
 pub fn act(
     q: Asked,
-    s: &[u8],
-    head: &mut [u64; HEADER_WORDS],
-    slots: &mut [u64],
-    postings: &mut [u64],
-    points: &[u64],
+    ledger: &mut Ledger,
+    points: &[Option<Point>],
     out: &mut [u8],
-) -> Said {
+) -> Result<usize, LineError> {
     let mut given = [0u64; 2];
     let mut first = memory::list();
     let mut second = memory::list();
     let mut answer = [0u64; ANSWER_WORDS];
     let call = q.call;
     let n = number_count(call);
-    let g = text::numbers(s, q.at, &mut given[0..n]);
-    let l = read_lists(
-        call,
-        s,
-        g.at,
-        points,
-        head[HEAD_ATOMS_AT],
-        &mut first,
-        &mut second,
-    );
-    if !g.ok || !l.ok {
-        return Said::Error;
+    let at = text::numbers(q.line, q.at, &mut given[..n]).ok_or(LineError::Malformed)?;
+    let head = *ledger.head;
+    let atoms = head[HEAD_ATOMS_AT];
+    let mut lists = read_lists(call, q.line, at, points, atoms, &mut first, &mut second).ok_or(
+        LineError::Malformed,
+    )?;
+    let refusal = operate(call, &given, ledger, &mut lists, &mut answer);
+    let to = put_call(out, q.to, q.line, q.index);
+    if refusal != 0 {
+        return Ok(put_refused(out, to, refusal));
     }
-    let a = l.first;
-    let b = l.second;
-    let first = &mut first[0..a];
-    let second = &mut second[0..b];
-    let refusal = operate(
-        call,
-        &given,
-        head,
-        &mut answer,
-        slots,
-        postings,
-        first,
-        second,
-        l.source,
-    );
-    put_line(
-        q, s, refusal, &answer, head, slots, first, second, points, out,
-    )
+    Ok(put_answer(out, to, call, &answer, ledger, &lists, points))
 }

@@ -1,7 +1,0 @@
--- `script_notation::memory::text`. Assumes nothing.
-use Rattle.std.proofs.Common.{sym, ℕ}
-use Rattle.std.proofs.lemmas.List.{length-replicate}
-use Rattle.script_notation.proofs.memory.text.Goals as goal
-
-pub returns : goal.returns
-returns c = sym (length-replicate {0} {A = ℕ} 524288 0)
