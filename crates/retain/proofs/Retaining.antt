@@ -7,7 +7,6 @@ use Prim.Native.Nat.{ℕ, ◌+◌, ◌≤◌}
 use native.Mathlib.Omega.{arith}
 use Rattle.meter.specs.declared.Purse.{Purse}
 use Rattle.meter.specs.declared.Unpaid.{Unpaid}
-use Rattle.meter.specs.declared.Unpaid.TheVariants.{Declined, Stopped}
 use Rattle.meter.specs.Results.{unpaid_end}
 use Rattle.meter.proofs.Payments.{unpaid-more}
 use Rattle.meter.specs.Read.{Read}
@@ -25,7 +24,7 @@ use Rattle.contents.specs.Lent.{lent}
 use Rattle.contents.specs.Accepted.{Accepted}
 use Rattle.retain_compare.specs.Passes.{examined_by}
 use Rattle.retain_compare.specs.Turns.{comparison, comparison_end, both_passes, compare_reads}
-use Rattle.retain_compare.proofs.Outcomes.{compares-replaces, compares-subsumed, compares-declined, compares-stopped}
+use Rattle.retain_compare.proofs.Outcomes.{compares-replaces, compares-subsumed, compares-unpaid}
 use Rattle.retain.specs.declared.Kept.{Kept}
 use Rattle.retain.specs.declared.Kept.TheVariants.{Subsumed}
 use Rattle.retain.specs.Ends.{End, retain_end, end_of, carried, admit_end}
@@ -89,17 +88,13 @@ module _ (h : Header) (slots postings : List ℕ) (acc : Accepted h slots postin
   abbrev Compares : Result (Option ℕ) Unpaid → Purse → Type 0
   Compares v b = comparison_end v b ≡ comparison x (pay n w.account w.meter)
 
-  unpaid-after : (u : Unpaid) (b : Purse) → Compares (Err u) b → unpaid_end u b ≡ pay n w.account w.meter
-  unpaid-after Declined b q = sym (compares-declined x (pay n w.account w.meter) q refl)
-  unpaid-after Stopped b q = sym (compares-stopped x (pay n w.account w.meter) q refl)
-
   pub retain-unpaid : (r : Result Kept Unpaid) (b : Purse) {u : Unpaid} → r ≡ Err u → Compares (Err u) b
       → retain_end r h slots postings b ≡ whole
   retain-unpaid r b {u} d q =
       let more : n ≤ n + place_reads es v = omega arith in
       rw d (as-untaken h slots postings acc (λ j. false) p hits source w v u b
       ∙ ap (λ (y : Read). end_of (carried (ledger_in s) p hits source v y))
-      (unpaid-more n (n + place_reads es v) w.account w.meter u b more (unpaid-after u b q)) ∙ all)
+      (unpaid-more n (n + place_reads es v) w.account w.meter u b more (compares-unpaid x (pay n w.account w.meter) u b q)) ∙ all)
 
   -- a row subsumes it
   pub retain-subsumed : {found : Option ℕ} (b : Purse) → Compares (Ok found) b → {at : ℕ} → found ≡ Some at

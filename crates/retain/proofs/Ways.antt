@@ -25,15 +25,6 @@ module _ (room : Room) (rows : ℕ) (slots p : List ℕ) (k : Placing room rows 
   fits-as : {r : Room} → room ≡ r → Fits r rows (tier_of slots)
   fits-as e = subst (λ (r : Room). Fits r rows (tier_of slots)) e k.fits
 
-  pub after-inside : room ≡ After → slot_words * rows + slot_words ≤ length slots
-  after-inside e = let l : rows < tier_of slots = fits-as e in omega arith
-
-  pub first-inside : (t : ℕ) → room ≡ First t → slot_words * t + slot_words ≤ length slots
-  first-inside t e = let l : t < rows = fits-as e in let f = k.held.over.long in omega arith
-
-  pub victim-inside : (v : ℕ) → room ≡ Victim v → slot_words * v + slot_words ≤ length slots
-  victim-inside v e = let l : v < rows = fits-as e in let f = k.held.over.long in omega arith
-
   pub first-before : (t : ℕ) → room ≡ First t → t < rows
   first-before t e = fits-as e
 

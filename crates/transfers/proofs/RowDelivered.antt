@@ -44,26 +44,9 @@ use Rattle.transfers.proofs.Passing.{told, subsumed-in, kept-fits, left_as, chan
 
 -- ---- the tests of a row that is passed over
 module _ (row : List ℕ) where
-  pub shared-no : (get_or row delivered_at 0 ≡ 1 → ⊥) → false ≡ (eqb (get_or row delivered_at 0) 1 && eqb (get_or row unshared_at 0) 0)
-  shared-no f = sym (ap (λ (b : Bool). b && eqb (get_or row unshared_at 0) 0) (ne_eqb (get_or row delivered_at 0) 1 f))
-
-  pub shared-so : get_or row delivered_at 0 ≡ 1
-      → eqb (get_or row unshared_at 0) 0 ≡ (eqb (get_or row delivered_at 0) 1 && eqb (get_or row unshared_at 0) 0)
-  shared-so e = sym (ap (λ (b : Bool). b && eqb (get_or row unshared_at 0) 0) (eq-eqb (get_or row delivered_at 0) 1 e))
-
   module _ (limits : LearningLimits) where
     abbrev narrow : Bool
     narrow = ltb limits.share_conditions (get_or row conditions_at 0) && ltb (get_or row hits_at 0) limits.share_hits
-
-    pub narrow-no : get_or row conditions_at 0 ≤ limits.share_conditions → false ≡ narrow
-    narrow-no l =
-        sym (ap (λ (b : Bool). b && ltb (get_or row hits_at 0) limits.share_hits)
-        (le-ltb limits.share_conditions (get_or row conditions_at 0) l))
-
-    pub narrow-so : limits.share_conditions < get_or row conditions_at 0 → ltb (get_or row hits_at 0) limits.share_hits ≡ narrow
-    narrow-so l =
-        sym (ap (λ (b : Bool). b && ltb (get_or row hits_at 0) limits.share_hits)
-        (lt-ltb limits.share_conditions (get_or row conditions_at 0) l))
 
     module _ (l : Laid row) where
       passes-is : passes_over limits (entry_in row) ≡ ((eqb (get_or row delivered_at 0) 1 && eqb (get_or row unshared_at 0) 0) || narrow)
@@ -226,8 +209,8 @@ module _ (p : TransferState) (m : Meter) where
           (deliver-handed limits x v m ticks (ap (λ (r : List ℕ). passes_over limits (entry_in r)) (sym (slot-code ts i)) ∙ b)))
           (f n c (ticked v m whole) (carried-ticked n c p slots postings v h m whole))
 
-  pub ready-ticked : (slots postings row : List ℕ) (o : ℕ) → Ready p slots postings row o → Ready at slots postings row o
-  ready-ticked slots postings row o r = record {
+  pub ready-ticked : (slots postings ws : List ℕ) (o : ℕ) → Ready p slots postings ws o → Ready at slots postings ws o
+  ready-ticked slots postings ws o r = record {
     atoms = r.atoms;
     count = r.count;
     state = ticked r.state m whole;

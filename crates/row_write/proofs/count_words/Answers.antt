@@ -24,7 +24,8 @@ loop-code-init c =
     (omega (arith, ap length (rest-is cs)), omega arith, omega (arith, count-start cs c.in-len1-up.len_at_least, ap length (rest-is cs)))
 
 pub overflow_cast-previous-in-loop-code : goal.overflow_cast-previous-in-loop-code
-overflow_cast-previous-in-loop-code c = omega (arith, rest-under max_atoms c.args.codes.now c.loop-code.code-index c.requires c.loop-code-test.true)
+overflow_cast-previous-in-loop-code c =
+    omega (arith, rest-under max_atoms c.args.codes.now c.loop-code.code-index c.requires c.loop-code-test.true)
 
 pub loop-code-preserved : goal.loop-code-preserved
 loop-code-preserved c =
