@@ -33,11 +33,10 @@ impl ConditionState {
     fn both(self, more: ConditionState) -> ConditionState
         ensures { result ≡ both_of self more }
     {
-        match self {
-            ConditionState::Idle => self,
-            ConditionState::Holds => more,
-            ConditionState::Undecided(_) => match more {
-                ConditionState::Holds => self,
+        match more {
+            ConditionState::Holds => self,
+            _ => match self {
+                ConditionState::Holds => more,
                 _ => ConditionState::Idle,
             },
         }
