@@ -340,8 +340,7 @@ fn sees(slots: &[u64], rows: usize, places: &mut [u16], posting: u64) -> bool
 #[derive(Clone, Copy)]
 struct Walk {
     at: usize,
-    word: u64,
-    often: u64,
+    last: Run,
 }
 
 // Walks on while each word is above the one before it and seen. This is where the time goes, and nothing else is done in this loop.
@@ -349,15 +348,15 @@ fn walk_on(words: &[u64], slots: &[u64], rows: usize, places: &mut [u16], from: 
     requires fact_1 { Rows rows slots.now }
     requires fact_2 { length places.old ≡ max_rows }
     requires fact_3 { Marked rows slots.now places.old }
-    requires fact_4 { Walked words.now (postings_of (rows_in rows slots.now)) from.at from.word from.often }
-    ensures walked { Walked words.now (postings_of (rows_in rows slots.now)) result.at result.word result.often }
+    requires fact_4 { Walked words.now (postings_of (rows_in rows slots.now)) from.at from.last.word from.last.times }
+    ensures walked { Walked words.now (postings_of (rows_in rows slots.now)) result.at result.last.word result.last.times }
     ensures at_le_at { from.at ≤ result.at }
     ensures marked { Marked rows slots.now places.new }
 {
     let mut walk = from;
     for at in from.at..words.len() {
         let x = words[at];
-        if x <= walk.word {
+        if x <= walk.last.word {
             break;
         }
         if !sees(slots, rows, places, x) {
@@ -368,8 +367,7 @@ fn walk_on(words: &[u64], slots: &[u64], rows: usize, places: &mut [u16], from: 
         }
         walk = Walk {
             at: at + 1,
-            word: x,
-            often: 1,
+            last: Run { word: x, times: 1 },
         };
     }
     walk
@@ -386,27 +384,22 @@ fn are_ascending(words: &[u64], slots: &[u64], rows: usize, places: &mut [u16]) 
 {
     let start = Walk {
         at: 0,
-        word: 0,
-        often: 0,
+        last: Run { word: 0, times: 0 },
     };
     let mut walk = walk_on(words, slots, rows, places, start);
+    // A while: each turn goes on from where the walk stopped.
     while let Some(word) = words.get(walk.at) {
         let x = *word;
-        if x < walk.word {
+        if x < walk.last.word {
             return false;
         }
-        let last = Run {
-            word: walk.word,
-            times: walk.often,
-        };
-        let run = last.next(x);
+        let run = walk.last.next(x);
         if posted_less(slots, rows, x, run.times) {
             return false;
         }
         let next = Walk {
             at: walk.at + 1,
-            word: x,
-            often: run.times,
+            last: run,
         };
         walk = walk_on(words, slots, rows, places, next);
     }

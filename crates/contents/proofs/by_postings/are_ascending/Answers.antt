@@ -3,6 +3,7 @@ use Rattle.std.proofs.lemmas.Grind.{get_or_default_zero}
 use borrow.Author.Tests.{ltb-true, ltb-false}
 use Rattle.lists.specs.Counts.{times}
 use Rattle.lists.specs.Runs.{run_after}
+use Rattle.lists.proofs.Walks.{word_after}
 use Rattle.lists.proofs.Tests.{same-yes, same-no}
 use Rattle.model.specs.Postings.{postings_of}
 use Rattle.slots.specs.Layout.{rows_in}
@@ -25,11 +26,11 @@ is_word c =
 
 -- how often it was met in a row
 met : (c : After-next-run) → let w = c.loop-word.walk in
-    c.next-run.result.times ≡ (run_after (record { word = w.word; times = w.often }) (get_or c.args.words.now w.at 0)).times
+    c.next-run.result.times ≡ (run_after w.last (get_or c.args.words.now w.at 0)).times
 met c =
     let w = c.loop-word.walk in
     ap (λ r. r.times) c.next-run.ensures
-    ∙ ap (λ (x : ℕ). (run_after (record { word = w.word; times = w.often }) x).times) (sym (is_word (goal.at.After-next-run c).In-Some))
+    ∙ ap (λ (x : ℕ). (run_after w.last x).times) (sym (is_word (goal.at.After-next-run c).In-Some))
 
 pub returns-then-x-walk : goal.returns-then-x-walk
 returns-then-x-walk c =
@@ -47,7 +48,7 @@ returns-then-posted_less c =
     let s = (goal.at.returns-then-posted_less c).In-Some in
     let few = ltb-true _ c.next-run.result.times (sym c.if-posted_less.ensures) in
     let w = due (goal.at.returns-then-posted_less c).At-loop-word in
-    let above : c.loop-word.walk.word ≤ get_or c.args.words.now c.loop-word.walk.at 0 = omega (arith, is_word s, c.if-x-walk.false) in
+    let above : c.loop-word.walk.last.word ≤ get_or c.args.words.now c.loop-word.walk.at 0 = omega (arith, is_word s, c.if-x-walk.false) in
     sym (same-no _ _ (walked_many _ _ _ _ _ _ c.loop-word.invariant.walked (inside s) above (met at_run)
     (subst (λ (x : ℕ). times x w < c.next-run.result.times) (sym (is_word s)) few)))
 
@@ -57,7 +58,8 @@ walk_on-walk-requires-in-Some-clause-fact_4 c =
     let s = (goal.at.walk_on-walk-requires-in-Some-clause-fact_4 c).In-Some in
     let few = ltb-false _ c.next-run.result.times (sym c.if-posted_less.ensures) in
     let w = due (goal.at.walk_on-walk-requires-in-Some-clause-fact_4 c).At-loop-word in
-    subst (λ (x : ℕ). Walked c.args.words.now w (c.loop-word.walk.at + 1) x c.next-run.result.times) (is_word s)
+    let e = ap (λ r. r.word) c.next-run.ensures ∙ word_after c.loop-word.walk.last c.in-Some.word.now in
+    subst (λ (x : ℕ). Walked c.args.words.now w (c.loop-word.walk.at + 1) x c.next-run.result.times) (is_word s ∙ sym e)
     (walked_more _ _ _ _ _ _ c.loop-word.invariant.walked (inside s) (omega (arith, is_word s, c.if-x-walk.false)) (met at_run)
     (subst (λ (x : ℕ). c.next-run.result.times ≤ times x w) (sym (is_word s)) few))
 

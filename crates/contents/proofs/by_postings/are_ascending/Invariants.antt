@@ -8,7 +8,7 @@ use Rattle.contents.proofs.by_postings.are_ascending.Given as goal
 abbrev pub invariant-loop-word : goal.invariant-loop-word
 invariant-loop-word l = record {
   marked : Marked l.rows l.slots l.places;
-  walked : Walked l.words (postings_of (rows_in l.rows l.slots)) l.walk.at l.walk.word l.walk.often;
+  walked : Walked l.words (postings_of (rows_in l.rows l.slots)) l.walk.at l.walk.last.word l.walk.last.times;
 }
 
 abbrev pub decreases-loop-word : goal.decreases-loop-word

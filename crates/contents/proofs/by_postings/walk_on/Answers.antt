@@ -11,10 +11,10 @@ loop-at-preserved c =
     let v = c.loop-at.invariant in
     let w = c.loop-at.walk in
     let due : List ℕ = postings_of (rows_in a.rows a.slots.now) in
-    let far = subst (λ (i : ℕ). Walked a.words.now due i w.word w.often) v.at v.walked in record {
+    let far = subst (λ (i : ℕ). Walked a.words.now due i w.last.word w.last.times) v.at v.walked in record {
       at = refl;
       marked = c.sees.ensures.marked;
       walked =
-          walked-above a.words.now due c.loop-at.at w.word w.often far c.loop-at-test.true c.if-x-walk.false
+          walked-above a.words.now due c.loop-at.at w.last.word w.last.times far c.loop-at-test.true c.if-x-walk.false
           (c.if-not-sees.ensures.bound refl c.if-x-lt-MAX_ROWS.false);
     }

@@ -9,5 +9,5 @@ abbrev pub invariant-loop-at : goal.invariant-loop-at
 invariant-loop-at l = record {
   at : l.walk.at ≡ l.at;
   marked : Marked l.rows l.slots l.places;
-  walked : Walked l.words (postings_of (rows_in l.rows l.slots)) l.walk.at l.walk.word l.walk.often;
+  walked : Walked l.words (postings_of (rows_in l.rows l.slots)) l.walk.at l.walk.last.word l.walk.last.times;
 }
