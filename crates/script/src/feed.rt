@@ -1,6 +1,6 @@
 // Standard input, a line at a time, of any length in all, through a buffer that holds the longest line.
 // A line that does not fit is an error.
-ghost use Rattle.std.specs.Prelude.{◌≡◌, ◌-◌, ◌≤◌, length};
+ghost use Rattle.std.specs.Prelude.{◌≤◌, length};
 
 use crate::dispatch;
 use script_notation::ledgers::Memory;

@@ -6,14 +6,15 @@ mod dispatch;
 mod feed;
 
 use script_notation::ledgers::Memory;
-use script_notation::memory;
+use script_notation::memory::{AllHeads, AllPostings, AllSlots, Points, Text};
+use text::filled;
 
 fn main(rt: HostRuntime) {
-    let mut buf = memory::text();
-    let mut heads = memory::heads();
-    let mut slots = memory::slots();
-    let mut postings = memory::postings();
-    let mut points = memory::points();
+    let mut buf: Text = filled(0);
+    let mut heads: AllHeads = filled(filled(0));
+    let mut slots: AllSlots = filled(filled(0));
+    let mut postings: AllPostings = filled(filled(0));
+    let mut points: Points = filled(None);
     let mut out = io::large_buffer();
     let mut shared = Memory {
         heads: &mut heads,

@@ -2,10 +2,10 @@
 // codes of `offer` their source.
 use crate::calls::Call;
 use crate::literals::{Ending, gather, items};
-use crate::memory;
+use crate::memory::Literals;
 use crate::points::Point;
 use crate::regions::{read_region, region_of};
-use text::{ended, kept};
+use text::{ended, filled, kept};
 
 // The two lists, and the source of a row, 0 where there is none.
 #[derive(Drop)]
@@ -55,8 +55,8 @@ fn read_rule<'a>(
     first: &'a mut [u64],
     second: &'a mut [u64],
 ) -> Option<Lists<'a>> {
-    let mut conditions = memory::literals();
-    let mut outputs = memory::literals();
+    let mut conditions: Literals = filled(0);
+    let mut outputs: Literals = filled(0);
     let Ending::Arrow(at) = items(line, at, points, true, &mut conditions)? else {
         return None;
     };
@@ -81,7 +81,7 @@ fn read_plan<'a>(
     first: &'a mut [u64],
     second: &'a mut [u64],
 ) -> Option<Lists<'a>> {
-    let mut set = memory::literals();
+    let mut set: Literals = filled(0);
     let Ending::Line = items(line, at, points, false, &mut set)? else {
         return None;
     };

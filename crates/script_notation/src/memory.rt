@@ -1,6 +1,6 @@
-// The program's memory: large arrays on the stack, each made by a function.
+// The program's memory: large arrays on the stack. Each is made by `text::filled`.
 use crate::points::Point;
-use model::{MAX_OUTPUTS, POSTING_WORDS, SLOT_WORDS};
+use model::{POSTING_WORDS, SLOT_WORDS};
 use wire::HEADER_WORDS;
 use words::WORD_BITS;
 
@@ -35,55 +35,29 @@ pub type Slots = [u64; SLOTS];
 
 pub type Postings = [u64; POSTINGS];
 
-// The headers, slots and postings of all ledgers, none of which is made.
-pub fn heads() -> [Head; LEDGERS] {
-    [[0; HEADER_WORDS]; LEDGERS]
-}
+// The headers, slots and postings of all ledgers.
+pub type AllHeads = [Head; LEDGERS];
 
-pub fn slots() -> [Slots; LEDGERS] {
-    [[0; SLOTS]; LEDGERS]
-}
+pub type AllSlots = [Slots; LEDGERS];
 
-pub fn postings() -> [Postings; LEDGERS] {
-    [[0; POSTINGS]; LEDGERS]
-}
+pub type AllPostings = [Postings; LEDGERS];
 
-// The atoms that have a name, at first none.
-pub fn points() -> [Option<Point>; POINTS] {
-    [None; POINTS]
-}
+// The atoms that have a name.
+pub type Points = [Option<Point>; POINTS];
 
 // The bytes of a line, and of what was read behind it.
-pub fn text() -> [u8; 524288] {
-    [0; 524288]
-}
+pub type Text = [u8; 524288];
 
 // A list of a call: a set of atoms, or codes, more than a row has.
-pub fn list() -> [u64; LIST] {
-    [0; LIST]
-}
-
-// The codes of one side of a row.
-pub fn codes() -> [u64; MAX_OUTPUTS as usize] {
-    [0; MAX_OUTPUTS as usize]
-}
+pub type List = [u64; LIST];
 
 // The numbers of a list.
-pub fn numbers() -> [u64; NUMBERS] {
-    [0; NUMBERS]
-}
-
-// A word for each row that a ledger has room for.
-pub fn rows() -> [u64; ROWS as usize] {
-    [0; ROWS as usize]
-}
+pub type Numbers = [u64; NUMBERS];
 
 // A bit for each code of the atoms that there is room for, and for one more.
-pub fn literals() -> [u64; LITERALS] {
-    [0; LITERALS]
-}
+pub type Literals = [u64; LITERALS];
 
-// A word for each atom that a ledger has room for.
-pub fn decided() -> [u64; ATOMS as usize] {
-    [0; ATOMS as usize]
-}
+// A word for each row, and for each atom, that a ledger has room for.
+pub type EachRow = [u64; ROWS as usize];
+
+pub type EachAtom = [u64; ATOMS as usize];

@@ -4,21 +4,21 @@ use boundary::ledger_decide;
 use script_answers::{put_case, put_refused};
 use script_notation::arguments::Lists;
 use script_notation::calls::LineError;
-use script_notation::memory;
+use script_notation::memory::{ATOMS, List};
 use script_notation::regions::{put_region, read_region};
-use text::put_text;
+use text::{filled, put_text};
 use wire::ANSWER_WORDS;
 use words::MAX_ATOMS;
 
 // Whether there is room for a region over so many atoms, or it is to be refused for their number.
 fn has_room(atoms: u64) -> bool {
-    atoms <= memory::ATOMS || MAX_ATOMS < atoms
+    atoms <= ATOMS || MAX_ATOMS < atoms
 }
 
 pub fn decide(line: &[u8], at: usize, out: &mut [u8], to: usize) -> Result<usize, LineError> {
     let mut given = [0u64; 3];
-    let mut held = memory::list();
-    let mut cut = memory::list();
+    let mut held: List = filled(0);
+    let mut cut: List = filled(0);
     let mut answer = [0u64; ANSWER_WORDS];
     let at = text::numbers(line, at, &mut given).ok_or(LineError::Malformed)?;
     let [atoms, atom, value] = given;

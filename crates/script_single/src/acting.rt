@@ -20,10 +20,10 @@ use script_notation::arguments::{Lists, read_lists};
 use script_notation::calls::{Asked, Call, LineError};
 use script_notation::ledgers::Ledger;
 use script_notation::literals::put_literal;
-use script_notation::memory::{self, Head};
+use script_notation::memory::{EachAtom, EachRow, Head, List};
 use script_notation::points::Point;
 use script_notation::regions::put_region;
-use text::{kept, put, put_field, put_text};
+use text::{filled, kept, put, put_field, put_text};
 use wire::{ANSWER_WORDS, HEAD_ATOMS_AT, HEAD_TIER_ROWS_AT, METER_WORDS};
 
 // How many numbers stand before the lists.
@@ -47,8 +47,8 @@ fn close(
     held: &mut [u64],
     cut: &mut [u64],
 ) -> u64 {
-    let mut rows = memory::rows();
-    let mut atoms = memory::decided();
+    let mut rows: EachRow = filled(0);
+    let mut atoms: EachAtom = filled(0);
     let n = kept(&rows, head[HEAD_TIER_ROWS_AT] as usize);
     let m = kept(&atoms, head[HEAD_ATOMS_AT] as usize);
     let rows = &mut rows[..n];
@@ -210,8 +210,8 @@ pub fn act(
     out: &mut [u8],
 ) -> Result<usize, LineError> {
     let mut given = [0u64; 2];
-    let mut first = memory::list();
-    let mut second = memory::list();
+    let mut first: List = filled(0);
+    let mut second: List = filled(0);
     let mut answer = [0u64; ANSWER_WORDS];
     let call = q.call;
     let n = number_count(call);

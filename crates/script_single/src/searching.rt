@@ -7,9 +7,9 @@ use script_answers::{Output, put_call, put_charge, put_end, put_head, put_refuse
 use script_notation::arguments::Lists;
 use script_notation::calls::{Asked, LineError};
 use script_notation::ledgers::Ledger;
-use script_notation::memory;
+use script_notation::memory::{EachRow, List, Numbers};
 use script_notation::regions::read_region;
-use text::{ended, kept, put, put_field, put_list, put_text};
+use text::{ended, filled, kept, put, put_field, put_list, put_text};
 use wire::{
     ANSWER_WORDS, CURSOR_WORDS, HEAD_ATOMS_AT, HEAD_TIER_ROWS_AT, HEADER_WORDS, METER_WORDS,
 };
@@ -28,8 +28,8 @@ fn put_rows(out: &mut [u8], to: usize, answer: &[u64; ANSWER_WORDS], rows: &[u64
 pub fn candidates(q: Asked, ledger: &mut Ledger, out: &mut [u8]) -> Result<usize, LineError> {
     let mut meter = [0u64; METER_WORDS];
     let mut answer = [0u64; ANSWER_WORDS];
-    let mut atoms = memory::numbers();
-    let mut rows = memory::rows();
+    let mut atoms: Numbers = filled(0);
+    let mut rows: EachRow = filled(0);
     let at = text::numbers(q.line, q.at, &mut meter[1..2]).ok_or(LineError::Malformed)?;
     let l = text::list(q.line, at, &mut atoms).ok_or(LineError::Malformed)?;
     if !ended(q.line, l.at) {
@@ -74,8 +74,8 @@ pub fn next(q: Asked, ledger: &Ledger, out: &mut [u8]) -> Result<usize, LineErro
     let mut meter = [0u64; METER_WORDS];
     let mut cursor = [0u64; CURSOR_WORDS];
     let mut answer = [0u64; ANSWER_WORDS];
-    let mut held = memory::list();
-    let mut cut = memory::list();
+    let mut held: List = filled(0);
+    let mut cut: List = filled(0);
     let head = *ledger.head;
     let at = text::numbers(q.line, q.at, &mut given).ok_or(LineError::Malformed)?;
     let c = text::list(q.line, at, &mut cursor).ok_or(LineError::Malformed)?;
