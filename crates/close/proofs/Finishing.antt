@@ -3,6 +3,7 @@ use mathlib.Core.Path.{◌≡◌, refl, sym, ap, ap₂, ◌∙◌, subst}
 use mathlib.Core.Bool.{Bool, true, false, ◌&&◌}
 use mathlib.Core.List.{List, [], ◌∷◌}
 use mathlib.Core.Option.{none, some}
+use Rattle.std.specs.Prelude.{Result, Ok, Err}
 use Prim.Native.Nat.{ℕ, suc, ◌≤◌}
 use native.Mathlib.Omega.{arith}
 use lib.Dec.{eqb}
@@ -16,6 +17,7 @@ use Rattle.meter.specs.declared.Meter.{Meter}
 use Rattle.meter.specs.Meter.{made}
 use Rattle.model.specs.declared.LearningLimits.{LearningLimits}
 use Rattle.model.specs.declared.Header.{Header}
+use Rattle.model.specs.declared.Contradicted.{Contradicted}
 use Rattle.model.specs.declared.Contradicted.TheVariants.{None}
 use Rattle.model.specs.declared.CloseResult.{CloseResult}
 use Rattle.model.specs.declared.CloseAnswer.{CloseAnswer}
@@ -35,12 +37,11 @@ use Rattle.contents.proofs.Accepting.{accepted, accept-refused, accept-passed}
 use Rattle.operations.proofs.Tests.{all-passed, region-no, region-yes}
 use Rattle.contents.proofs.Lending.{stands-lent}
 use Rattle.slots.specs.Layout.{rows_in}
-use Rattle.close_publish.specs.declared.Flow.{Flow}
-use Rattle.close_publish.specs.declared.Flow.TheVariants.{Continues, Conflict, Stopped}
-use Rattle.close_rounds.specs.declared.RoundEnd.{RoundEnd}
+use Rattle.close_publish.specs.declared.Halt.{Halt}
+use Rattle.close_publish.specs.declared.Halt.TheVariants.{Conflict, Stopped}
 use Rattle.close_publish.specs.Turns.{ended_as}
 use Rattle.close_rounds.specs.Running.{Running}
-use Rattle.close_rounds.specs.Rounds.{state_in, round_turn, Under}
+use Rattle.close_rounds.specs.Rounds.{state_in, Under}
 use Rattle.close.specs.Ends.{scratch_ok, answer_of, closed_end}
 use Rattle.close_rounds.proofs.Searching.{runs-under}
 
@@ -129,55 +130,61 @@ module _ (h : Header) (slots postings held₀ cut x y : List ℕ) (m : Meter) wh
     unfolding closing ledger_in with_full
     closing-is = refl
 
-    ended_is : (b : Flow) (u : State) → closed_by (ended_as b u) x y m ≡ close_end (answer_of b) u x y m
-    ended_is Continues u = refl
-    ended_is Conflict u = refl
-    ended_is Stopped u = refl
+    module _ {A : Type 0} (r : Result A Halt) where
+      ended_is : (u : State) → closed_by (ended_as r u) x y m ≡ close_end (answer_of r) u x y m
+      ended_is u = go r
+        where
+          go : (r : Result A Halt) → closed_by (ended_as r u) x y m ≡ close_end (answer_of r) u x y m
+          go (Ok a) = refl
+          go (Err Conflict) = refl
+          go (Err Stopped) = refl
 
-    -- the result of rounds that ended so
-    abbrev ending : RoundEnd → CloseAnswer → ℕ → CloseResult
-    ending r z k = record { answer = z; contradicted = r.contradicted; header = r.header; meter = r.meter; ticks = k }
+      -- the result of rounds that ended so
+      abbrev ending : Header → Meter → Contradicted → CloseAnswer → ℕ → CloseResult
+      ending h' m' o' z k = record { answer = z; contradicted = o'; header = h'; meter = m'; ticks = k }
 
-    pub close-done : (r : RoundEnd) (slots' postings' held' cut' x₁ y₁ x' y' : List ℕ)
-        → round_turn r slots' held' cut'
-        ≡ rounds (suc (with_full h true).limits.atoms) (with_full h true).limits.atoms []
-        (state_in (with_full h true) slots held₀ cut m None)
-        → Running r.header slots' postings' held' cut' → length x₁ ≡ length x → length y₁ ≡ length y → x' ≡ zeroed x₁ → y' ≡ zeroed y₁
-        → (z : CloseAnswer) (k : ℕ) → z ≡ answer_of r.flow → k ≡ made m r.meter
-        → closed_end (ending r z k) slots' postings' held' cut' x' y'
-        ≡ close s held₀ cut x y m
-    unfolding close_end ledger_in
-    close-done r slots' postings' held' cut' x₁ y₁ x' y' t w a b c d z k f g =
-        ap₂ (λ (z : CloseAnswer) (k : ℕ). closed_end (ending r z k) slots'
-        postings' held' cut' x' y') f g
-        ∙ ap₂ (λ (l : Lent) (z : List ℕ × List ℕ). ended l z.0 z.1) (stands-lent r.header slots' postings' w.stands still)
-        (ap₂ (λ (u v : List ℕ). (u, v)) (c ∙ zeroed-cong x₁ x a) (d ∙ zeroed-cong y₁ y b))
-        ∙ sym (ended_is r.flow (state_in r.header slots' held' cut' r.meter r.contradicted))
-        ∙ ap (λ (u : Turn). closed_by u x y m) (t ∙ sym closing-is) ∙ sym close-is
-      where
-        -- a closing leaves the sources, and the header's count of them
-        same : TurnSame (ledger_in s) (round_turn r slots' held' cut')
-        same = subst (TurnSame (ledger_in s)) (closing-is ∙ sym t) (closing_same (ledger_in s) (region held₀ cut) m)
+      pub close-done : (h' : Header) (m' : Meter) (o' : Contradicted) (slots' postings' held' cut' x₁ y₁ x' y' : List ℕ)
+          → ended_as r (state_in h' slots' held' cut' m' o')
+          ≡ rounds (suc (with_full h true).limits.atoms) (with_full h true).limits.atoms []
+          (state_in (with_full h true) slots held₀ cut m None)
+          → Running h' slots' postings' held' cut' → length x₁ ≡ length x → length y₁ ≡ length y → x' ≡ zeroed x₁ → y' ≡ zeroed y₁
+          → (z : CloseAnswer) (k : ℕ) → z ≡ answer_of r → k ≡ made m m'
+          → closed_end (ending h' m' o' z k) slots' postings' held' cut' x' y'
+          ≡ close s held₀ cut x y m
+      unfolding close_end ledger_in
+      close-done h' m' o' slots' postings' held' cut' x₁ y₁ x' y' t w a b c d z k f g =
+          ap₂ (λ (z : CloseAnswer) (k : ℕ). closed_end (ending h' m' o' z k) slots' postings' held' cut' x' y') f g
+          ∙ ap₂ (λ (l : Lent) (z : List ℕ × List ℕ). ended l z.0 z.1) (stands-lent h' slots' postings' w.stands still)
+          (ap₂ (λ (u v : List ℕ). (u, v)) (c ∙ zeroed-cong x₁ x a) (d ∙ zeroed-cong y₁ y b))
+          ∙ sym (ended_is there)
+          ∙ ap (λ (u : Turn). closed_by u x y m) (t ∙ sym closing-is) ∙ sym close-is
+        where
+          there : State
+          there = state_in h' slots' held' cut' m' o'
 
-        by-flow : (b : Flow) (u : State) → TurnSame (ledger_in s) (ended_as b u) → Same (ledger_in s) u.ledger
-        by-flow Continues u q = q
-        by-flow Conflict u q = q
-        by-flow Stopped u q = q
+          -- a closing leaves the sources, and the header's count of them
+          same : TurnSame (ledger_in s) (ended_as r there)
+          same = subst (TurnSame (ledger_in s)) (closing-is ∙ sym t) (closing_same (ledger_in s) (region held₀ cut) m)
 
-        still : r.header.founded ≡ founded_rows (entries_in r.header.rows slots')
-        still =
-            let k = by-flow r.flow (state_in r.header slots' held' cut' r.meter r.contradicted) same in
-            k.counted ∙ (accepted h slots postings others ((region_ok s held₀ cut, 6) ∷ []) e).founded ∙ sym k.founded
+          by_end : (r : Result A Halt) (u : State) → TurnSame (ledger_in s) (ended_as r u) → Same (ledger_in s) u.ledger
+          by_end (Ok a) u q = q
+          by_end (Err Conflict) u q = q
+          by_end (Err Stopped) u q = q
 
-        ended : Lent → List ℕ → List ℕ → CloseEnd
-        ended l u v =
-            record {
-              answer = close_reply (answer_of r.flow);
-              contradicted = contradicted_reply r.contradicted;
-              ledger = l;
-              region = region held' cut';
-              row_scratch = u;
-              atom_scratch = v;
-              meter = r.meter;
-              ticks = made m r.meter;
-            }
+          still : h'.founded ≡ founded_rows (entries_in h'.rows slots')
+          still =
+              let k = by_end r there same in
+              k.counted ∙ (accepted h slots postings others ((region_ok s held₀ cut, 6) ∷ []) e).founded ∙ sym k.founded
+
+          ended : Lent → List ℕ → List ℕ → CloseEnd
+          ended l u v =
+              record {
+                answer = close_reply (answer_of r);
+                contradicted = contradicted_reply o';
+                ledger = l;
+                region = region held' cut';
+                row_scratch = u;
+                atom_scratch = v;
+                meter = m';
+                ticks = made m m';
+              }

@@ -6,7 +6,7 @@ ghost use Rattle.model.specs.Operations.{close};
 ghost use Rattle.contents.specs.Lent.{lent};
 ghost use Rattle.close.specs.Ends.{scratch_ok, answer_of, closed_end};
 
-use close_publish::Flow;
+use close_publish::Halt;
 use close_rounds::rounds;
 use contents::accept;
 use lists::fill_zero;
@@ -25,13 +25,13 @@ fn scratch_ok(limits: LearningLimits, rows: &[u64], atoms: &[u64]) -> bool
 }
 
 // Rounds that go on to the end are Closed.
-fn answer_of(flow: Flow) -> CloseAnswer
-    ensures { result ≡ answer_of flow }
+fn answer_of(end: Result<(), Halt>) -> CloseAnswer
+    ensures { result ≡ answer_of end }
 {
-    match flow {
-        Flow::Continues => CloseAnswer::Closed,
-        Flow::Conflict => CloseAnswer::Conflict,
-        Flow::Stopped => CloseAnswer::Stopped,
+    match end {
+        Ok(_) => CloseAnswer::Closed,
+        Err(Halt::Conflict) => CloseAnswer::Conflict,
+        Err(Halt::Stopped) => CloseAnswer::Stopped,
     }
 }
 
@@ -74,28 +74,27 @@ pub fn close(
             ticks: 0,
         };
     }
-    let begun = Header {
+    let mut after = Header {
         full: true,
         ..header
     };
+    let mut contradicted = Contradicted::None;
+    let mut meter = work;
     let end = rounds(
-        begun,
+        &mut after,
         slots,
         postings,
         held,
         cut,
         rows_scratch,
         atoms_scratch,
-        work,
+        &mut contradicted,
+        &mut meter,
     );
     fill_zero(rows_scratch);
     fill_zero(atoms_scratch);
-    let flow = end.flow;
-    let after = end.header;
-    let meter = end.meter;
-    let contradicted = end.contradicted;
     CloseResult {
-        answer: answer_of(flow),
+        answer: answer_of(end),
         contradicted: contradicted,
         header: after,
         meter: meter,

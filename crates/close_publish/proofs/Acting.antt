@@ -1,12 +1,12 @@
 -- One row read in a closing, by the ways that it ends. Assumes nothing.
-use mathlib.Core.Path.{◌≡◌, refl, sym, ap, ◌∙◌, subst}
+use mathlib.Core.Path.{◌≡◌, refl, sym, ap, ◌∙◌}
 use mathlib.Core.Logic.{inl, inr}
 use mathlib.Core.Bool.{Bool, true, false}
 use mathlib.Core.List.{List}
 use Prim.Native.Nat.{ℕ, suc, ◌+◌, ◌-◌, ◌*◌, ◌<◌}
-use lib.Dec.{T}
 use lib.ListN.{length, take, drop}
-use Rattle.words.specs.Region.{region}
+use Rattle.std.specs.Prelude.{Result, Ok, Err}
+use Rattle.words.specs.Region.{Region, region}
 use Rattle.meter.specs.declared.Meter.{Meter}
 use Rattle.meter.specs.Tick.{Tick}
 use Rattle.meter.specs.Tick as tick
@@ -22,15 +22,15 @@ use Rattle.model.specs.Deduction.{deduction, deduction_ticks, start_cursor}
 use Rattle.model.specs.Closing.{State, Turn, going, conflict, halted, with_hit, hit_at, decide_on, publish, follow, naming}
 use Rattle.model.specs.Closing.{reading, earns, act}
 use Rattle.model.proofs.Priority.Earning.{decides-none}
-use Rattle.row_deduce.specs.declared.Deduced.{Deduced}
-use Rattle.row_deduce.specs.Walks.{deduced}
+use Rattle.row_deduce.specs.Walks.{once}
+use Rattle.row_deduce.specs.Walks as walk
+use Rattle.row_deduce.proofs.Walks.{halted-by, done-by}
 use Rattle.slots.specs.Layout.{Held}
 use Rattle.tier.specs.Tier.{hit_words}
 use Rattle.slots.proofs.Rows.{slot-code}
-use Rattle.close_publish.specs.Turns.{ledger_of, Beside, beside, state, ended_as, turned, Earned}
-use Rattle.close_publish.specs.declared.Flow.{Flow}
-use Rattle.close_publish.specs.declared.Flow.TheVariants.{Continues, Conflict, Stopped}
-use Rattle.close_publish.specs.declared.Reading.{Reading}
+use Rattle.close_publish.specs.Turns.{ledger_of, Beside, beside, state, ended_as, Counted, earned_by}
+use Rattle.close_publish.specs.declared.Halt.{Halt}
+use Rattle.close_publish.specs.declared.Halt.TheVariants.{Conflict, Stopped}
 use Rattle.close_publish.proofs.Standing.{Hits, row_is, hit-entries}
 
 -- ---- what is decided, by what was deduced
@@ -48,10 +48,12 @@ module _ (n : ℕ) (r : Row) (d : Deduction) (s : State) where
   follow-require c o e = sym (ap (λ (d : Deduction). follow n r d s) e)
 
 -- ---- the reading, and whether it earns a hit
--- none where the region is as it was, and there is no Conflict
-pub going-unearned : (n : ℕ) (l : Beside) (held cut : List ℕ) (m : Meter) → false ≡ earns n (region held cut) (going (state l held cut m))
+earned_is : {A : Type 0} (n c c' : ℕ) (old : Region) (g : Result A Halt) (s : State) → Counted n c c' old s.region
+    → earned_by g c c' ≡ earns n old (ended_as g s)
 unfolding earns
-going-unearned n l held cut m = sym (decides-none n (region held cut))
+earned_is n c c' old (Ok a) s w = w.more
+earned_is n c c' old (Err Conflict) s w = refl
+earned_is n c c' old (Err Stopped) s w = w.more
 
 module _ (n p : ℕ) (s : State) (t : Turn) (e : reading n (row_at p s.ledger) s ≡ t) where
   abbrev by : Bool → Turn → Turn
@@ -71,7 +73,7 @@ module _ (n p : ℕ) (s : State) (t : Turn) (e : reading n (row_at p s.ledger) s
 abbrev pub saying : Deduction → Beside → Beside
 saying d l = beside l.ledger (naming d l.contradicted)
 
-module _ (n p : ℕ) (l : Beside) (held cut : List ℕ) (m : Meter) (r : Row) (e : row_at p l.ledger ≡ r) (f : Deduced) where
+module _ (n p : ℕ) (l : Beside) (held cut : List ℕ) (m : Meter) (r : Row) (e : row_at p l.ledger ≡ r) where
   abbrev told : Deduction
   told = deduction (region held cut) r
 
@@ -90,37 +92,27 @@ module _ (n p : ℕ) (l : Beside) (held cut : List ℕ) (m : Meter) (r : Row) (e
       ]) e
 
   -- nothing is decided where the ticks were not all made
-  pub act-stopped : f ≡ deduced told m ticked → f.stopped ≡ true → halted (state l held cut f.meter) ≡ act n p (state l held cut m)
+  pub act-stopped : {k : Meter} → walk.halted k ≡ once told ticked → halted (state l held cut k) ≡ act n p (state l held cut m)
   unfolding by-tick earns
-  act-stopped q o = act-unearned n p (state l held cut m) (halted (state l held cut f.meter)) (go ticked refl q)
-      (decides-none n (region held cut))
-    where
-      go : (t : Tick) → ticked ≡ t → f ≡ deduced told m t
-          → reading n (row_at p l.ledger) (state l held cut m) ≡ halted (state l held cut f.meter)
-      go (tick.Stopped k) u v = reading-is ∙ ap by-tick u ∙ sym (ap (λ (x : Deduced). halted (state l held cut x.meter)) v)
-      go (tick.Ticked k) u v = let z : true ≡ false = sym o ∙ ap (λ (x : Deduced). x.stopped) v in absurd (subst T z tt)
+  act-stopped {k} q =
+      act-unearned n p (state l held cut m) (halted (state l held cut k))
+      (reading-is ∙ ap by-tick (halted-by told ticked k q)) (decides-none n (region held cut))
 
-  reading-said : f ≡ deduced told m ticked → f.stopped ≡ false
-      → reading n (row_at p l.ledger) (state l held cut m)
-      ≡ follow n r f.deduction (state (saying f.deduction l) held cut f.meter)
-  unfolding by-tick
-  reading-said q o = go ticked refl q
-    where
-      go : (t : Tick) → ticked ≡ t → f ≡ deduced told m t
-          → reading n (row_at p l.ledger) (state l held cut m)
-          ≡ follow n r f.deduction (state (saying f.deduction l) held cut f.meter)
-      go (tick.Stopped k) u v = let z : true ≡ false = sym (ap (λ (x : Deduced). x.stopped) v) ∙ o in absurd (subst T z tt)
-      go (tick.Ticked k) u v =
-          reading-is ∙ ap by-tick u
-          ∙ sym (ap (λ (x : Deduced). follow n r x.deduction (state (saying x.deduction l) held cut x.meter)) v)
+  -- they were, and d was deduced
+  module _ (d : Deduction) (k : Meter) (q : walk.done d k ≡ once told ticked) where
+    reading-said : reading n (row_at p l.ledger) (state l held cut m) ≡ follow n r d (state (saying d l) held cut k)
+    unfolding by-tick
+    reading-said =
+        let w = done-by told d ticked k q in
+        reading-is ∙ ap by-tick w.0 ∙ ap (λ (x : Deduction). follow n r x (state (saying x l) held cut k)) w.1
 
-  pub act-nothing : f ≡ deduced told m ticked → f.stopped ≡ false → f.deduction ≡ Nothing
-      → going (state l held cut f.meter) ≡ act n p (state l held cut m)
-  act-nothing q o z =
-      act-unearned n p (state l held cut m) (going (state l held cut f.meter))
-      (reading-said q o ∙ sym (follow-nothing n r f.deduction (state (saying f.deduction l) held cut f.meter) z)
-      ∙ ap (λ (d : Deduction). going (state (saying d l) held cut f.meter)) z)
-      (sym (going-unearned n l held cut f.meter))
+    pub act-nothing : d ≡ Nothing → going (state l held cut k) ≡ act n p (state l held cut m)
+    unfolding earns
+    act-nothing z =
+        act-unearned n p (state l held cut m) (going (state l held cut k))
+        (reading-said ∙ sym (follow-nothing n r d (state (saying d l) held cut k) z)
+        ∙ ap (λ (x : Deduction). going (state (saying x l) held cut k)) z)
+        (decides-none n (region held cut))
 
 -- ---- by the words
 module _ (n rows p : ℕ) (slots held cut : List ℕ) (m : Meter) (k : Held n rows slots) (i : p < rows) where
@@ -133,53 +125,53 @@ module _ (n rows p : ℕ) (slots held cut : List ℕ) (m : Meter) (k : Held n ro
   pub part-row : (h : Header) → row_at p (ledger_of h rows slots) ≡ row
   part-row h = row_is h rows slots p i ∙ sym (ap row_in (slot-code slots p))
 
-  module _ (f : Deduced) (q : f ≡ deduced (deduction (region held cut) row) m (ticks (deduction_ticks (region held cut) row) m))
-      (a : f.stopped ≡ false) (g : Reading) (held' cut' : List ℕ)
-      (w : (l : Beside) → turned g.ended l held' cut' ≡ follow n row f.deduction (state l held cut f.meter))
-      (o : Earned n g held cut held' cut') (before : Contradicted) (h : Header) where
+  -- d was deduced, and followed as far as g
+  module _ (d : Deduction) (after : Meter)
+      (q : walk.done d after ≡ once (deduction (region held cut) row) (ticks (deduction_ticks (region held cut) row) m))
+      {A : Type 0} (g : Result A Halt) (held' cut' : List ℕ) (m' : Meter)
+      (w : (l : Beside) → ended_as g (state l held' cut' m') ≡ follow n row d (state l held cut after))
+      (c c' : ℕ) (counted : Counted n c c' (region held cut) (region held' cut'))
+      (b : Bool) (o : b ≡ earned_by g c c') (before : Contradicted) (h : Header) where
     -- beside the reading, before it and after it
     abbrev given : Beside
     given = beside (ledger_of h rows slots) before
 
-    abbrev left : List ℕ → Beside
-    left ws = beside (ledger_of h rows ws) (naming f.deduction before)
+    abbrev left : List ℕ → State
+    left ws = state (beside (ledger_of h rows ws) (naming d before)) held' cut' m'
 
-    was_read : reading n (row_at p (ledger_of h rows slots)) (state given held cut m) ≡ turned g.ended (left slots) held' cut'
-    was_read = reading-said n p given held cut m row (part-row h) f q a ∙ sym (w (left slots))
+    was_read : reading n (row_at p (ledger_of h rows slots)) (state given held cut m) ≡ ended_as g (left slots)
+    was_read =
+        reading-said n p given held cut m row (part-row h) d after q ∙ sym (w (beside (ledger_of h rows slots) (naming d before)))
+
+    earns-is : (x : Bool) → b ≡ x → earns n (region held cut) (ended_as g (left slots)) ≡ x
+    earns-is x e = sym (earned_is n c c' (region held cut) g (left slots) counted) ∙ sym o ∙ e
 
     -- no hit
-    act-read : g.earned ≡ false → turned g.ended (left slots) held' cut' ≡ act n p (state given held cut m)
-    act-read e =
-        act-unearned n p (state given held cut m) (turned g.ended (left slots) held' cut') was_read (sym (o (left slots)) ∙ e)
+    act-read : b ≡ false → ended_as g (left slots) ≡ act n p (state given held cut m)
+    act-read e = act-unearned n p (state given held cut m) (ended_as g (left slots)) was_read (earns-is false e)
 
     -- the hit after it
-    act-hit : g.earned ≡ true → (slots' : List ℕ) → slots' ≡ hit_words p slots
-        → turned g.ended (left slots') held' cut' ≡ act n p (state given held cut m)
+    act-hit : b ≡ true → (slots' : List ℕ) → slots' ≡ hit_words p slots → ended_as g (left slots') ≡ act n p (state given held cut m)
     unfolding with_hit hit_at
-    act-hit e slots' i' =
-        go g.ended.flow
-        ∙ act-earned n p (state given held cut m) (turned g.ended (left slots) held' cut') was_read (sym (o (left slots)) ∙ e)
+    act-hit e slots' i' = go g ∙ act-earned n p (state given held cut m) (ended_as g (left slots)) was_read (earns-is true e)
       where
         hits : ledger_of h rows slots' ≡ hit_at p (ledger_of h rows slots)
         hits = ap (λ (es : List Entry). record { header = h; entries = es }) (ap (entries_in rows) i' ∙ hit-entries rows p slots k i)
 
         at : Ledger → State
-        at l = state (beside l (naming f.deduction before)) held' cut' g.ended.meter
+        at l = state (beside l (naming d before)) held' cut' m'
 
-        go : (w : Flow) → ended_as w (state (left slots') held' cut' g.ended.meter)
-            ≡ with_hit p (ended_as w (state (left slots) held' cut' g.ended.meter))
-        go Continues = ap (λ (l : Ledger). going (at l)) hits
-        go Conflict = ap (λ (l : Ledger). conflict (at l)) hits
-        go Stopped = ap (λ (l : Ledger). halted (at l)) hits
+        go : (g : Result A Halt) → ended_as g (left slots') ≡ with_hit p (ended_as g (left slots))
+        go (Ok a) = ap (λ (l : Ledger). going (at l)) hits
+        go (Err Conflict) = ap (λ (l : Ledger). conflict (at l)) hits
+        go (Err Stopped) = ap (λ (l : Ledger). halted (at l)) hits
 
-    -- one of the two
-    act-either : (slots' : List ℕ) → Hits g.earned p slots slots'
-        → turned g.ended (left slots') held' cut' ≡ act n p (state given held cut m)
-    act-either slots' (inl w) = act-hit w.0 slots' w.1
-    act-either slots' (inr w) = ap (λ (ws : List ℕ). turned g.ended (left ws) held' cut') w.1 ∙ act-read w.0
-
-    -- with the output that the code hands on
-    pub act-reads : (slots' : List ℕ) → Hits g.earned p slots slots' → (after : Contradicted) → after ≡ naming f.deduction before
-        → turned g.ended (beside (ledger_of h rows slots') after) held' cut' ≡ act n p (state given held cut m)
-    act-reads slots' w after e =
-        ap (λ (x : Contradicted). turned g.ended (beside (ledger_of h rows slots') x) held' cut') e ∙ act-either slots' w
+    -- one of the two, with the output that the code hands on
+    pub act-reads : (slots' : List ℕ) → Hits b p slots slots' → (named : Contradicted) → named ≡ naming d before
+        → ended_as g (state (beside (ledger_of h rows slots') named) held' cut' m') ≡ act n p (state given held cut m)
+    act-reads slots' z named e =
+        ap (λ (x : Contradicted). ended_as g (state (beside (ledger_of h rows slots') x) held' cut' m')) e ∙ either z
+      where
+        either : Hits b p slots slots' → ended_as g (left slots') ≡ act n p (state given held cut m)
+        either (inl y) = act-hit y.0 slots' y.1
+        either (inr y) = ap (λ (ws : List ℕ). ended_as g (left ws)) y.1 ∙ act-read y.0

@@ -3,7 +3,8 @@ use mathlib.Core.Path.{◌≡◌, refl, sym, ap, ap₂, ◌∙◌, subst}
 use mathlib.Core.Bool.{Bool, true, false, ◌||◌}
 use mathlib.Core.List.{List}
 use mathlib.Core.Option.{some}
-use Prim.Native.Nat.{ℕ}
+use Prim.Native.Nat.{ℕ, ◌≤◌, ◌<◌}
+use native.Mathlib.Decide.{dec_lt}
 use native.Mathlib.Omega.{arith}
 use lib.Dec.{T, eqb, ltb}
 use borrow.Author.Tests.{lt-ltb, le-ltb}
@@ -15,27 +16,47 @@ use Rattle.words.specs.declared.Marking.TheVariants.{Anew, Already, False}
 use Rattle.words.proofs.Regions.{Sound, sound-of, region-test}
 use Rattle.words.proofs.Deciding.{sound-decide, answer-none, answer-some, decide-some, holds-mark, marked-anew, marked-already}
 use Rattle.meter.specs.declared.Meter.{Meter}
-use Rattle.model.specs.Closing.{State, going, conflict, decide_on, decides, earns}
+use Rattle.model.specs.Closing.{going, conflict, decide_on, decides}
 use Rattle.model.specs.Priority.{Contains}
-use Rattle.model.proofs.Priority.Earning.{decides-none, decides-anew}
+use Rattle.model.proofs.Priority.Earning.{decides-none, decides-anew, decides-both}
 use Rattle.close_note.specs.Noting.{after_mark, Room, Logs}
 use Rattle.close_note.proofs.Logging.{logs-none}
-use Rattle.close_publish.specs.Turns.{Beside, state}
+use Rattle.close_publish.specs.Turns.{Beside, state, Counted}
 
 -- words that are sound where there was a region are one
 pub region-keeps : (n : ℕ) (r q : Region) → T (is_region n r) → Sound n q → T (is_region n q)
 unfolding is_region
 region-keeps n r q t s = region-test n q (T_of (and_both (atoms_ok n) _ (T_true (is_region n r) t)).0) s
 
+-- ---- how many are noted
+pub counted-none : (n k : ℕ) (r : Region) → Counted n k k r r
+counted-none n k r = record { up = omega arith; more = le-ltb k k (omega arith) ∙ sym (decides-none n r); grown = λ x t. t }
+
+ltb-both : (i j k : ℕ) → i ≤ j → j ≤ k → ltb i k ≡ (ltb i j || ltb j k)
+ltb-both i j k h l = go (dec_lt i j)
+  where
+    go : Dec (i < j) → ltb i k ≡ (ltb i j || ltb j k)
+    go (yes m) = lt-ltb i k (omega arith) ∙ sym (ap (λ (b : Bool). b || ltb j k) (lt-ltb i j m))
+    go (no m) =
+        let e : i ≡ j = omega arith in
+        ap (λ (x : ℕ). ltb x k) e ∙ sym (ap (λ (b : Bool). b || ltb j k) (le-ltb i j (omega arith)))
+
+pub counted-both : (n i j k : ℕ) (r q p : Region) → Counted n i j r q → Counted n j k q p → Counted n i k r p
+counted-both n i j k r q p w v = record {
+  up = (let a = w.up in let b = v.up in omega arith);
+  more = ltb-both i j k w.up v.up ∙ ap₂ ◌||◌ w.more v.more ∙ sym (decides-both n r q p w.grown v.grown);
+  grown = λ x t. v.grown x (w.grown x t);
+}
+
 module _ (n : ℕ) (held cut : List ℕ) (c : ℕ) (b : Bool) (held' cut' : List ℕ)
     (e : decision_with b held' cut' ≡ decision_on n held cut c) where
-  pub decided-going : b ≡ true → (m : Meter) (l : Beside) → going (state l held' cut' m) ≡ decide_on n c (state l held cut m)
+  pub decided-going : b ≡ true → (l : Beside) (m : Meter) → going (state l held' cut' m) ≡ decide_on n c (state l held cut m)
   unfolding decide_on
-  decided-going t m l = rw (answer-some n held cut c b held' cut' e t, decide_on)
+  decided-going t l m = rw (answer-some n held cut c b held' cut' e t, decide_on)
 
-  pub decided-conflict : b ≡ false → (m : Meter) (l : Beside) → conflict (state l held' cut' m) ≡ decide_on n c (state l held cut m)
+  pub decided-conflict : b ≡ false → (l : Beside) (m : Meter) → conflict (state l held' cut' m) ≡ decide_on n c (state l held cut m)
   unfolding decide_on
-  decided-conflict f m l =
+  decided-conflict f l m =
       let a = answer-none n held cut c b held' cut' e f in
       ap₂ (λ (x y : List ℕ). conflict (state l x y m)) a.1 a.2 ∙ sym (rw (a.0, decide_on))
 
@@ -52,7 +73,12 @@ module _ (n : ℕ) (held cut : List ℕ) (c : ℕ) (b : Bool) (held' cut' : List
           let a = answer-none n held cut c false held' cut' q refl in
           subst (λ (r : Region). T (is_region n r)) (ap₂ (λ (x y : List ℕ). region x y) (sym a.1) (sym a.2)) t
 
-  -- and nothing is noted
+  -- and nothing is counted or noted
+  pub conflict-counts : b ≡ false → (k : ℕ) → Counted n k k (region held cut) (region held' cut')
+  conflict-counts f k =
+      let a = answer-none n held cut c b held' cut' e f in
+      subst (Counted n k k (region held cut)) (ap₂ (λ (x y : List ℕ). region x y) (sym a.1) (sym a.2)) (counted-none n k (region held cut))
+
   pub conflict-logs : b ≡ false → (k : ℕ) (ws : List ℕ) → Room n k ws (region held cut)
       → Logs n k ws (region held cut) k ws (region held' cut')
   conflict-logs f k ws w =
@@ -62,7 +88,7 @@ module _ (n : ℕ) (held cut : List ℕ) (c : ℕ) (b : Bool) (held' cut' : List
 
 -- ---- whether an atom was decided
 module _ (n : ℕ) (r q : Region) (c : ℕ) (e : decide n r c ≡ some q) (s : Sound n r) where
-  pub decided-grown : Contains q r
+  decided-grown : Contains q r
   decided-grown x t =
       let d = decide-some n r c q e in
       T_of (ap (λ (y : Region). holds y x) d.2 ∙ holds-mark n r c x s d.0 ∙ ap (λ (b : Bool). b || eqb x c) (T_true (holds r x) t))
@@ -90,26 +116,24 @@ module _ (n : ℕ) (held cut : List ℕ) (c : ℕ) (k : Marking) (held' cut' : L
   made : answer_in k ≡ true → decide n (region held cut) c ≡ some (region held' cut')
   made a = answer-some n held cut c (answer_in k) held' cut' e a
 
-  anew-earns : k ≡ Anew → (m : Meter) (l : Beside) → true ≡ earns n (region held cut) (going (state l held' cut' m))
-  unfolding earns
-  anew-earns a m l = decided-anew n before (region held' cut') c (made (ap answer_in a)) (sound-of n before t) (sym q ∙ a)
-
-  already-earns : k ≡ Already → (m : Meter) (l : Beside) → false ≡ earns n (region held cut) (going (state l held' cut' m))
-  unfolding earns
-  already-earns a m l = decided-already n before (region held' cut') c (made (ap answer_in a)) (sound-of n before t) (sym q ∙ a)
-
   -- more are noted than were exactly if an atom was decided
-  pub noted-earns : (k ≡ False → ⊥) → (d d' : ℕ) → d' ≡ after_mark k d → (m : Meter) (l : Beside)
-      → ltb d d' ≡ earns n (region held cut) (going (state l held' cut' m))
-  noted-earns o d d' a m l = go k refl a
+  pub decided-counts : (k ≡ False → ⊥) → (d d' : ℕ) → d' ≡ after_mark k d → Counted n d d' (region held cut) (region held' cut')
+  decided-counts o d d' a = go k refl a
     where
-      go : (x : Marking) → k ≡ x → d' ≡ after_mark x d
-          → ltb d d' ≡ earns n (region held cut) (going (state l held' cut' m))
-      go Anew y a = lt-ltb d d' (omega arith) ∙ anew-earns y m l
-      go Already y a = le-ltb d d' (omega arith) ∙ already-earns y m l
-      go False y a = absurd (o y)
+      sound : Sound n (region held cut)
+      sound = sound-of n (region held cut) t
 
--- a Conflict, whatever was decided
-pub conflict-earns : (n : ℕ) (old : Region) (s : State) → true ≡ earns n old (conflict s)
-unfolding earns
-conflict-earns n old s = refl
+      go : (x : Marking) → k ≡ x → d' ≡ after_mark x d → Counted n d d' (region held cut) (region held' cut')
+      go Anew y a = record {
+        up = omega arith;
+        more = lt-ltb d d' (omega arith)
+            ∙ decided-anew n before (region held' cut') c (made (ap answer_in y)) sound (sym q ∙ y);
+        grown = decided-grown n before (region held' cut') c (made (ap answer_in y)) sound;
+      }
+      go Already y a = record {
+        up = omega arith;
+        more = le-ltb d d' (omega arith)
+            ∙ decided-already n before (region held' cut') c (made (ap answer_in y)) sound (sym q ∙ y);
+        grown = decided-grown n before (region held' cut') c (made (ap answer_in y)) sound;
+      }
+      go False y a = absurd (o y)

@@ -1,15 +1,17 @@
--- A turn that goes on, and one that does not. Assumes nothing.
-use mathlib.Core.Path.{◌≡◌, refl, ap}
-use Rattle.model.specs.Closing.{State, Turn, going, on_going}
-use Rattle.close_publish.specs.Turns.{ended_as}
-use Rattle.close_publish.specs.declared.Flow.{Flow}
-use Rattle.close_publish.specs.declared.Flow.TheVariants.{Continues, Conflict, Stopped}
+-- A function that does not go on, and what it leaves. Assumes nothing.
+use mathlib.Core.Path.{◌≡◌, refl, ap, ◌∙◌}
+use Rattle.std.specs.Prelude.{Result, Err}
+use Rattle.model.specs.Closing.{State, Turn, on_going}
+use Rattle.close_publish.specs.Turns.{halted_as, ended_as}
+use Rattle.close_publish.specs.declared.Halt.{Halt}
+use Rattle.close_publish.specs.declared.Halt.TheVariants.{Conflict, Stopped}
 
-pub ended-goes : (e : Flow) (s : State) → e ≡ Continues → ended_as e s ≡ going s
-ended-goes e s q = ap (λ (e : Flow). ended_as e s) q
-
-pub ended-stays : (e : Flow) (s : State) (k : State → Turn) → (e ≡ Continues → ⊥) → ended_as e s ≡ on_going (ended_as e s) k
+-- nothing comes after it
+pub halted-stays : (e : Halt) (s : State) (k : State → Turn) → halted_as e s ≡ on_going (halted_as e s) k
 unfolding on_going
-ended-stays Continues s k t = absurd (t refl)
-ended-stays Conflict s k t = refl
-ended-stays Stopped s k t = refl
+halted-stays Conflict s k = refl
+halted-stays Stopped s k = refl
+
+-- it stops where one that it calls does
+pub ended-on : {A : Type 0} {r : Result A Halt} {e : Halt} (s : State) {t : Turn} → r ≡ Err e → halted_as e s ≡ t → ended_as r s ≡ t
+ended-on {A} s p q = ap (λ (x : Result A Halt). ended_as x s) p ∙ q

@@ -1,6 +1,6 @@
 -- Publishing in a closing: each output decided in turn, up to the end, a false decision or a stop. Assumes nothing.
 use mathlib.Core.Path.{◌≡◌, refl, sym, ap, ap₂, ◌∙◌, subst}
-use mathlib.Core.Bool.{Bool, true, false, ◌||◌}
+use mathlib.Core.Bool.{Bool, true, false}
 use mathlib.Core.List.{List, []}
 use mathlib.Core.Option.{Option, none, some}
 use Prim.Native.Nat.{ℕ, zero, suc, ◌<◌, ◌≤◌}
@@ -12,34 +12,24 @@ use Rattle.lists.proofs.Bools.{T_true, T_of}
 use Rattle.words.specs.Region.{Region, region, is_region, decide}
 use Rattle.words.proofs.Regions.{sound-of}
 use Rattle.meter.specs.declared.Meter.{Meter}
-use Rattle.model.specs.declared.Literal.{Literal}
 use Rattle.model.specs.declared.OutputCursor.{OutputCursor}
-use Rattle.model.specs.declared.NextAnswer.{NextAnswer}
-use Rattle.model.specs.declared.NextAnswer.TheVariants as next-answer
-use Rattle.model.specs.declared.NextResult.{NextResult}
 use Rattle.model.specs.declared.Contradicted.TheVariants.{None}
 use Rattle.model.specs.Records.{Row, is_row, fresh, limits_of}
 use Rattle.model.specs.Slots.{row_in}
-use Rattle.model.specs.Deduction.{Next, stopped, end, output, Published, next_output, start_cursor}
-use Rattle.model.specs.Operations.{next_answer}
+use Rattle.model.specs.Deduction.{Next, stopped, end, output, Published, published, next_output, start_cursor}
 use Rattle.model.specs.Closing.{State, Turn, going, conflict, halted, on_going, with_meter, with_region, decide_on, publish}
-use Rattle.model.specs.Closing.{decides, earns}
-use Rattle.model.specs.Priority.{Contains}
 use Rattle.model.proofs.Slots.{ascending-asc}
 use Rattle.model.proofs.Priority.Cursors.{Good, start-good, next-gives}
 use Rattle.model.proofs.Priority.Reaching.{After, Resting, resting}
-use Rattle.model.proofs.Priority.Earning.{decides-none, decides-both}
 use Rattle.model.proofs.Priority.Fuel.{publish-fuel}
 use Rattle.model.proofs.Rows.{row-parts}
 use Rattle.slots.specs.Layout.{Stored}
-use Rattle.row_deduce.specs.Publication.{Pointed, next_end}
+use Rattle.row_deduce.specs.Publication.{Pointed}
 use Rattle.row_deduce.proofs.Cursors.{pointed-start, pointed-next}
-use Rattle.close_publish.specs.Turns.{Beside, beside, state, ended_as, turned, Earned}
-use Rattle.close_publish.specs.declared.Flow.{Flow}
-use Rattle.close_publish.specs.declared.Flow.TheVariants.{Continues, Conflict, Stopped}
-use Rattle.close_publish.specs.declared.Reading.{Reading}
-use Rattle.close_publish.proofs.Ending.{ended-goes, ended-stays}
-use Rattle.close_publish.proofs.Deciding.{decided-grown}
+use Rattle.close_publish.specs.Turns.{Beside, beside, state, halted_as, Counted}
+use Rattle.close_publish.specs.declared.Halt.{Halt}
+use Rattle.close_publish.proofs.Ending.{halted-stays}
+use Rattle.close_publish.proofs.Deciding.{counted-none, counted-both}
 
 -- ---- a publishing reads and writes nothing of the ledger, nor of the output that is named
 abbrev with : Beside → State → State
@@ -158,72 +148,18 @@ module _ (fuel n : ℕ) (r : Row) (k : OutputCursor) (s : State) where
   unfolding publish after
   publish-outputs c e = ap after e
 
--- the code's answer
-output-next : (z : Next) (c : Literal) → next_answer z ≡ next-answer.Output c → z ≡ output c.0
-unfolding next_answer
-output-next stopped c e = absurd (let q : ◌≡◌ {A = ℕ} 0 1 = cc in omega arith)
-output-next end c e = absurd (let q : ◌≡◌ {A = ℕ} 0 1 = cc in omega arith)
-output-next (output d) c e = ap output (ap code_in e)
-  where
-    code_in : NextAnswer → ℕ
-    code_in (next-answer.Output c) = c.0
-    code_in (next-answer.Refused k) = 0
-    code_in next-answer.Stopped = 0
-    code_in next-answer.End = 0
-
-end-next : (z : Next) → next_answer z ≡ next-answer.End → z ≡ end
-unfolding next_answer
-end-next stopped e = absurd (let q : ◌≡◌ {A = ℕ} 0 1 = cc in omega arith)
-end-next end e = refl
-end-next (output d) e = absurd (let q : ◌≡◌ {A = ℕ} 0 1 = cc in omega arith)
-
-stopped-next : (z : Next) → ((c : Literal) → next_answer z ≡ next-answer.Output c → ⊥) → (next_answer z ≡ next-answer.End → ⊥) → z ≡ stopped
-unfolding next_answer
-stopped-next stopped o e = refl
-stopped-next end o e = absurd (e refl)
-stopped-next (output d) o e = absurd (o _ refl)
-
--- ---- one decision, by how it ended
--- it never stops: where it does not go on it is a Conflict, which earns a hit
-clashes : (w : Flow) (n : ℕ) (old older : Region) (s : State) (c : ℕ) (t : State) → (w ≡ Continues → ⊥)
-    → ended_as w s ≡ decide_on n c t → earns n old (ended_as w s) ≡ earns n older (ended_as w s)
-unfolding earns decide_on
-clashes Continues n old older s c t o e = absurd (o refl)
-clashes Conflict n old older s c t o e = refl
-clashes Stopped n old older s c t o e = go (decide n t.region c) e
-  where
-    go : (d : Option Region) → halted s ≡ (elim d as (λ k. Turn) [
-      | none ↦ conflict t
-      | some r ↦ going (with_region r t)
-    ]) → decides n old s.region ≡ decides n older s.region
-    go none e = absurd (let q : ◌≡◌ {A = ℕ} 0 1 = cc in omega arith)
-    go (some r) e = absurd (let q : ◌≡◌ {A = ℕ} 0 1 = cc in omega arith)
-
--- where it goes on, the literal is decided, and the meter is as it was
-decide-gives : (n c : ℕ) (t s : State) → going s ≡ decide_on n c t → (decide n t.region c ≡ some s.region) × (s.meter ≡ t.meter)
-unfolding decide_on
-decide-gives n c t s e = go (decide n t.region c) e
-  where
-    go : (d : Option Region) → going s ≡ (elim d as (λ k. Turn) [
-      | none ↦ conflict t
-      | some r ↦ going (with_region r t)
-    ]) → (d ≡ some s.region) × (s.meter ≡ t.meter)
-    go none e = absurd (let q : ◌≡◌ {A = ℕ} 0 1 = cc in omega arith)
-    go (some r) e = (cc, cc)
-
 -- ---- the walk
 bare : Beside
 bare = beside (record { header = fresh (limits_of 0 0 0) 0; entries = [] }) None
 
-pub record Publishes (n : ℕ) (slot held₀ cut₀ : List ℕ) (m₀ : Meter) (held cut : List ℕ) (m : Meter) (earned : Bool) (k : OutputCursor)
-    : Type 0 where
+pub record Publishes (n : ℕ) (slot held₀ cut₀ : List ℕ) (m₀ : Meter) (c₀ : ℕ) (held cut : List ℕ) (m : Meter) (c : ℕ)
+    (k : OutputCursor) : Type 0 where
   pub pointed : Pointed (row_in slot) k
   pub good : Good (row_in slot) k
   pub whole : T (is_region n (region held cut))
   pub held_long : length held ≡ length held₀
   pub cut_long : length cut ≡ length cut₀
-  pub grown : Contains (region held cut) (region held₀ cut₀)
-  pub earns : earned ≡ decides n (region held₀ cut₀) (region held cut)
+  pub counted : Counted n c₀ c (region held₀ cut₀) (region held cut)
   pub rest : (l : Beside) → publish (suc (left (row_in slot) k)) n (row_in slot) k (state l held cut m)
       ≡ publish (suc (length (row_in slot).outputs)) n (row_in slot) start_cursor (state l held₀ cut₀ m₀)
 
@@ -252,9 +188,9 @@ module _ (n : ℕ) (slot : List ℕ) (st : Stored n slot) where
   start-short : left row start_cursor ≤ length row.outputs
   start-short = let w = rests row rising in subst (λ (a : ℕ). a ≤ length row.outputs) (sym (w.is start_cursor)) w.by.short
 
-  pub publish-start : (held cut : List ℕ) (m : Meter) (b : Bool) → b ≡ false → T (is_region n (region held cut))
-      → Publishes n slot held cut m held cut m b start_cursor
-  publish-start held cut m b e t =
+  pub publish-start : (held cut : List ℕ) (m : Meter) (c : ℕ) → T (is_region n (region held cut))
+      → Publishes n slot held cut m c held cut m c start_cursor
+  publish-start held cut m c t =
       let h = start-short in
       record {
         pointed = pointed-start row;
@@ -262,111 +198,94 @@ module _ (n : ℕ) (slot : List ℕ) (st : Stored n slot) where
         whole = t;
         held_long = refl;
         cut_long = refl;
-        grown = λ x t. t;
-        earns = e ∙ sym (decides-none n (region held cut));
+        counted = counted-none n c (region held cut);
         rest = λ l. fuel-any (suc (left row start_cursor)) (suc (length row.outputs)) start_cursor held cut m l (start-good row) t
             (omega arith) (omega arith);
       }
 
-  module _ (held₀ cut₀ : List ℕ) (m₀ : Meter) (held cut : List ℕ) (m : Meter) (b : Bool) (k : OutputCursor)
-      (w : Publishes n slot held₀ cut₀ m₀ held cut m b k) (f : NextResult) (q : f ≡ next_end m (next_output (region held cut) row k m)) where
+  -- what is published next, z, with the cursor and the meter after it
+  module _ (held₀ cut₀ : List ℕ) (m₀ : Meter) (c₀ : ℕ) (held cut : List ℕ) (m : Meter) (c : ℕ) (k : OutputCursor)
+      (w : Publishes n slot held₀ cut₀ m₀ c₀ held cut m c k) (z : Next) (k' : OutputCursor) (m' : Meter)
+      (q : published z k' m' ≡ next_output (region held cut) row k m) where
     abbrev wholly : Beside → Turn
     wholly l = publish (suc (length row.outputs)) n row start_cursor (state l held₀ cut₀ m₀)
 
-    abbrev next : Next
-    next = (next_output (region held cut) row k m).next
+    abbrev next : Published
+    next = next_output (region held cut) row k m
 
-    meter-is : f.meter ≡ (next_output (region held cut) row k m).meter
-    meter-is = ap (λ (y : NextResult). y.meter) q
+    next-is : (next_output (region held cut) row k m).next ≡ z
+    unfolding published
+    next-is = sym (ap (λ (y : Published). y.next) q)
 
-    cursor-is : f.cursor ≡ (next_output (region held cut) row k m).cursor
-    cursor-is = ap (λ (y : NextResult). y.cursor) q
+    meter-is : m' ≡ (next_output (region held cut) row k m).meter
+    unfolding published
+    meter-is = ap (λ (y : Published). y.meter) q
 
-    answer-is : next_answer next ≡ f.answer
-    answer-is = sym (ap (λ (y : NextResult). y.answer) q)
+    cursor-is : k' ≡ (next_output (region held cut) row k m).cursor
+    unfolding published
+    cursor-is = ap (λ (y : Published). y.cursor) q
 
-    pub publish-stopped : ((c : Literal) → f.answer ≡ next-answer.Output c → ⊥) → (f.answer ≡ next-answer.End → ⊥) → (l : Beside)
-        → halted (state l held cut f.meter) ≡ wholly l
-    publish-stopped o e l =
+    pub publish-stopped : z ≡ stopped → (l : Beside)
+        → halted (state l held cut m') ≡ publish (suc (length row.outputs)) n row start_cursor (state l held₀ cut₀ m₀)
+    publish-stopped e l =
         ap (λ (y : Meter). halted (state l held cut y)) meter-is
-        ∙ sym (publish-stops (left row k) n row k (state l held cut m)
-        (stopped-next next (λ c q. o c (sym answer-is ∙ q)) (λ q. e (sym answer-is ∙ q))))
-        ∙ w.rest l
+        ∙ sym (publish-stops (left row k) n row k (state l held cut m) (next-is ∙ e)) ∙ w.rest l
 
-    pub publish-end : f.answer ≡ next-answer.End → (l : Beside) → going (state l held cut f.meter) ≡ wholly l
+    pub publish-end : z ≡ end → (l : Beside)
+        → going (state l held cut m') ≡ publish (suc (length row.outputs)) n row start_cursor (state l held₀ cut₀ m₀)
     publish-end e l =
         ap (λ (y : Meter). going (state l held cut y)) meter-is
-        ∙ sym (publish-ends (left row k) n row k (state l held cut m) (end-next next (answer-is ∙ e)))
-        ∙ w.rest l
+        ∙ sym (publish-ends (left row k) n row k (state l held cut m) (next-is ∙ e)) ∙ w.rest l
 
-    module _ (c : Literal) (e : f.answer ≡ next-answer.Output c) (one : Reading) (held' cut' : List ℕ)
-        (d : (l : Beside) → turned one.ended l held' cut' ≡ decide_on n c.0 (state l held cut f.meter)) where
-      is-output : next ≡ output c.0
-      is-output = output-next next c (answer-is ∙ e)
-
+    module _ (o : ℕ) (e : z ≡ output o) where
       -- the walk with the output at hand
-      here : (l : Beside) → on_going (decide_on n c.0 (state l held cut f.meter)) (publish (left row k) n row f.cursor) ≡ wholly l
+      here : (l : Beside) → on_going (decide_on n o (state l held cut m')) (publish (left row k) n row k') ≡ wholly l
       here l =
-          ap₂ (λ (y : Meter) (z : OutputCursor). on_going (decide_on n c.0 (state l held cut y)) (publish (left row k) n row z)) meter-is
+          ap₂ (λ (y : Meter) (j : OutputCursor). on_going (decide_on n o (state l held cut y)) (publish (left row k) n row j)) meter-is
           cursor-is
-          ∙ sym (publish-outputs (left row k) n row k (state l held cut m) c.0 is-output)
+          ∙ sym (publish-outputs (left row k) n row k (state l held cut m) o (next-is ∙ e))
           ∙ w.rest l
 
-      -- a decision that does not go on is a Conflict, and ends the walk
-      pub publish-conflict : (one.ended.flow ≡ Continues → ⊥) → (l : Beside)
-          → turned one.ended l held' cut' ≡ wholly l
-      publish-conflict o l =
-          ended-stays one.ended.flow (state l held' cut' one.ended.meter) (publish (left row k) n row f.cursor) o
-          ∙ ap (λ (y : Turn). on_going y (publish (left row k) n row f.cursor)) (d l) ∙ here l
+      -- a decision that does not go on ends the walk
+      pub publish-halts : (h : Halt) (held' cut' : List ℕ)
+          → ((l : Beside) (m : Meter) → halted_as h (state l held' cut' m) ≡ decide_on n o (state l held cut m))
+          → (l : Beside) → halted_as h (state l held' cut' m')
+          ≡ publish (suc (length row.outputs)) n row start_cursor (state l held₀ cut₀ m₀)
+      publish-halts h held' cut' d l =
+          halted-stays h (state l held' cut' m') (publish (left row k) n row k')
+          ∙ ap (λ (y : Turn). on_going y (publish (left row k) n row k')) (d l m') ∙ here l
 
-      pub ended-earns : (one.ended.flow ≡ Continues → ⊥) → Earned n one held cut held' cut'
-          → Earned n one held₀ cut₀ held' cut'
-      ended-earns o g l =
-          g l
-          ∙ clashes one.ended.flow n (region held cut) (region held₀ cut₀) (state l held' cut' one.ended.meter) c.0
-          (state l held cut f.meter) o (d l)
-
-      pub publish-less : left row f.cursor < left row k
+      pub publish-less : left row k' < left row k
       publish-less =
           let v = rests row rising in
           let a = (v.by.turn (region held cut) k m w.good).after in
-          let z : length (v.by.rest (next_output (region held cut) row k m).cursor)
+          let h : length (v.by.rest (next_output (region held cut) row k m).cursor)
           < length (v.by.rest k) = (subst
-          (λ (y : Next). After (region held cut) (v.by.rest k) y (v.by.rest (next_output (region held cut) row k m).cursor)) is-output
+          (λ (y : Next). After (region held cut) (v.by.rest k) y (v.by.rest (next_output (region held cut) row k m).cursor)) (next-is ∙ e)
           a).1 in
           subst (λ (y : ℕ). y < left row k) (sym (ap (left row) cursor-is ∙ v.is (next_output (region held cut) row k m).cursor))
-          (subst (λ (y : ℕ). length (v.by.rest (next_output (region held cut) row k m).cursor) < y) (sym (v.is k)) z)
+          (subst (λ (y : ℕ). length (v.by.rest (next_output (region held cut) row k m).cursor) < y) (sym (v.is k)) h)
 
-      module _ (t : one.ended.flow ≡ Continues) where
-        on : (l : Beside) → going (state l held' cut' one.ended.meter) ≡ decide_on n c.0 (state l held cut f.meter)
-        on l = sym (ended-goes one.ended.flow (state l held' cut' one.ended.meter) t) ∙ d l
-
-        pub publish-on : Earned n one held cut held' cut' → T (is_region n (region held' cut'))
-            → length held' ≡ length held → length cut' ≡ length cut → (b' : Bool) → b' ≡ (b || one.earned)
-            → Publishes n slot held₀ cut₀ m₀ held' cut' f.meter b' f.cursor
-        unfolding on_going bare earns
-        publish-on g whole x y b' o =
-            let good : Good row f.cursor =
-            subst (Good row) (sym cursor-is)
-            (next-gives (region held cut) row k m (ascending-asc row.outputs rising) w.good).cursor in
-            let less = publish-less in
-            let some_is = decide-gives n c.0 (state bare held cut f.meter) (state bare held' cut' one.ended.meter) (on bare) in
-            let more = decided-grown n (region held cut) (region held' cut') c.0 some_is.0
-            (sound-of n (region held cut) w.whole) in
-            let new : one.earned ≡ decides n (region held cut) (region held' cut') =
-            g bare ∙ ap (earns n (region held cut)) (ended-goes one.ended.flow (state bare held' cut' one.ended.meter) t) in
-            record {
-              pointed = subst (Pointed row) (sym cursor-is) (pointed-next n row st.row st.atoms (region held cut) k m w.pointed);
-              good = good;
-              whole = whole;
-              held_long = x ∙ w.held_long;
-              cut_long = y ∙ w.cut_long;
-              grown = λ z h. more z (w.grown z h);
-              earns = o ∙ ap₂ ◌||◌ w.earns new
-                  ∙ sym (decides-both n (region held₀ cut₀) (region held cut) (region held' cut') w.grown more);
-              rest = λ l.
-                  fuel-any (suc (left row f.cursor)) (left row k) f.cursor held' cut' f.meter l good whole (omega arith) less
-                  ∙ ap (λ (z : Turn). on_going z (publish (left row k) n row f.cursor))
-                  (ap (λ (y : Meter). going (state l held' cut' y)) (sym some_is.1) ∙ on l)
-                  ∙ here l;
-            }
+      -- the next output after a decision that goes on
+      pub publish-on : (held' cut' : List ℕ) (c' : ℕ)
+          → ((l : Beside) (m : Meter) → going (state l held' cut' m) ≡ decide_on n o (state l held cut m))
+          → Counted n c c' (region held cut) (region held' cut') → T (is_region n (region held' cut'))
+          → length held' ≡ length held → length cut' ≡ length cut
+          → Publishes n slot held₀ cut₀ m₀ c₀ held' cut' m' c' k'
+      unfolding on_going
+      publish-on held' cut' c' d counted whole x y =
+          let good : Good row k' =
+          subst (Good row) (sym cursor-is)
+          (next-gives (region held cut) row k m (ascending-asc row.outputs rising) w.good).cursor in
+          let less = publish-less in
+          record {
+            pointed = subst (Pointed row) (sym cursor-is) (pointed-next n row st.row st.atoms (region held cut) k m w.pointed);
+            good = good;
+            whole = whole;
+            held_long = x ∙ w.held_long;
+            cut_long = y ∙ w.cut_long;
+            counted = counted-both n c₀ c c' (region held₀ cut₀) (region held cut) (region held' cut') w.counted counted;
+            rest = λ l.
+                fuel-any (suc (left row k')) (left row k) k' held' cut' m' l good whole (omega arith) less
+                ∙ ap (λ (u : Turn). on_going u (publish (left row k) n row k')) (d l m') ∙ here l;
+          }

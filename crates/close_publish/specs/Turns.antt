@@ -1,17 +1,15 @@
 -- 01, module 8, Closing: what the code's functions leave, as turns of the definition. Assumes nothing.
-use Rattle.std.specs.Prelude.{◌≡◌, List, ℕ}
-use Rattle.words.specs.Region.{region}
+use Rattle.std.specs.Prelude.{◌≡◌, Bool, true, List, ℕ, ◌≤◌, ltb, Result, Ok, Err}
+use Rattle.words.specs.Region.{Region, region}
 use Rattle.meter.specs.declared.Meter.{Meter}
 use Rattle.model.specs.declared.Header.{Header}
 use Rattle.model.specs.declared.Contradicted.{Contradicted}
 use Rattle.model.specs.Records.{Ledger}
 use Rattle.model.specs.Slots.{entries_in}
-use Rattle.model.specs.Closing.{State, Turn, going, conflict, halted, earns}
-use Rattle.close_publish.specs.declared.Flow.{Flow}
-use Rattle.close_publish.specs.declared.Flow.TheVariants.{Continues, Conflict, Stopped}
-use Rattle.close_publish.specs.declared.Ended.{Ended}
-use Rattle.close_publish.specs.declared.Acted.{Acted}
-use Rattle.close_publish.specs.declared.Reading.{Reading}
+use Rattle.model.specs.Closing.{State, Turn, going, conflict, halted, decides}
+use Rattle.model.specs.Priority.{Contains}
+use Rattle.close_publish.specs.declared.Halt.{Halt}
+use Rattle.close_publish.specs.declared.Halt.TheVariants.{Conflict, Stopped}
 
 -- a ledger of so many rows in slots
 abbrev pub ledger_of : Header → ℕ → List ℕ → Ledger
@@ -28,17 +26,27 @@ beside l o = record { ledger = l; contradicted = o }
 abbrev pub state : Beside → List ℕ → List ℕ → Meter → State
 state l held cut m = record { ledger = l.ledger; region = region held cut; meter = m; contradicted = l.contradicted }
 
-abbrev pub ended_as : Flow → State → Turn
-ended_as Continues s = going s
-ended_as Conflict s = conflict s
-ended_as Stopped s = halted s
+-- the error that a stopped tick is to a closing
+abbrev pub halt_of : Halt
+halt_of = Stopped
 
-abbrev pub turned : Ended → Beside → List ℕ → List ℕ → Turn
-turned r l held cut = ended_as r.flow (state l held cut r.meter)
+-- how a function ended, with the state that it leaves
+abbrev pub halted_as : Halt → State → Turn
+halted_as Conflict s = conflict s
+halted_as Stopped s = halted s
 
-abbrev pub acted : Acted → Ledger → List ℕ → List ℕ → Turn
-acted r l held cut = turned r.ended (beside l r.contradicted) held cut
+abbrev pub ended_as : {A : Type 0} → Result A Halt → State → Turn
+ended_as (Ok a) s = going s
+ended_as (Err e) s = halted_as e s
 
--- the reading says whether it earns a hit, from the words before it and after it
-abbrev pub Earned : ℕ → Reading → List ℕ → List ℕ → List ℕ → List ℕ → Type 0
-Earned n r held cut held' cut' = (l : Beside) → r.earned ≡ earns n (region held cut) (turned r.ended l held' cut')
+-- more are noted than were exactly if an atom was decided, and nothing that was decided is taken back
+pub record Counted (n k k' : ℕ) (old new : Region) : Type 0 where
+  pub up : k ≤ k'
+  pub more : ltb k k' ≡ decides n old new
+  pub grown : Contains new old
+
+-- whether a reading earns a hit, by how it ended and how many were noted before it and after it
+abbrev pub earned_by : {A : Type 0} → Result A Halt → ℕ → ℕ → Bool
+earned_by (Ok a) k k' = ltb k k'
+earned_by (Err Conflict) k k' = true
+earned_by (Err Stopped) k k' = ltb k k'

@@ -3,18 +3,19 @@
 
 ghost use Rattle.std.specs.Prelude.{◌≡◌, suc, ◌<◌, T, length};
 ghost use Rattle.words.specs.Region.{region, is_region};
+ghost use Rattle.meter.specs.declared.Meter.{Meter};
 ghost use Rattle.model.specs.declared.Header.{Header};
 ghost use Rattle.model.specs.Slots.{row_in};
 ghost use Rattle.model.specs.Deduction.{start_cursor};
 ghost use Rattle.model.specs.Closing.{decide_on, publish, follow, naming, act};
 ghost use Rattle.slots.specs.Layout.{Stored, rows_in};
 ghost use Rattle.close_note.specs.Noting.{Room, Logs};
-ghost use Rattle.close_publish.specs.Turns.{Beside, beside, state, turned, acted, Earned, ledger_of};
+ghost use Rattle.close_publish.specs.Turns.{Beside, beside, state, ended_as, Counted, earned_by, halt_of, ledger_of};
 ghost use Rattle.close_publish.specs.Standing.{Standing};
 
 use close_note::note;
-use meter::Meter;
-use model::{Contradicted, Deduction, NextAnswer, OutputCursor, SLOT_WORDS};
+use meter::{Meter, Stopped};
+use model::{Contradicted, Deduction, OutputCursor, SLOT_WORDS};
 use row_deduce::{deduction, next_of_side};
 use tier::hit;
 use words::{Marking, decide_literal};
@@ -27,35 +28,19 @@ const START: OutputCursor = OutputCursor {
     absent: 0,
 };
 
-// How far a closing came: it goes on, a decision was false, or a tick was not made.
-#[derive(Clone, Copy)]
-pub enum Flow {
-    Continues,
+// Why a closing does not go on: a decision was false, or a tick was not made.
+#[derive(Clone, Copy, Debug, PartialEq, Eq)]
+pub enum Halt {
     Conflict,
     Stopped,
 }
 
-// How a closing goes on, with the meter as it stands.
-#[derive(Clone, Copy)]
-pub struct Ended {
-    pub flow: Flow,
-    pub meter: Meter,
-}
+impl From<Stopped> for Halt {
+    ghost from_gives = { λ _ e. e ≡ halt_of };
 
-// The same after a row or a round, the contradicted output of the last Require that the closing acted on, and how many atoms are noted.
-#[derive(Clone, Copy)]
-pub struct Acted {
-    pub ended: Ended,
-    pub contradicted: Contradicted,
-    pub decided: usize,
-}
-
-// How the reading of a row ended, whether it earned a hit, by an atom decided or a Conflict, and how many atoms are noted.
-#[derive(Clone, Copy)]
-struct Reading {
-    ended: Ended,
-    earned: bool,
-    decided: usize,
+    fn from(_stopped: Stopped) -> Halt {
+        Halt::Stopped
+    }
 }
 
 // Decides a literal, and notes its atom if that is decided anew. Conflict, and no region changed, if it is out of range or its opposite is
@@ -65,40 +50,26 @@ fn decide_on(
     held: &mut [u64],
     cut: &mut [u64],
     noted: &mut [u64],
-    decided: usize,
+    decided: &mut usize,
     literal: u64,
-    work: Meter,
-) -> Reading
+) -> Result<(), Halt>
     requires fact_1 { T (is_region atoms (region held.old cut.old)) }
-    requires fact_2 { Room atoms decided noted.old (region held.old cut.old) }
-    ensures turn { (l : Beside) → turned result.ended l held.new cut.new
-        ≡ decide_on atoms literal (state l held.old cut.old work) }
-    ensures earned { Earned atoms result held.old cut.old held.new cut.new }
+    requires fact_2 { Room atoms decided.old noted.old (region held.old cut.old) }
+    ensures turn { (l : Beside) (m : Meter) → ended_as result (state l held.new cut.new m)
+        ≡ decide_on atoms literal (state l held.old cut.old m) }
+    ensures counted { Counted atoms decided.old decided.new (region held.old cut.old)
+        (region held.new cut.new) }
     ensures whole { T (is_region atoms (region held.new cut.new)) }
-    ensures logged { Logs atoms decided noted.old (region held.old cut.old) result.decided
+    ensures logged { Logs atoms decided.old noted.old (region held.old cut.old) decided.new
         noted.new (region held.new cut.new) }
 {
     let marking = decide_literal(atoms, held, cut, literal);
     if let Marking::False = marking {
-        return Reading {
-            ended: Ended {
-                flow: Flow::Conflict,
-                meter: work,
-            },
-            earned: true, // also if nothing was decided
-            decided: decided,
-        };
+        return Err(Halt::Conflict);
     }
     // from here on without a branch: which of the literals are decided anew is not foreseen
-    let after = note(noted, decided, literal / 2, marking);
-    Reading {
-        ended: Ended {
-            flow: Flow::Continues,
-            meter: work,
-        },
-        earned: decided < after,
-        decided: after,
-    }
+    *decided = note(noted, *decided, literal / 2, marking);
+    Ok(())
 }
 
 // Decides each output that a row publishes. Conflict at the first false decision, Stopped at the first tick that was not made; what was
@@ -109,59 +80,27 @@ fn publish(
     held: &mut [u64],
     cut: &mut [u64],
     noted: &mut [u64],
-    decided: usize,
-    work: Meter,
-) -> Reading
+    decided: &mut usize,
+    meter: &mut Meter,
+) -> Result<(), Halt>
     requires fact_1 { Stored atoms slot.now }
     requires fact_2 { T (is_region atoms (region held.old cut.old)) }
-    requires fact_3 { Room atoms decided noted.old (region held.old cut.old) }
-    ensures turn { (l : Beside) → turned result.ended l held.new cut.new
+    requires fact_3 { Room atoms decided.old noted.old (region held.old cut.old) }
+    ensures turn { (l : Beside) → ended_as result (state l held.new cut.new meter.new)
         ≡ publish (suc (length (row_in slot.now).outputs)) atoms (row_in slot.now) start_cursor
-        (state l held.old cut.old work) }
-    ensures earned { Earned atoms result held.old cut.old held.new cut.new }
+        (state l held.old cut.old meter.old) }
+    ensures counted { Counted atoms decided.old decided.new (region held.old cut.old)
+        (region held.new cut.new) }
     ensures whole { T (is_region atoms (region held.new cut.new)) }
-    ensures logged { Logs atoms decided noted.old (region held.old cut.old) result.decided
+    ensures logged { Logs atoms decided.old noted.old (region held.old cut.old) decided.new
         noted.new (region held.new cut.new) }
 {
-    let mut meter = work;
-    let mut count = decided;
-    let mut earned = false;
     let mut cursor = START;
     let side = slots::outputs(slot);
-    loop {
-        let found = next_of_side(slot, side, cursor, held, cut, meter);
-        cursor = found.cursor;
-        meter = found.meter;
-        let answer = found.answer;
-        match answer {
-            NextAnswer::Output(literal) => {
-                let one = decide_on(atoms, held, cut, noted, count, literal.0 as u64, meter);
-                let ended = one.ended;
-                let flow = ended.flow;
-                let Flow::Continues = flow else {
-                    return one;
-                };
-                earned = earned | one.earned;
-                count = one.decided;
-            }
-            NextAnswer::End => return Reading {
-                ended: Ended {
-                    flow: Flow::Continues,
-                    meter: meter,
-                },
-                earned: earned,
-                decided: count,
-            },
-            _ => return Reading {
-                ended: Ended {
-                    flow: Flow::Stopped,
-                    meter: meter,
-                },
-                earned: earned, // what was decided before the stop
-                decided: count,
-            },
-        }
+    while let Some(literal) = next_of_side(slot, side, &mut cursor, held, cut, meter)? {
+        decide_on(atoms, held, cut, noted, decided, literal.0 as u64)?;
     }
+    Ok(())
 }
 
 // Decides what a deduction says: the literal required, or each output published.
@@ -172,33 +111,27 @@ fn follow(
     held: &mut [u64],
     cut: &mut [u64],
     noted: &mut [u64],
-    decided: usize,
-    work: Meter,
-) -> Reading
+    decided: &mut usize,
+    meter: &mut Meter,
+) -> Result<(), Halt>
     requires fact_1 { Stored atoms slot.now }
     requires fact_2 { T (is_region atoms (region held.old cut.old)) }
-    requires fact_3 { Room atoms decided noted.old (region held.old cut.old) }
-    ensures turn { (l : Beside) → turned result.ended l held.new cut.new
-        ≡ follow atoms (row_in slot.now) said (state l held.old cut.old work) }
-    ensures earned { Earned atoms result held.old cut.old held.new cut.new }
+    requires fact_3 { Room atoms decided.old noted.old (region held.old cut.old) }
+    ensures turn { (l : Beside) → ended_as result (state l held.new cut.new meter.new)
+        ≡ follow atoms (row_in slot.now) said (state l held.old cut.old meter.old) }
+    ensures counted { Counted atoms decided.old decided.new (region held.old cut.old)
+        (region held.new cut.new) }
     ensures whole { T (is_region atoms (region held.new cut.new)) }
-    ensures logged { Logs atoms decided noted.old (region held.old cut.old) result.decided
+    ensures logged { Logs atoms decided.old noted.old (region held.old cut.old) decided.new
         noted.new (region held.new cut.new) }
 {
     match said {
-        Deduction::Nothing => Reading {
-            ended: Ended {
-                flow: Flow::Continues,
-                meter: work,
-            },
-            earned: false,
-            decided: decided,
-        },
-        Deduction::Force => publish(slot, atoms, held, cut, noted, decided, work),
+        Deduction::Nothing => Ok(()),
+        Deduction::Force => publish(slot, atoms, held, cut, noted, decided, meter),
         Deduction::Require {
             required,
             contradicted: _,
-        } => decide_on(atoms, held, cut, noted, decided, required.0 as u64, work),
+        } => decide_on(atoms, held, cut, noted, decided, required.0 as u64),
     }
 }
 
@@ -216,9 +149,20 @@ fn named(said: Deduction, before: Contradicted) -> Contradicted
     }
 }
 
-// Reads the row at a position. Going, and nothing changed, if nothing follows; else what the row says is decided, and then one hit is
-// counted if that decided an atom or ended in Conflict. Stopped, and nothing changed, if the deduction's ticks were not all made. The
-// contradicted output of a Require is handed on, and else the one `before`.
+// Whether a reading earned a hit: it ended in a Conflict, or an atom was decided, so that more are noted than the `before`.
+fn earned(read: Result<(), Halt>, before: usize, decided: usize) -> bool
+    ensures { result ≡ earned_by read before decided }
+{
+    match read {
+        Ok(_) => before < decided,
+        Err(Halt::Conflict) => true, // also if nothing was decided
+        Err(Halt::Stopped) => before < decided, // what was decided before the stop
+    }
+}
+
+// Reads the row at a position. Nothing changed, if nothing follows; else what the row says is decided, and then one hit is counted if that
+// decided an atom or ended in Conflict. Stopped, and nothing changed, if the deduction's ticks were not all made. The contradicted output of
+// a Require is handed on, and else the one before stays.
 pub fn act(
     atoms: u64,
     rows: u64,
@@ -227,54 +171,33 @@ pub fn act(
     held: &mut [u64],
     cut: &mut [u64],
     noted: &mut [u64],
-    decided: usize,
-    before: Contradicted,
-    work: Meter,
-) -> Acted
+    decided: &mut usize,
+    contradicted: &mut Contradicted,
+    meter: &mut Meter,
+) -> Result<(), Halt>
     requires fact_1 { Standing atoms rows (rows_in rows slots.old) slots.old held.old cut.old }
     requires fact_2 { position < rows }
-    requires fact_3 { Room atoms decided noted.old (region held.old cut.old) }
-    ensures turn { (h : Header) → acted result (ledger_of h rows slots.new) held.new cut.new
+    requires fact_3 { Room atoms decided.old noted.old (region held.old cut.old) }
+    ensures turn { (h : Header) → ended_as result (state (beside (ledger_of h rows slots.new)
+        contradicted.new) held.new cut.new meter.new)
         ≡ act atoms position
-        (state (beside (ledger_of h rows slots.old) before) held.old cut.old work) }
+        (state (beside (ledger_of h rows slots.old) contradicted.old) held.old cut.old meter.old) }
     ensures stands { Standing atoms rows (rows_in rows slots.old) slots.new held.new
         cut.new }
-    ensures logged { Logs atoms decided noted.old (region held.old cut.old) result.decided
+    ensures logged { Logs atoms decided.old noted.old (region held.old cut.old) decided.new
         noted.new (region held.new cut.new) }
 {
     let a = SLOT_WORDS * position;
     let e = a + SLOT_WORDS;
-    let found = deduction(&slots[a..e], held, cut, work);
-    let said = found.deduction;
-    let meter = found.meter;
-    if found.stopped {
-        return Acted {
-            ended: Ended {
-                flow: Flow::Stopped,
-                meter: meter,
-            },
-            contradicted: before,
-            decided: decided,
-        };
-    }
+    let said = deduction(&slots[a..e], held, cut, meter)?;
     if let Deduction::Nothing = said {
-        return Acted {
-            ended: Ended {
-                flow: Flow::Continues,
-                meter: meter,
-            },
-            contradicted: before,
-            decided: decided,
-        };
+        return Ok(());
     }
+    let before = *decided;
     let read = follow(&slots[a..e], atoms, said, held, cut, noted, decided, meter);
-    if read.earned {
+    if earned(read, before, *decided) {
         hit(slots, position);
     }
-    let ended = read.ended;
-    Acted {
-        ended,
-        contradicted: named(said, before),
-        decided: read.decided,
-    }
+    *contradicted = named(said, *contradicted);
+    read
 }

@@ -12,11 +12,10 @@ use Rattle.model.specs.declared.Contradicted.{Contradicted}
 use Rattle.model.specs.Records.{Row}
 use Rattle.model.specs.Closing.{State, Turn, going, on_going, act, round}
 use Rattle.slots.specs.Layout.{rows_in}
-use Rattle.close_publish.specs.declared.Flow.TheVariants.{Continues}
-use Rattle.close_publish.specs.declared.Acted.{Acted}
-use Rattle.close_publish.specs.Turns.{ledger_of, beside, state, acted}
+use Rattle.close_publish.specs.declared.Halt.{Halt}
+use Rattle.close_publish.specs.Turns.{ledger_of, beside, state, halted_as}
 use Rattle.close_publish.specs.Standing.{Standing}
-use Rattle.close_publish.proofs.Ending.{ended-goes, ended-stays}
+use Rattle.close_publish.proofs.Ending.{halted-stays}
 
 round-none : (n : ℕ) (ps : List ℕ) (i : ℕ) (s : State) → length ps ≤ i → going s ≡ round n (drop i ps) s
 unfolding round
@@ -67,36 +66,36 @@ module _ (n rows : ℕ) (ps slots₀ held₀ cut₀ : List ℕ) (m₀ : Meter) (
     pub read_here : Standing n rows (rows_in rows slots) slots held cut
     read_here = stands_here n rows (rows_in rows slots₀) slots held cut w.stands
 
-    module _ (l : i < length ps) (g : Acted) (slots' held' cut' : List ℕ)
-        (t : (h : Header)
-        → acted g (ledger_of h rows slots') held' cut' ≡ act n (get_or ps i 0) (state (beside (ledger_of h rows slots) o) held cut m)) where
-      turn : (h : Header) → on_going (acted g (ledger_of h rows slots') held' cut') (round n (drop (i + 1) ps)) ≡ wholly h
-      turn h =
-          ap (λ (x : Turn). on_going x (round n (drop (i + 1) ps))) (t h)
+    pub read-stands : (slots' held' cut' : List ℕ) → Standing n rows (rows_in rows slots) slots' held' cut'
+        → Standing n rows (rows_in rows slots₀) slots' held' cut'
+    read-stands slots' held' cut' s = stands_from n rows (rows_in rows slots) (rows_in rows slots₀) slots' held' cut' w.stands.same s
+
+    module _ (l : i < length ps) where
+      -- one row more, by how its reading ended
+      turn : (u : Turn) (h : Header) → u ≡ act n (get_or ps i 0) (state (beside (ledger_of h rows slots) o) held cut m)
+          → on_going u (round n (drop (i + 1) ps)) ≡ wholly h
+      turn u h t =
+          ap (λ (x : Turn). on_going x (round n (drop (i + 1) ps))) t
           ∙ round-next n ps i (state (beside (ledger_of h rows slots) o) held cut m) l
           ∙ w.rest h
 
-      module _ (s : Standing n rows (rows_in rows slots) slots' held' cut') where
-        pub read-stands : Standing n rows (rows_in rows slots₀) slots' held' cut'
-        read-stands = stands_from n rows (rows_in rows slots) (rows_in rows slots₀) slots' held' cut' w.stands.same s
+      pub read-ended : (e : Halt) (s : State) (h : Header)
+          → halted_as e s ≡ act n (get_or ps i 0) (state (beside (ledger_of h rows slots) o) held cut m)
+          → halted_as e s ≡ round n ps (state (beside (ledger_of h rows slots₀) o₀) held₀ cut₀ m₀)
+      read-ended e s h t = halted-stays e s (round n (drop (i + 1) ps)) ∙ turn (halted_as e s) h t
 
-        pub read-ended : (g.ended.flow ≡ Continues → ⊥) → (h : Header)
-            → acted g (ledger_of h rows slots') held' cut' ≡ wholly h
-        read-ended k h =
-            ended-stays g.ended.flow (state (beside (ledger_of h rows slots') g.contradicted) held' cut' g.ended.meter)
-            (round n (drop (i + 1) ps)) k ∙ turn h
-
-        pub read-on : g.ended.flow ≡ Continues → length slots' ≡ length slots → length held' ≡ length held → length cut' ≡ length cut
-            → Reading n rows ps slots₀ held₀ cut₀ m₀ o₀ slots' held' cut' g.ended.meter g.contradicted (i + 1)
-        unfolding on_going
-        read-on e x y z = record {
-          within = omega arith;
-          slots_long = x ∙ w.slots_long;
-          held_long = y ∙ w.held_long;
-          cut_long = z ∙ w.cut_long;
-          stands = read-stands;
-          rest =
-              λ h. sym (ap (λ (u : Turn). on_going u (round n (drop (i + 1) ps)))
-              (ended-goes g.ended.flow (state (beside (ledger_of h rows slots') g.contradicted) held' cut' g.ended.meter) e))
-              ∙ turn h;
-        }
+      pub read-on : (slots' held' cut' : List ℕ) (m' : Meter) (o' : Contradicted)
+          → ((h : Header) → going (state (beside (ledger_of h rows slots') o') held' cut' m')
+          ≡ act n (get_or ps i 0) (state (beside (ledger_of h rows slots) o) held cut m))
+          → Standing n rows (rows_in rows slots) slots' held' cut'
+          → length slots' ≡ length slots → length held' ≡ length held → length cut' ≡ length cut
+          → Reading n rows ps slots₀ held₀ cut₀ m₀ o₀ slots' held' cut' m' o' (i + 1)
+      unfolding on_going
+      read-on slots' held' cut' m' o' t s x y z = record {
+        within = omega arith;
+        slots_long = x ∙ w.slots_long;
+        held_long = y ∙ w.held_long;
+        cut_long = z ∙ w.cut_long;
+        stands = read-stands slots' held' cut' s;
+        rest = λ h. turn (going (state (beside (ledger_of h rows slots') o') held' cut' m')) h (t h);
+      }

@@ -28,12 +28,12 @@ use Rattle.model.proofs.Priority.Fine.{Fine}
 use Rattle.model.proofs.Priority.Rounds.{OnGoing, opens, opens-less, opens-le, Step, Rounded, round-step}
 use Rattle.model.proofs.Priority.Fuel.{rounds-fuel}
 use Rattle.slots.proofs.Holding.{held_rows}
-use Rattle.close_publish.specs.declared.Flow.TheVariants.{Continues}
-use Rattle.close_rounds.specs.declared.RoundEnd.{RoundEnd}
-use Rattle.close_publish.specs.Turns.{ledger_of, beside, state}
+use Rattle.close_note.specs.Noting.{Gathered}
+use Rattle.close_publish.specs.declared.Halt.{Halt}
+use Rattle.close_publish.specs.Turns.{ledger_of, beside, state, halted_as}
 use Rattle.close_rounds.specs.Running.{Running}
-use Rattle.close_rounds.specs.Rounds.{state_in, round_turn, one_round, Under, New}
-use Rattle.close_publish.proofs.Ending.{ended-goes, ended-stays}
+use Rattle.close_rounds.specs.Rounds.{state_in, one_round, Under}
+use Rattle.close_publish.proofs.Ending.{halted-stays}
 
 -- ---- the rows of a running ledger are valid
 fine_of : (n : ℕ) (es : List Entry) → T (all (λ e. is_row n e.row) es) → Fine (rows_e es)
@@ -162,8 +162,7 @@ module _ (h₀ : Header) (slots₀ postings₀ held₀ cut₀ places₀ noted₀
 
   module _ (h : Header) (slots postings held cut places noted : List ℕ) (m : Meter) (o : Contradicted) (k : ℕ)
       (w : Repeating h₀ slots₀ postings₀ held₀ cut₀ places₀ noted₀ m₀ o₀ h slots postings held cut places noted m o k)
-      (g : RoundEnd) (slots' held' cut' : List ℕ)
-      (t : round_turn g slots' held' cut' ≡ one_round h.limits.atoms (take k noted) (state_in h slots held cut m o)) where
+      (h' : Header) (slots' held' cut' : List ℕ) (m' : Meter) (o' : Contradicted) where
     abbrev n : ℕ
     n = h.limits.atoms
 
@@ -174,7 +173,7 @@ module _ (h₀ : Header) (slots₀ postings₀ held₀ cut₀ places₀ noted₀
     here = state_in h slots held cut m o
 
     abbrev there : State
-    there = state_in g.header slots' held' cut' g.meter g.contradicted
+    there = state_in h' slots' held' cut' m' o'
 
     abbrev decides : List ℕ
     decides = decided_since n (region held cut) (region held' cut')
@@ -182,64 +181,63 @@ module _ (h₀ : Header) (slots₀ postings₀ held₀ cut₀ places₀ noted₀
     abbrev wholly : Turn
     wholly = rounds (suc h₀.limits.atoms) h₀.limits.atoms [] (state_in h₀ slots₀ held₀ cut₀ m₀ o₀)
 
-    turn : on_going (round_turn g slots' held' cut') (next fuel n (take k noted) here) ≡ wholly
-    turn = ap (λ (x : Turn). on_going x (next fuel n (take k noted) here)) t ∙ rounds-by fuel n (take k noted) here ∙ w.rest
+    turn : (u : Turn) → u ≡ one_round n (take k noted) here → on_going u (next fuel n (take k noted) here) ≡ wholly
+    turn u t = ap (λ (x : Turn). on_going x (next fuel n (take k noted) here)) t ∙ rounds-by fuel n (take k noted) here ∙ w.rest
 
-    pub repeat-ended : (g.flow ≡ Continues → ⊥) → round_turn g slots' held' cut' ≡ wholly
-    repeat-ended i = ended-stays g.flow there (next fuel n (take k noted) here) i ∙ turn
+    pub repeat-ended : (e : Halt) → halted_as e there ≡ one_round h.limits.atoms (take k noted) here
+        → halted_as e there ≡ rounds (suc h₀.limits.atoms) h₀.limits.atoms [] (state_in h₀ slots₀ held₀ cut₀ m₀ o₀)
+    repeat-ended e t = halted-stays e there (next fuel n (take k noted) here) ∙ turn (halted_as e there) t
 
-    module _ (e : g.flow ≡ Continues) where
+    module _ (t : going there ≡ one_round h.limits.atoms (take k noted) here) (noted' : List ℕ) (d : ℕ)
+        (new : Gathered d noted' (decided_since h.limits.atoms (region held cut) (region held' cut'))) where
       -- what comes after a round that goes on
       on : next fuel n (take k noted) here there ≡ wholly
       unfolding on_going
-      on = sym (ap (λ (x : Turn). on_going x (next fuel n (take k noted) here)) (ended-goes g.flow there e)) ∙ turn
+      on = turn (going there) t
 
-      module _ (noted' : List ℕ) (new : New g noted' decides) where
-        pub repeat-closed : g.decided ≡ 0 → round_turn g slots' held' cut' ≡ wholly
-        repeat-closed z = ended-goes g.flow there e ∙ next-none fuel n (take k noted) here there (sym (new.gathered e).count ∙ z) ∙ on
+      pub repeat-closed : d ≡ 0 → going there ≡ rounds (suc h₀.limits.atoms) h₀.limits.atoms [] (state_in h₀ slots₀ held₀ cut₀ m₀ o₀)
+      repeat-closed z = next-none fuel n (take k noted) here there (sym new.count ∙ z) ∙ on
 
-        module _ (f : g.decided ≡ 0 → ⊥) where
-          not_none : length decides ≡ 0 → ⊥
-          not_none z = f ((new.gathered e).count ∙ z)
+      module _ (f : d ≡ 0 → ⊥) where
+        not_none : length decides ≡ 0 → ⊥
+        not_none z = f (new.count ∙ z)
 
-          less : opens n (region held' cut') < opens n (region held cut)
-          less =
-              let a = some_in decides not_none in
-              opens-less n (region held cut) (region held' cut') a.0
-              (one_grows h slots postings held cut w.runs (take k noted) m o there (sym (ended-goes g.flow there e) ∙ t)) a.1
+        less : opens n (region held' cut') < opens n (region held cut)
+        less =
+            let a = some_in decides not_none in
+            opens-less n (region held cut) (region held' cut') a.0
+            (one_grows h slots postings held cut w.runs (take k noted) m o there t) a.1
 
-          pub repeat-less : opens h₀.limits.atoms (region held' cut') < opens h₀.limits.atoms (region held cut)
-          repeat-less =
-              subst (λ (l : LearningLimits). opens l.atoms (region held' cut') < opens l.atoms (region held cut)) w.under.limits
-              less
+        pub repeat-less : opens h₀.limits.atoms (region held' cut') < opens h₀.limits.atoms (region held cut)
+        repeat-less =
+            subst (λ (l : LearningLimits). opens l.atoms (region held' cut') < opens l.atoms (region held cut)) w.under.limits
+            less
 
-          pub repeat-on : (postings' places' : List ℕ) → Running g.header slots' postings' held' cut' → Under h g.header
-              → length slots' ≡ length slots → length postings' ≡ length postings → length held' ≡ length held → length cut' ≡ length cut
-              → length places' ≡ length places → length noted' ≡ length noted
-              → Repeating h₀ slots₀ postings₀ held₀ cut₀ places₀ noted₀ m₀ o₀ g.header slots' postings' held' cut' places' noted'
-              g.meter g.contradicted g.decided
-          repeat-on postings' places' r u a b c d p q =
-              let x : take g.decided noted' ≡ decides = (new.gathered e).words in
-              let l = less in
-              record {
-                runs = r;
-                under = record { limits = u.limits ∙ w.under.limits; rows = u.rows ∙ w.under.rows };
-                room = let i = u.rows in let j = w.room in omega arith;
-                long = q ∙ w.long ∙ sym (ap (λ (l : LearningLimits). l.atoms) u.limits);
-                given = let i = length-take g.decided noted' in let j = ap length x in let o = (new.gathered e).count in omega arith;
-                slots_long = a ∙ w.slots_long;
-                postings_long = b ∙ w.postings_long;
-                held_long = c ∙ w.held_long;
-                cut_long = d ∙ w.cut_long;
-                places_long = p ∙ w.places_long;
-                noted_long = q ∙ w.noted_long;
-                rest =
-                    ap (λ (ds : List ℕ). rounds (suc (opens g.header.limits.atoms (region held' cut'))) g.header.limits.atoms ds
-                    there) x
-                    ∙ rounds-any g.header slots' postings' held' cut' r (suc (opens g.header.limits.atoms (region held' cut'))) fuel
-                    decides g.meter g.contradicted
-                    (le_refl (suc (opens g.header.limits.atoms (region held' cut'))))
-                    (subst (λ (l : LearningLimits). opens l.atoms (region held' cut') < fuel) (sym u.limits) l)
-                    ∙ ap (λ (l : LearningLimits). rounds fuel l.atoms decides there) u.limits
-                    ∙ next-some fuel n (take k noted) here there not_none ∙ on;
-              }
+        pub repeat-on : (postings' places' : List ℕ) → Running h' slots' postings' held' cut' → Under h h'
+            → length slots' ≡ length slots → length postings' ≡ length postings → length held' ≡ length held → length cut' ≡ length cut
+            → length places' ≡ length places → length noted' ≡ length noted
+            → Repeating h₀ slots₀ postings₀ held₀ cut₀ places₀ noted₀ m₀ o₀ h' slots' postings' held' cut' places' noted' m' o' d
+        repeat-on postings' places' r u a b c e p q =
+            let x : take d noted' ≡ decides = new.words in
+            let l = less in
+            record {
+              runs = r;
+              under = record { limits = u.limits ∙ w.under.limits; rows = u.rows ∙ w.under.rows };
+              room = let i = u.rows in let j = w.room in omega arith;
+              long = q ∙ w.long ∙ sym (ap (λ (l : LearningLimits). l.atoms) u.limits);
+              given = let i = length-take d noted' in let j = ap length x in let o = new.count in omega arith;
+              slots_long = a ∙ w.slots_long;
+              postings_long = b ∙ w.postings_long;
+              held_long = c ∙ w.held_long;
+              cut_long = e ∙ w.cut_long;
+              places_long = p ∙ w.places_long;
+              noted_long = q ∙ w.noted_long;
+              rest =
+                  ap (λ (ds : List ℕ). rounds (suc (opens h'.limits.atoms (region held' cut'))) h'.limits.atoms ds there) x
+                  ∙ rounds-any h' slots' postings' held' cut' r (suc (opens h'.limits.atoms (region held' cut'))) fuel
+                  decides m' o'
+                  (le_refl (suc (opens h'.limits.atoms (region held' cut'))))
+                  (subst (λ (l : LearningLimits). opens l.atoms (region held' cut') < fuel) (sym u.limits) l)
+                  ∙ ap (λ (l : LearningLimits). rounds fuel l.atoms decides there) u.limits
+                  ∙ next-some fuel n (take k noted) here there not_none ∙ on;
+            }

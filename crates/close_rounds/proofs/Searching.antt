@@ -3,6 +3,7 @@ use mathlib.Core.Path.{◌≡◌, refl, sym, ap, ap₂, ◌∙◌, subst}
 use mathlib.Core.Bool.{Bool, true, false}
 use mathlib.Core.List.{List, map}
 use mathlib.Core.Option.{Option, none, some}
+use Rattle.std.specs.Prelude.{Result}
 use Prim.Native.Nat.{ℕ, ◌-◌, ◌≤◌, ◌<◌}
 use native.Mathlib.Nat.{le_refl, sub-zero}
 use native.Mathlib.Omega.{arith}
@@ -32,14 +33,11 @@ use Rattle.postings.proofs.Finding.{positions-sort, found-each}
 use Rattle.postings.proofs.Standing.{here-searchable}
 use Rattle.slots.proofs.Holding.{stands-under}
 use Rattle.postings.proofs.Keeping.{candidates-keep}
-use Rattle.close_publish.specs.declared.Flow.{Flow}
-use Rattle.close_publish.specs.declared.Flow.TheVariants.{Continues, Conflict, Stopped as FlowStopped}
-use Rattle.close_publish.specs.declared.Acted.{Acted}
-use Rattle.close_publish.specs.Turns.{ledger_of, beside, state, ended_as, acted}
+use Rattle.close_publish.specs.declared.Halt.{Halt}
+use Rattle.close_publish.specs.Turns.{ledger_of, beside, state, ended_as}
 use Rattle.close_publish.specs.Standing.{Standing}
 use Rattle.close_rounds.specs.Running.{Running}
-use Rattle.close_rounds.specs.declared.RoundEnd.{RoundEnd}
-use Rattle.close_rounds.specs.Rounds.{state_in, one_round, Under, New}
+use Rattle.close_rounds.specs.Rounds.{state_in, one_round, Under}
 
 -- ---- what a search finds are rows
 abbrev FoundBelow : ℕ → Option (List ℕ) → Type 0
@@ -126,18 +124,6 @@ pad-fits : (n : ℕ) (xs : List ℕ) → length (pad n xs) ≡ n → length xs �
 unfolding pad
 pad-fits n xs e = let a = length-append xs (replicate (n - length xs) 0) in omega arith
 
--- a round that does not go on says nothing of the scratch
-pub new-ended : (g : RoundEnd) (ys ds : List ℕ) → (g.flow ≡ Continues → ⊥) → New g ys ds
-new-ended g ys ds i = record { gathered = λ e. absurd (i e) }
-
-pub stopped-ended : FlowStopped ≡ Continues → ⊥
-stopped-ended e = let z : ◌≡◌ {A = ℕ} 2 0 = ap code e in omega arith
-  where
-    code : Flow → ℕ
-    code Continues = 0
-    code Conflict = 1
-    code FlowStopped = 2
-
 -- ---- a round
 module _ (h : Header) (slots postings held cut ys : List ℕ) (k : ℕ) (m : Meter) (o : Contradicted)
     (run : Running h slots postings held cut) where
@@ -223,15 +209,14 @@ module _ (h : Header) (slots postings held cut ys : List ℕ) (k : ℕ) (m : Met
           subst (λ (ps : List ℕ). Each (λ p. p < rows) ps) (sym part-is)
           (subst (FoundBelow rows) (ap (λ (x : Search). x.found) (lent_is (take k ys)) ∙ found.is) b)
 
-      pub round-turn : (g : Acted) (slots' held' cut' : List ℕ)
+      pub round-turn : {A : Type 0} (g : Result A Halt) (slots' held' cut' : List ℕ) (m' : Meter) (o' : Contradicted)
           → ((k : Header)
-          → acted g (ledger_of k rows slots') held' cut'
+          → ended_as g (state (beside (ledger_of k rows slots') o') held' cut' m')
           ≡ round h.limits.atoms (take (c - 0) xs') (state (beside (ledger_of k rows slots) o) held cut f.meter))
-          → ended_as g.ended.flow (state_in f.header slots' held' cut' g.ended.meter g.contradicted)
-          ≡ one_round h.limits.atoms (take k ys) before
+          → ended_as g (state_in f.header slots' held' cut' m' o') ≡ one_round h.limits.atoms (take k ys) before
       unfolding after
-      round-turn g slots' held' cut' t =
-          ap (ended_as g.ended.flow) (state-is slots' held' cut' g.ended.meter g.contradicted) ∙ t f.header
+      round-turn g slots' held' cut' m' o' t =
+          ap (ended_as g) (state-is slots' held' cut' m' o') ∙ t f.header
           ∙ ap₂ (λ (ps : List ℕ) (s : State). round h.limits.atoms ps s) part-is searched-is
           ∙ sym (one-is ∙ ap after found.is)
 

@@ -7,17 +7,11 @@ use Rattle.model.specs.declared.Header.{Header}
 use Rattle.model.specs.declared.Contradicted.{Contradicted}
 use Rattle.model.specs.Postings.{Search, candidates}
 use Rattle.model.specs.Closing.{State, Turn, halted, with_meter, with_header, round}
-use Rattle.close_publish.specs.declared.Flow.TheVariants.{Continues}
-use Rattle.close_rounds.specs.declared.RoundEnd.{RoundEnd}
-use Rattle.close_publish.specs.Turns.{ledger_of, beside, state, ended_as}
-use Rattle.close_note.specs.Noting.{Gathered}
+use Rattle.close_publish.specs.Turns.{ledger_of, beside, state}
 
 -- the ledger of a header, with all its rows
 abbrev pub state_in : Header → List ℕ → List ℕ → List ℕ → Meter → Contradicted → State
 state_in h slots held cut m o = state (beside (ledger_of h h.rows slots) o) held cut m
-
-abbrev pub round_turn : RoundEnd → List ℕ → List ℕ → List ℕ → Turn
-round_turn r slots held cut = ended_as r.flow (state_in r.header slots held cut r.meter r.contradicted)
 
 -- a search, and the rows that it found read in turn
 unfoldable pub one_round : ℕ → List ℕ → State → Turn
@@ -30,7 +24,3 @@ one_round n atoms s =
 pub record Under (h k : Header) : Type 0 where
   pub limits : k.limits ≡ h.limits
   pub rows : k.rows ≡ h.rows
-
--- after a round that goes on, the atoms decided in it stand at the front of the scratch
-pub record New (r : RoundEnd) (ys ds : List ℕ) : Type 0 where
-  pub gathered : r.flow ≡ Continues → Gathered r.decided ys ds

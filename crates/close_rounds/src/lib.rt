@@ -1,37 +1,25 @@
 // The rounds of a closing.
 #![tactic(auto)]
 
-ghost use Rattle.std.specs.Prelude.{◌≡◌, [], suc, ◌≤◌, ◌<◌, length, take};
+ghost use Rattle.std.specs.Prelude.{◌≡◌, [], suc, ◌≤◌, ◌<◌, length, take, IfOk};
 ghost use Rattle.lists.specs.Counts.{Each};
 ghost use Rattle.words.specs.Region.{region};
-ghost use Rattle.model.specs.declared.Header.{Header};
-ghost use Rattle.model.specs.declared.Contradicted.TheVariants.{None};
 ghost use Rattle.model.specs.Closing.{round, decided_since, rounds};
 ghost use Rattle.slots.specs.Layout.{rows_in};
-ghost use Rattle.close_note.specs.Noting.{Room, Logs};
-ghost use Rattle.close_publish.specs.Turns.{beside, state, acted, ledger_of};
+ghost use Rattle.close_note.specs.Noting.{Room, Logs, Gathered};
+ghost use Rattle.close_publish.specs.Turns.{beside, state, ended_as, ledger_of};
 ghost use Rattle.close_publish.specs.Standing.{Standing};
 ghost use Rattle.close_rounds.specs.Running.{Running};
-ghost use Rattle.close_rounds.specs.Rounds.{state_in, round_turn, one_round, Under, New};
+ghost use Rattle.close_rounds.specs.Rounds.{state_in, one_round, Under};
 
 use close_note::in_order;
-use close_publish::{Acted, Ended, Flow, act};
+use close_publish::{Halt, act};
 use meter::Meter;
 use model::{CandidatesAnswer, Contradicted, Header};
 use postings::candidates;
 
-// How a round ended, with the header and the meter after it, the output named last, and how many atoms were decided in it.
-#[derive(Clone, Copy)]
-pub struct RoundEnd {
-    pub flow: Flow,
-    pub header: Header,
-    pub meter: Meter,
-    pub contradicted: Contradicted,
-    pub decided: usize,
-}
-
-// Reads the rows at the positions given, in turn. Going if all were read, else as the first one ended that did not go on. The atoms decided
-// are noted from the first word of `noted` on.
+// Reads the rows at the positions given, in turn, up to the first that halts. The atoms decided are noted from the first word of `noted` on;
+// how many, where all rows were read.
 fn round(
     atoms: u64,
     rows: u64,
@@ -40,65 +28,43 @@ fn round(
     held: &mut [u64],
     cut: &mut [u64],
     noted: &mut [u64],
-    before: Contradicted,
-    work: Meter,
-) -> Acted
+    contradicted: &mut Contradicted,
+    meter: &mut Meter,
+) -> Result<usize, Halt>
     requires fact_1 { Standing atoms rows (rows_in rows slots.old) slots.old held.old cut.old }
     requires fact_2 { Each (λ p. p < rows) positions.now }
     requires fact_3 { Room atoms 0 noted.old (region held.old cut.old) }
-    ensures turn { (h : Header) → acted result (ledger_of h rows slots.new) held.new cut.new
+    ensures turn { (h : Header) → ended_as result (state (beside (ledger_of h rows slots.new)
+        contradicted.new) held.new cut.new meter.new)
         ≡ round atoms positions.now
-        (state (beside (ledger_of h rows slots.old) before) held.old cut.old work) }
+        (state (beside (ledger_of h rows slots.old) contradicted.old) held.old cut.old meter.old) }
     ensures stands { Standing atoms rows (rows_in rows slots.old) slots.new held.new
         cut.new }
-    ensures logged { Logs atoms 0 noted.old (region held.old cut.old) result.decided
-        noted.new (region held.new cut.new) }
+    ensures logged { IfOk result (λ d. Logs atoms 0 noted.old (region held.old cut.old) d
+        noted.new (region held.new cut.new)) }
 {
-    let mut meter = work;
-    let mut contradicted = before;
     let mut decided: usize = 0;
-    let mut i: usize = 0;
-    while i < positions.len() {
-        let one = act(
+    for position in positions {
+        act(
             atoms,
             rows,
             slots,
-            positions[i] as usize,
+            *position as usize,
             held,
             cut,
             noted,
-            decided,
+            &mut decided,
             contradicted,
             meter,
-        );
-        let ended = one.ended;
-        let flow = ended.flow;
-        let Flow::Continues = flow else {
-            return one;
-        };
-        // field by field: the next row's deduction reads it so, from memory, and need not wait for a longer store
-        meter = Meter {
-            charged: ended.meter.charged,
-            limit: ended.meter.limit,
-        };
-        contradicted = one.contradicted;
-        decided = one.decided;
-        i += 1;
+        )?;
     }
-    Acted {
-        ended: Ended {
-            flow: Flow::Continues,
-            meter: meter,
-        },
-        contradicted: contradicted,
-        decided: decided,
-    }
+    Ok(decided)
 }
 
 // One round: the candidates for the atoms in the first `given` words of `noted` are read. If it goes on, the atoms decided in it are the
-// first words there. Stopped, before any row is read, if the ticks of the search were not all made.
+// first words there, and it says how many. Stopped, before any row is read, if the ticks of the search were not all made.
 fn one_round(
-    header: Header,
+    header: &mut Header,
     slots: &mut [u64],
     postings: &mut [u64],
     held: &mut [u64],
@@ -106,90 +72,70 @@ fn one_round(
     places: &mut [u64],
     noted: &mut [u64],
     given: usize,
-    before: Contradicted,
-    work: Meter,
-) -> RoundEnd
-    requires fact_1 { Running header slots.old postings.old held.old cut.old }
-    requires fact_2 { header.rows ≤ length places.old }
-    requires fact_3 { length noted.old ≡ header.limits.atoms }
+    contradicted: &mut Contradicted,
+    meter: &mut Meter,
+) -> Result<usize, Halt>
+    requires fact_1 { Running header.old slots.old postings.old held.old cut.old }
+    requires fact_2 { header.old.rows ≤ length places.old }
+    requires fact_3 { length noted.old ≡ header.old.limits.atoms }
     requires fact_4 { given ≤ length noted.old }
-    ensures turn { round_turn result slots.new held.new cut.new
-        ≡ one_round header.limits.atoms (take given noted.old)
-        (state_in header slots.old held.old cut.old work before) }
-    ensures runs { Running result.header slots.new postings.new held.new cut.new }
-    ensures under { Under header result.header }
-    ensures new { New result noted.new
-        (decided_since header.limits.atoms (region held.old cut.old)
-        (region held.new cut.new)) }
+    ensures turn { ended_as result (state_in header.new slots.new held.new cut.new meter.new contradicted.new)
+        ≡ one_round header.old.limits.atoms (take given noted.old)
+        (state_in header.old slots.old held.old cut.old meter.old contradicted.old) }
+    ensures runs { Running header.new slots.new postings.new held.new cut.new }
+    ensures under { Under header.old header.new }
+    ensures new { IfOk result (λ d. Gathered d noted.new
+        (decided_since header.old.limits.atoms (region held.old cut.old) (region held.new cut.new))) }
 {
-    let found = candidates(header, slots, postings, &noted[0..given], places, work);
-    let answer = found.answer;
-    let after = found.header;
-    let meter = found.meter;
-    let CandidatesAnswer::Count(count) = answer else {
-        return RoundEnd {
-            flow: Flow::Stopped,
-            header: after,
-            meter: meter,
-            contradicted: before,
-            decided: 0,
-        };
+    let atoms = header.limits.atoms;
+    let rows = header.rows;
+    let found = candidates(*header, slots, postings, &noted[0..given], places, *meter);
+    *header = found.header;
+    *meter = found.meter;
+    let CandidatesAnswer::Count(count) = found.answer else {
+        return Err(Halt::Stopped);
     };
     let end = count as usize;
-    let read = round(
-        header.limits.atoms,
-        header.rows,
+    let decided = round(
+        atoms,
+        rows,
         slots,
         &places[0..end],
         held,
         cut,
         noted,
-        before,
+        contradicted,
         meter,
-    );
-    let ended = read.ended;
-    let flow = ended.flow;
-    let spent = ended.meter;
-    let contradicted = read.contradicted;
-    if let Flow::Continues = flow {
-        in_order(noted, read.decided, header.limits.atoms, places);
-    }
-    RoundEnd {
-        flow: flow,
-        header: after,
-        meter: spent,
-        contradicted: contradicted,
-        decided: read.decided,
-    }
+    )?;
+    in_order(noted, decided, atoms, places);
+    Ok(decided)
 }
 
-// Rounds, each over the candidates for the atoms decided in the one before, the first for none. Going if the last one decided nothing, else
-// as the first one ended that did not go on.
+// Rounds, each over the candidates for the atoms decided in the one before, the first for none, up to one that decides nothing, or to the
+// first that halts.
 pub fn rounds(
-    header: Header,
+    header: &mut Header,
     slots: &mut [u64],
     postings: &mut [u64],
     held: &mut [u64],
     cut: &mut [u64],
     places: &mut [u64],
     noted: &mut [u64],
-    work: Meter,
-) -> RoundEnd
-    requires fact_1 { Running header slots.old postings.old held.old cut.old }
-    requires fact_2 { header.rows ≤ length places.old }
-    requires fact_3 { length noted.old ≡ header.limits.atoms }
-    ensures turn { round_turn result slots.new held.new cut.new
-        ≡ rounds (suc header.limits.atoms) header.limits.atoms []
-        (state_in header slots.old held.old cut.old work None) }
-    ensures runs { Running result.header slots.new postings.new held.new cut.new }
+    contradicted: &mut Contradicted,
+    meter: &mut Meter,
+) -> Result<(), Halt>
+    requires fact_1 { Running header.old slots.old postings.old held.old cut.old }
+    requires fact_2 { header.old.rows ≤ length places.old }
+    requires fact_3 { length noted.old ≡ header.old.limits.atoms }
+    ensures turn { ended_as result (state_in header.new slots.new held.new cut.new meter.new contradicted.new)
+        ≡ rounds (suc header.old.limits.atoms) header.old.limits.atoms []
+        (state_in header.old slots.old held.old cut.old meter.old contradicted.old) }
+    ensures runs { Running header.new slots.new postings.new held.new cut.new }
 {
-    let mut head = header;
-    let mut meter = work;
-    let mut contradicted = Contradicted::None;
     let mut given: usize = 0;
     loop {
-        let one = one_round(
-            head,
+        given = one_round(
+            header,
             slots,
             postings,
             held,
@@ -199,20 +145,9 @@ pub fn rounds(
             given,
             contradicted,
             meter,
-        );
-        let flow = one.flow;
-        let Flow::Continues = flow else {
-            return one;
-        };
-        if one.decided == 0 {
-            return one;
+        )?;
+        if given == 0 {
+            return Ok(());
         }
-        let next = one.header;
-        let spent = one.meter;
-        let last = one.contradicted;
-        head = next;
-        meter = spent;
-        contradicted = last;
-        given = one.decided;
     }
 }

@@ -1,24 +1,23 @@
 -- The tests of a call one after the other, and a call that is made several times. Assumes nothing.
-use mathlib.Core.Path.{◌≡◌, refl, ap, ap₂, ◌∙◌}
+use mathlib.Core.Path.{◌≡◌, refl, sym, ap, ap₂, ◌∙◌}
 use mathlib.Core.Bool.{Bool, true, false}
 use mathlib.Core.List.{List, [], ◌∷◌}
 use Prim.Native.Nat.{ℕ, zero, suc, ◌-◌, ◌≤◌, ◌<◌}
 use native.Mathlib.Omega.{arith}
+use Rattle.std.specs.Prelude.{Result, Ok, Err}
 use Rattle.meter.specs.declared.Meter.{Meter}
+use Rattle.meter.specs.declared.Stopped as error
 use Rattle.meter.specs.declared.Account.{Account}
 use Rattle.meter.specs.Judged.{Judged}
-use Rattle.meter.specs.Tick.{Tick, Ticked, Stopped}
-use Rattle.meter.specs.Meter.{ticks, pay, judged}
-use Rattle.meter.specs.Counting.{TickLimit}
-use Rattle.meter.proofs.Counting.{ticks-limit, judged-limit}
+use Rattle.meter.specs.Meter.{pay, judged}
+use Rattle.meter.proofs.Counting.{judged-limit}
 use Rattle.words.specs.Region.{Region}
 use Rattle.model.specs.Records.{Row}
 use Rattle.model.specs.Rows.{prepare_reads}
-use Rattle.model.specs.Deduction.{deduction, deduction_ticks}
-use Rattle.row_deduce.specs.declared.Deduced.{Deduced}
-use Rattle.row_deduce.specs.Walks.{deduced}
+use Rattle.model.specs.declared.Deduction.{Deduction}
+use Rattle.row_deduce.specs.Walks.{Walked, walked}
 use Rattle.wire.specs.Replies.{left}
-use Rattle.leaves.specs.Calls.{unless, again, asked, payer, Prepared, prepared, prepare_once, preparer, deduce_once}
+use Rattle.leaves.specs.Calls.{unless, again, asked, payer, Prepared, prepared, prepare_once, preparer, deduce_once, meter_after}
 
 -- ---- the tests
 module _ {b : Bool} (n : ℕ) (ts : List (Bool × ℕ)) (old new : List (List ℕ)) where
@@ -82,19 +81,18 @@ module _ (r : Row) (left : ℕ) (a : Account) (m : Meter) (s : List ℕ) {j : Ju
   pub prepare-judged : j ≡ judged true (pay (prepare_reads r) a m)
   prepare-judged = ap (λ (x : Prepared). x.judged) e
 
--- a deduction
-module _ (q : Region) (r : Row) (left : ℕ) (m : Meter) {d : Deduced} (e : d ≡ deduce_once q r m) where
-  pub deduce-more : {k : Meter} → 1 < left → k ≡ d.meter
-      → again (deduce_once q r) (λ x. x.meter) (left - 1 - 1) k ≡ again (deduce_once q r) (λ x. x.meter) (left - 1) m
-  deduce-more l g =
-      ap (again (deduce_once q r) (λ x. x.meter) (left - 1 - 1)) g ∙ again-more (deduce_once q r) (λ x. x.meter) left m l e
+-- a deduction, one of several: as many are left after it as were, less one
+module _ (q : Region) (r : Row) (left : ℕ) (m : Meter) {d : Walked Deduction} (e : d ≡ deduce_once q r m) where
+  pub deduce-more : 0 < left → again (deduce_once q r) meter_after (left - 1) (meter_after d) ≡ again (deduce_once q r) meter_after left m
+  deduce-more l =
+      ap (λ (x : Walked Deduction). again (deduce_once q r) meter_after (left - 1) (meter_after x)) e
+      ∙ again-suc (deduce_once q r) meter_after left m l
 
-  pub deduce-last : left ≤ 1 → d ≡ again (deduce_once q r) (λ x. x.meter) (left - 1) m
-  deduce-last l = again-last (deduce_once q r) (λ x. x.meter) left m l e
+  pub deduce-last : left ≡ 0 → d ≡ again (deduce_once q r) meter_after left m
+  unfolding again
+  deduce-last l = e ∙ sym (ap (λ (n : ℕ). again (deduce_once q r) meter_after n m) l)
 
-  pub deduce-limit : {w : ℕ} → m.limit ≡ w → d.meter.limit ≡ w
-  deduce-limit l = ap (λ (x : Deduced). x.meter.limit) e ∙ go (ticks (deduction_ticks q r) m) (ticks-limit (deduction_ticks q r) m) ∙ l
-    where
-      go : (t : Tick) → TickLimit m.limit t → (deduced (deduction q r) m t).meter.limit ≡ m.limit
-      go (Ticked k) h = h
-      go (Stopped k) h = h
+-- the meter after a deduction, whatever it was
+pub meter-walked : (x : Result Deduction error.Stopped) (m : Meter) → meter_after (walked x m) ≡ m
+meter-walked (Ok d) m = refl
+meter-walked (Err e) m = refl

@@ -1,8 +1,9 @@
 -- What each call leaves, by the way it goes: not given a thing, or answered. Assumes nothing.
-use mathlib.Core.Path.{◌≡◌, sym, ap, ap₂, ◌∙◌}
+use mathlib.Core.Path.{◌≡◌, refl, sym, ap, ap₂, ◌∙◌}
 use mathlib.Core.Bool.{Bool, true, false, not}
 use mathlib.Core.List.{List, [], ◌∷◌}
-use mathlib.Core.Option.{Option}
+use Rattle.std.specs.Prelude.{Option, Result, Ok, Err}
+use mathlib.Core.Option as found
 use Prim.Native.Nat.{ℕ, ◌≤◌, ◌<◌}
 use lib.ListN.{length, get_or}
 use borrow.Author.Tests.{eq-eqb, ne_eqb, le-leb, lt-leb}
@@ -11,12 +12,12 @@ use Rattle.words.specs.Bit.{max_word}
 use Rattle.words.specs.Literal.{code}
 use Rattle.words.specs.Region.{region, is_region, Decision, decision_on, decision_with, next_from, found_at}
 use Rattle.meter.specs.declared.Meter.{Meter}
+use Rattle.meter.specs.declared.Stopped as error
 use Rattle.meter.specs.declared.Account.{Account}
 use Rattle.meter.specs.declared.Account.TheVariants.{Remaining, Share}
 use Rattle.meter.specs.Judged.{Judged}
 use Rattle.meter.specs.Meter.{reads_left, pay, judged}
-use Rattle.model.specs.declared.NextAnswer.{NextAnswer}
-use Rattle.model.specs.declared.NextResult.{NextResult}
+use Rattle.model.specs.declared.Literal.{Literal}
 use Rattle.model.specs.declared.Deduction.{Deduction}
 use Rattle.model.specs.declared.OutputCursor.{OutputCursor}
 use Rattle.model.specs.Answers.{flag_word}
@@ -24,7 +25,7 @@ use Rattle.model.specs.Records.{Row, slot_words, max_outputs}
 use Rattle.model.specs.Rows.{includes, includes_reads, subsumes, subsumes_reads, prepare_reads}
 use Rattle.model.specs.Union.{joins, join_reads, grown}
 use Rattle.model.specs.Slots.{row_in, slot_of}
-use Rattle.model.specs.Deduction.{next_output}
+use Rattle.model.specs.Deduction.{Published, published, next_output}
 use Rattle.model.specs.Operations.{cursor_ok}
 use Rattle.slots.specs.Layout.{proposal}
 use Rattle.slots.proofs.Storing.{row-proposal}
@@ -32,10 +33,10 @@ use Rattle.slots.specs.Layout.{row_of}
 use Rattle.row_merge.specs.Merge.{if_yes}
 use Rattle.model.specs.declared.Source.TheVariants.{Founded}
 use Rattle.row_write.specs.Forms.{new_entry}
-use Rattle.row_deduce.specs.declared.Deduced.{Deduced}
-use Rattle.row_deduce.specs.Publication.{next_end}
+use Rattle.row_deduce.specs.Walks.{walked}
+use Rattle.row_deduce.specs.Publication.{next_of, published_as}
 use Rattle.wire.specs.Words.{flag_in, cursor_in, cursor_words}
-use Rattle.leaves.specs.Calls.{account_in, meter_of, verdict_number, is_share, judged_words, next_words, said_words, deduced_words}
+use Rattle.leaves.specs.Calls.{account_in, meter_of, verdict_number, is_share, judged_words, next_words, deduced_words, walked_words, next_left}
 use Rattle.wire.specs.Replies.{left}
 use Rattle.leaves.specs.Calls.{no_row, no_region, no_cursor, no_choice, no_slot, row_fits, asked_times}
 use Rattle.leaves.specs.Calls.{Prepared, prepared, prepared_by, prepare_times, prepare_call, includes_call, subsumes_words, subsumes_call}
@@ -65,18 +66,6 @@ judged_as n a charged = n ∷ flag_word (is_share a) ∷ reads_left a ∷ charge
 pub judged-as : (j : Judged) {n : ℕ} {a : Account} → n ≡ verdict_number j.verdict → j.account ≡ a
     → judged_as n a j.meter.charged ≡ judged_words j
 judged-as j e f = ap₂ (λ (n : ℕ) (a : Account). judged_as n a j.meter.charged) e (sym f)
-
-pub next-as : (charged : ℕ) {x y : NextAnswer} → x ≡ y → next_words y charged ≡ next_words x charged
-next-as charged e = ap (λ (x : NextAnswer). next_words x charged) (sym e)
-
-abbrev deduced_by : Deduced → Bool → List ℕ
-deduced_by d b = elim b [ true ↦ 0 ∷ 0 ∷ 0 ∷ d.meter.charged ∷ [] | false ↦ said_words d.deduction d.meter.charged ]
-
-pub stopped-as : (d : Deduced) → d.stopped ≡ true → (0 ∷ 0 ∷ 0 ∷ d.meter.charged ∷ []) ≡ deduced_words d
-stopped-as d e = sym (ap (deduced_by d) e)
-
-pub said-as : (d : Deduced) {x : Deduction} → d.stopped ≡ false → d.deduction ≡ x → said_words x d.meter.charged ≡ deduced_words d
-said-as d e f = ap (λ (x : Deduction). said_words x d.meter.charged) (sym f) ∙ sym (ap (deduced_by d) e)
 
 -- ---- prepare
 module _ (atoms : ℕ) (cs os paying : List ℕ) (times : ℕ) (slot answer : List ℕ) where
@@ -229,6 +218,10 @@ module _ (atoms : ℕ) (r t : Row) (most : ℕ) (paying : List ℕ) (times : ℕ
             ∙ passes no_row _ _ _ g ∙ passes no_row _ _ _ f
 
 -- ---- deduction
+words-walked : (d : Result Deduction error.Stopped) (m : Meter) → deduced_words d m.charged ≡ walked_words (walked d m)
+words-walked (Ok d) m = refl
+words-walked (Err e) m = refl
+
 module _ (atoms : ℕ) (r : Row) (held cut paying : List ℕ) (times : ℕ) (answer : List ℕ) where
   pub deduction-unfit : row_fits atoms r ≡ false → left no_row (answer ∷ []) ≡ deduction_call atoms r held cut paying times answer
   unfolding deduction_call
@@ -240,13 +233,14 @@ module _ (atoms : ℕ) (r : Row) (held cut paying : List ℕ) (times : ℕ) (ans
     unfolding deduction_call
     deduction-unmarked e = fails no_region _ _ _ e ∙ passes no_row _ _ _ f
 
-    pub deduction-done : {x : Row} {w : List ℕ} {m : Meter} {d : Deduced} → is_region atoms (region held cut) ≡ true → x ≡ r
-        → m ≡ meter_of paying → d ≡ deduce_times (region held cut) x times m → w ≡ deduced_words d
+    pub deduction-done : {x : Row} {w : List ℕ} {m : Meter} (n : Meter) (d : Result Deduction error.Stopped)
+        → is_region atoms (region held cut) ≡ true → x ≡ r → m ≡ meter_of paying
+        → walked d n ≡ deduce_times (region held cut) x times m → w ≡ deduced_words d n.charged
         → left 0 (w ∷ []) ≡ deduction_call atoms r held cut paying times answer
     unfolding deduction_call
-    deduction-done {x} {w} {m} {d} g u i e k =
-        ap (λ (z : List ℕ). left 0 (z ∷ [])) (k
-        ∙ ap deduced_words (e ∙ ap₂ (λ (y : Row) (n : Meter). deduce_times (region held cut) y times n) u i))
+    deduction-done {x} {w} {m} n d g u i e k =
+        ap (λ (z : List ℕ). left 0 (z ∷ [])) (k ∙ words-walked d n
+        ∙ ap walked_words (e ∙ ap₂ (λ (y : Row) (n : Meter). deduce_times (region held cut) y times n) u i))
         ∙ passed (answer ∷ []) _ ∙ passes no_region _ _ _ g ∙ passes no_row _ _ _ f
 
 -- ---- next_output
@@ -270,17 +264,16 @@ module _ (atoms : ℕ) (r : Row) (held cut cursor paying answer : List ℕ) wher
       unfolding next_call
       next-unpointed e = fails no_cursor _ _ _ (sym same_ok ∙ e) ∙ passes no_region _ _ _ g ∙ passes no_row _ _ _ f
 
-      pub next-done : {c w : List ℕ} {m : Meter} {d : NextResult} → cursor_ok x k ≡ true → m ≡ meter_of paying
-          → d ≡ next_end m (next_output (region held cut) x k m) → c ≡ cursor_words d.cursor
-          → w ≡ next_words d.answer d.meter.charged
+      pub next-done : {c w : List ℕ} {m : Meter} (n : Meter) (o : OutputCursor) (d : Result (Option Literal) error.Stopped)
+          → cursor_ok x k ≡ true → m ≡ meter_of paying
+          → published_as d o n ≡ next_output (region held cut) x k m → c ≡ cursor_words o → w ≡ next_words (next_of d) n.charged
           → left 0 (c ∷ w ∷ []) ≡ next_call atoms r held cut cursor paying answer
-      unfolding next_call
-      next-done {c} {w} {m} {d} ok i e y z =
-          let all : d ≡ next_end (meter_of paying) (next_output (region held cut) r (cursor_in cursor) (meter_of paying)) =
-          e ∙ ap₂ (λ (t : Row) (o : OutputCursor). next_end m (next_output (region held cut) t o m)) u v
-          ∙ ap (λ (n : Meter). next_end n (next_output (region held cut) r (cursor_in cursor) n)) i in
-          ap₂ (λ (a b : List ℕ). left 0 (a ∷ b ∷ [])) y z
-          ∙ ap (λ (t : NextResult). left 0 (cursor_words t.cursor ∷ next_words t.answer t.meter.charged ∷ [])) all
+      unfolding next_call published
+      next-done {c} {w} {m} n o d ok i e y z =
+          let all : published_as d o n ≡ next_output (region held cut) r (cursor_in cursor) (meter_of paying) =
+          e ∙ ap₂ (λ (t : Row) (p : OutputCursor). next_output (region held cut) t p m) u v
+          ∙ ap (λ (l : Meter). next_output (region held cut) r (cursor_in cursor) l) i in
+          ap₂ (λ (a b : List ℕ). left 0 (a ∷ b ∷ [])) y z ∙ ap (λ (t : Published). left 0 (next_left t)) all
           ∙ passed (cursor ∷ answer ∷ []) _ ∙ passes no_cursor _ _ _ (sym same_ok ∙ ok)
           ∙ passes no_region _ _ _ g ∙ passes no_row _ _ _ f
 
@@ -301,4 +294,4 @@ module _ (atoms : ℕ) (held cut : List ℕ) (atom value : ℕ) (answer : List �
 
 pub found_as : (ws : List ℕ) (from : ℕ) {f x : Found} → found_at f ≡ next_from max_word ws from → f ≡ x
     → left 0 (next_from_words (found_at x) ∷ []) ≡ found_call ws from
-found_as ws from e g = ap (λ (o : Option ℕ). left 0 (next_from_words o ∷ [])) (ap found_at (sym g) ∙ e)
+found_as ws from e g = ap (λ (o : found.Option ℕ). left 0 (next_from_words o ∷ [])) (ap found_at (sym g) ∙ e)

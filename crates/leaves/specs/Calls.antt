@@ -1,11 +1,13 @@
 -- What each leaf function for C leaves in the words that it was lent, from the leaf's own definition; those that it may write stand in the
 -- order of its parameters. Assumes nothing.
 use Rattle.std.specs.Prelude.{Bool, true, false, ◌&&◌, List, [], ◌∷◌, ℕ, zero, suc, ◌-◌, eqb, leb, length, get_or}
+use Rattle.std.specs.Prelude.{Result, Ok, Err}
 use Rattle.std.proofs.Math.Option.{Option, none, some}
 use Rattle.words.specs.Bit.{max_word}
 use Rattle.words.specs.Literal.{code}
 use Rattle.words.specs.Region.{max_atoms, Region, region, is_region, Decision, decision_on, next_from}
 use Rattle.meter.specs.declared.Meter.{Meter}
+use Rattle.meter.specs.declared.Stopped as error
 use Rattle.meter.specs.declared.Account.{Account}
 use Rattle.meter.specs.declared.Account.TheVariants.{Remaining, Share}
 use Rattle.meter.specs.Judged.{Judged}
@@ -14,21 +16,18 @@ use Rattle.meter.specs.Verdict as verdict
 use Rattle.meter.specs.Meter.{reads_left, ticks, pay, judged}
 use Rattle.model.specs.declared.Deduction.{Deduction}
 use Rattle.model.specs.declared.Deduction.TheVariants.{Nothing, Force, Require}
-use Rattle.model.specs.declared.NextAnswer.{NextAnswer}
-use Rattle.model.specs.declared.NextAnswer.TheVariants as next-answer
 use Rattle.model.specs.Records.{Row, is_row, slot_words, max_outputs}
 use Rattle.model.specs.Rows.{includes, includes_reads, subsumes, subsumes_reads, prepare_reads}
 use Rattle.model.specs.Union.{joins, join_reads, grown}
 use Rattle.model.specs.declared.Source.TheVariants.{Founded}
 use Rattle.model.specs.Slots.{slot_of}
-use Rattle.model.specs.Deduction.{Published, next_output, deduction, deduction_ticks}
-use Rattle.model.specs.Operations.{cursor_ok, next_answer}
+use Rattle.model.specs.Deduction.{Next, stopped, end, output, Published, next_output, deduction, deduction_ticks}
+use Rattle.model.specs.Operations.{cursor_ok}
 use Rattle.slots.specs.Layout.{proposal}
 use Rattle.slots.specs.Layout.{row_of}
 use Rattle.row_merge.specs.Merge.{if_yes}
 use Rattle.row_write.specs.Forms.{new_entry}
-use Rattle.row_deduce.specs.declared.Deduced.{Deduced}
-use Rattle.row_deduce.specs.Walks.{deduced}
+use Rattle.row_deduce.specs.Walks.{Walked, done, halted, once}
 use Rattle.model.specs.Answers.{flag_word}
 use Rattle.wire.specs.Replies.{Left, left}
 use Rattle.wire.specs.Words.{flag_in, cursor_in, cursor_words}
@@ -55,20 +54,19 @@ is_share (Share s) = true
 abbrev pub judged_words : Judged → List ℕ
 judged_words j = verdict_number j.verdict ∷ flag_word (is_share j.account) ∷ reads_left j.account ∷ j.meter.charged ∷ []
 
-abbrev pub next_words : NextAnswer → ℕ → List ℕ
-next_words (next-answer.Refused n) charged = 3 ∷ n ∷ 0 ∷ charged ∷ []
-next_words next-answer.Stopped charged = 0 ∷ 0 ∷ 0 ∷ charged ∷ []
-next_words next-answer.End charged = 1 ∷ 0 ∷ 0 ∷ charged ∷ []
-next_words (next-answer.Output l) charged = 2 ∷ l.0 ∷ 0 ∷ charged ∷ []
+abbrev pub next_words : Next → ℕ → List ℕ
+next_words stopped charged = 0 ∷ 0 ∷ 0 ∷ charged ∷ []
+next_words end charged = 1 ∷ 0 ∷ 0 ∷ charged ∷ []
+next_words (output c) charged = 2 ∷ c ∷ 0 ∷ charged ∷ []
 
 abbrev pub said_words : Deduction → ℕ → List ℕ
 said_words Nothing charged = 1 ∷ 0 ∷ 0 ∷ charged ∷ []
 said_words Force charged = 2 ∷ 0 ∷ 0 ∷ charged ∷ []
 said_words (Require l o) charged = 3 ∷ l.0 ∷ o.0 ∷ charged ∷ []
 
-abbrev pub deduced_words : Deduced → List ℕ
-deduced_words d =
-    elim d.stopped [ true ↦ 0 ∷ 0 ∷ 0 ∷ d.meter.charged ∷ [] | false ↦ said_words d.deduction d.meter.charged ]
+abbrev pub deduced_words : Result Deduction error.Stopped → ℕ → List ℕ
+deduced_words (Ok d) charged = said_words d charged
+deduced_words (Err e) charged = 0 ∷ 0 ∷ 0 ∷ charged ∷ []
 
 abbrev pub next_from_words : Option ℕ → List ℕ
 next_from_words none = 0 ∷ 0 ∷ 0 ∷ 0 ∷ []
@@ -169,20 +167,28 @@ union_call atoms r t most paying times slot answer =
     (slot ∷ answer ∷ []) (united_by r t j ∷ judged_words j ∷ [])
 
 -- ---- deduction
-abbrev pub deduce_once : Region → Row → Meter → Deduced
-deduce_once q r m = deduced (deduction q r) m (ticks (deduction_ticks q r) m)
+abbrev pub deduce_once : Region → Row → Meter → Walked Deduction
+deduce_once q r m = once (deduction q r) (ticks (deduction_ticks q r) m)
 
-abbrev pub deduce_times : Region → Row → ℕ → Meter → Deduced
-deduce_times q r times m = again (deduce_once q r) (λ d. d.meter) (times - 1) m
+abbrev pub meter_after : {A : Type 0} → Walked A → Meter
+meter_after (done a m) = m
+meter_after (halted m) = m
+
+abbrev pub deduce_times : Region → Row → ℕ → Meter → Walked Deduction
+deduce_times q r times m = again (deduce_once q r) meter_after (times - 1) m
+
+abbrev pub walked_words : Walked Deduction → List ℕ
+walked_words (done d m) = said_words d m.charged
+walked_words (halted m) = 0 ∷ 0 ∷ 0 ∷ m.charged ∷ []
 
 unfoldable pub deduction_call : ℕ → Row → List ℕ → List ℕ → List ℕ → ℕ → List ℕ → Left
 deduction_call atoms r held cut paying times answer =
     unless ((row_fits atoms r, no_row) ∷ (is_region atoms (region held cut), no_region) ∷ []) (answer ∷ [])
-    (deduced_words (deduce_times (region held cut) r times (meter_of paying)) ∷ [])
+    (walked_words (deduce_times (region held cut) r times (meter_of paying)) ∷ [])
 
 -- ---- next_output
 abbrev pub next_left : Published → List (List ℕ)
-next_left x = cursor_words x.cursor ∷ next_words (next_answer x.next) x.meter.charged ∷ []
+next_left x = cursor_words x.cursor ∷ next_words x.next x.meter.charged ∷ []
 
 unfoldable pub next_call : ℕ → Row → List ℕ → List ℕ → List ℕ → List ℕ → List ℕ → Left
 next_call atoms r held cut cursor paying answer =

@@ -21,6 +21,8 @@ ghost use Rattle.slots.specs.Layout.{row_of};
 ghost use Rattle.row_propose.specs.Proposed.{Proposed};
 ghost use Rattle.row_write.specs.Forms.{new_entry};
 ghost use Rattle.row_deduce.specs.Chunks.{Matched};
+ghost use Rattle.row_deduce.specs.Walks.{walked};
+ghost use Rattle.row_deduce.specs.Publication.{next_of};
 ghost use Rattle.model.specs.Answers.{flag_word};
 ghost use Rattle.wire.specs.Replies.{left};
 ghost use Rattle.leaves.specs.Fit.{LaidAs};
@@ -29,9 +31,8 @@ ghost use Rattle.leaves.specs.Calls.{asked_times, prepared, prepared_by, prepare
 ghost use Rattle.leaves.specs.Calls.{prepare_call, includes_call, subsumes_call, union_call, deduction_call, next_call, decide_call};
 ghost use Rattle.leaves.specs.Calls.{found_call};
 
-use meter::{Account, Capture, Judged, Meter, Sharing, Verdict};
-use model::{Deduction, MAX_CONDITIONS, MAX_OUTPUTS, NextAnswer, SLOT_WORDS, Source};
-use row_deduce::Deduced;
+use meter::{Account, Capture, Judged, Meter, Sharing, Stopped, Verdict};
+use model::{Deduction, Literal, MAX_CONDITIONS, MAX_OUTPUTS, SLOT_WORDS, Source};
 use wire::{cursor_of, flag_word, put_cursor};
 use words::{Found, MAX_ATOMS, MAX_WORD};
 
@@ -116,49 +117,29 @@ fn put_judged(j: Judged, answer: &mut [u64; 4])
 }
 
 // Stopped is 0, Nothing 1, Force 2, Require 3 with its literal and, in the place of the reads left, the output contradicted.
-fn put_deduced(d: Deduced, answer: &mut [u64; 4])
-    ensures { answer.new ≡ deduced_words d }
+fn put_deduced(found: Result<Deduction, Stopped>, charged: u64, answer: &mut [u64; 4])
+    ensures { answer.new ≡ deduced_words found charged }
 {
-    let said = d.deduction;
-    let charged = d.meter.charged;
-    if d.stopped {
-        *answer = [0, 0, 0, charged];
-        return;
-    }
-    match said {
-        Deduction::Nothing => {
-            *answer = [1, 0, 0, charged];
-        }
-        Deduction::Force => {
-            *answer = [2, 0, 0, charged];
-        }
-        Deduction::Require {
+    *answer = match found {
+        Err(Stopped) => [0, 0, 0, charged],
+        Ok(Deduction::Nothing) => [1, 0, 0, charged],
+        Ok(Deduction::Force) => [2, 0, 0, charged],
+        Ok(Deduction::Require {
             required,
             contradicted,
-        } => {
-            *answer = [3, required.0 as u64, contradicted.0 as u64, charged];
-        }
-    }
+        }) => [3, required.0 as u64, contradicted.0 as u64, charged],
+    };
 }
 
-// Stopped is 0, End 1, Output 2 with its literal; 3 would show a refusal.
-fn put_next(given: NextAnswer, charged: u64, answer: &mut [u64; 4])
-    ensures { answer.new ≡ next_words given charged }
+// Stopped is 0, End 1, Output 2 with its literal.
+fn put_next(found: Result<Option<Literal>, Stopped>, charged: u64, answer: &mut [u64; 4])
+    ensures { answer.new ≡ next_words (next_of found) charged }
 {
-    match given {
-        NextAnswer::Refused(number) => {
-            *answer = [3, number, 0, charged];
-        }
-        NextAnswer::Stopped => {
-            *answer = [0, 0, 0, charged];
-        }
-        NextAnswer::End => {
-            *answer = [1, 0, 0, charged];
-        }
-        NextAnswer::Output(literal) => {
-            *answer = [2, literal.0 as u64, 0, charged];
-        }
-    }
+    *answer = match found {
+        Err(Stopped) => [0, 0, 0, charged],
+        Ok(None) => [1, 0, 0, charged],
+        Ok(Some(literal)) => [2, literal.0 as u64, 0, charged],
+    };
 }
 
 // Whether the lists are a row over so many atoms.
@@ -341,16 +322,19 @@ fn union_times(
     unite(r, conditions, outputs, p, most, account, meter)
 }
 
-fn deduction_times(slot: &[u64], held: &[u64], cut: &[u64], work: Meter, times: u64) -> Deduced
+fn deduction_times(
+    slot: &[u64],
+    held: &[u64],
+    cut: &[u64],
+    meter: &mut Meter,
+    times: u64,
+) -> Result<Deduction, Stopped>
     requires { Matched slot.now held.now cut.now }
-    ensures { result ≡ deduce_times (region held.now cut.now) (row_in slot.now) times work }
+    ensures { walked result meter.new
+        ≡ deduce_times (region held.now cut.now) (row_in slot.now) times meter.old }
 {
-    let mut meter = work;
-    let mut left = times;
-    while 1 < left {
-        let d = row_deduce::deduction(slot, held, cut, meter);
-        meter = next_meter(work, d.meter);
-        left -= 1;
+    for _ in 1..times {
+        let _ = row_deduce::deduction(slot, held, cut, meter);
     }
     row_deduce::deduction(slot, held, cut, meter)
 }
@@ -511,8 +495,9 @@ pub fn leaf_deduction(
     if !words::is_region(atoms, held, cut) {
         return NO_REGION;
     }
-    let d = deduction_times(&slot, held, cut, meter_of(paying), times);
-    put_deduced(d, answer);
+    let mut meter = meter_of(paying);
+    let found = deduction_times(&slot, held, cut, &mut meter, times);
+    put_deduced(found, meter.charged, answer);
     0
 }
 
@@ -538,14 +523,14 @@ pub fn leaf_next_output(
     if !words::is_region(atoms, held, cut) {
         return NO_REGION;
     }
-    let k = cursor_of(cursor);
+    let mut k = cursor_of(cursor);
     if !row_deduce::cursor_ok(&slot, k) {
         return NO_CURSOR;
     }
-    let d = row_deduce::next_publication_output(&slot, k, held, cut, meter_of(paying));
-    let given = d.answer;
-    put_cursor(d.cursor, cursor);
-    put_next(given, d.meter.charged, answer);
+    let mut meter = meter_of(paying);
+    let found = row_deduce::next_publication_output(&slot, &mut k, held, cut, &mut meter);
+    put_cursor(k, cursor);
+    put_next(found, meter.charged, answer);
     0
 }
 

@@ -10,27 +10,32 @@ use lib.ListN.{length, take, drop}
 use Rattle.words.specs.Region.{is_region, region}
 use Rattle.meter.specs.declared.Meter.{Meter}
 use Rattle.meter.specs.Tick.{Tick, Ticked, Stopped}
-use Rattle.meter.specs.Meter.{ticks}
+use Rattle.meter.specs.Meter.{made, ticks}
 use Rattle.model.specs.declared.Header.{Header}
 use Rattle.model.specs.declared.Deduction.{Deduction}
 use Rattle.model.specs.declared.Deduction.TheVariants.{Nothing}
 use Rattle.model.specs.declared.OutputCursor.{OutputCursor}
 use Rattle.model.specs.declared.DeduceAnswer.TheVariants as deduce-answer
 use Rattle.model.specs.declared.NextAnswer.TheVariants as next-answer
+use Rattle.model.specs.declared.NextResult.{NextResult}
 use Rattle.model.specs.Records.{Row, rows_of, row_at, slot_words, max_rows}
 use Rattle.model.specs.Slots.{row_in}
-use Rattle.model.specs.Deduction.{deduction, deduction_ticks, next_output as publish_next}
+use Rattle.model.specs.Deduction.{deduction, deduction_ticks, Published, next_output as publish_next}
 use Rattle.model.specs.Refusals.{Lent, refusal, accepts, ledger_in}
-use Rattle.model.specs.Operations.{DeduceEnd, deduce_end as end_of, deduce, next_output, position_ok, region_ok, cursor_ok}
+use Rattle.model.specs.Operations.{DeduceEnd, deduce_end as end_of, deduce, next_answer, next_output, position_ok, region_ok, cursor_ok}
 use Rattle.slots.specs.Layout.{Stored, slot_at, rows_in, Holds}
 use Rattle.row_deduce.specs.Chunks.{Matched}
-use Rattle.row_deduce.specs.Walks.{deduced}
-use Rattle.row_deduce.specs.Publication.{Pointed, next_end}
+use Rattle.row_deduce.specs.Walks.{once}
+use Rattle.row_deduce.specs.Publication.{Pointed}
 use Rattle.row_deduce.proofs.Cursors.{pointed-ok}
 use Rattle.contents.specs.Lent.{lent}
 use Rattle.contents.specs.Accepted.{Accepted}
 use Rattle.slots.proofs.Rows.{rows_at, slot-code}
 use Rattle.operations.specs.Ends.{refused_by, deduced_by, deduce_end, output_end}
+
+-- what is published, as the result of a call that began at m
+abbrev pub published_by : Meter → Published → NextResult
+published_by m x = record { answer = next_answer x.next; cursor = x.cursor; meter = x.meter; ticks = made m x.meter }
 
 module _ (h : Header) (slots postings : List ℕ) (p : ℕ) where
   abbrev s : Lent
@@ -71,7 +76,7 @@ module _ (h : Header) (slots postings : List ℕ) (p : ℕ) where
     deduce-refused n e = rw (e, deduce)
 
     by-tick : (d : Deduction) (t : Tick) →
-        deduce_end (deduced_by (deduced d m t))
+        deduce_end (deduced_by m (once d t))
         ≡ (elim t as (λ k. DeduceEnd) [
           | Stopped k ↦ end_of deduce-answer.Stopped Nothing m k
           | Ticked k ↦ end_of deduce-answer.Done d m k
@@ -81,11 +86,11 @@ module _ (h : Header) (slots postings : List ℕ) (p : ℕ) where
     by-tick d (Ticked k) = refl
 
     pub deduce-done : refusal (accepts s true two) ≡ none → p < h.rows → (t : Row) → t ≡ row_in (slot_at slots p) →
-        deduce_end (deduced_by (deduced (deduction (region held cut) t) m (ticks (deduction_ticks (region held cut) t) m)))
+        deduce_end (deduced_by m (once (deduction (region held cut) t) (ticks (deduction_ticks (region held cut) t) m)))
         ≡ deduce s p held cut m
     unfolding deduce
     deduce-done e l t q =
-        ap (λ (t : Row). deduce_end (deduced_by (deduced (deduction (region held cut) t) m (ticks (deduction_ticks (region held cut) t) m))))
+        ap (λ (t : Row). deduce_end (deduced_by m (once (deduction (region held cut) t) (ticks (deduction_ticks (region held cut) t) m))))
         (q ∙ sym (row_is l))
         ∙ by-tick (deduction (region held cut) (row_at p (ledger_in s))) (ticks (deduction_ticks (region held cut) (row_at p (ledger_in s))) m)
         ∙ sym (rw (e, deduce))
@@ -111,7 +116,7 @@ module _ (h : Header) (slots postings : List ℕ) (p : ℕ) where
       next-refused n e = rw (e, next_output)
 
       pub next-done : refusal (accepts s true three) ≡ none → p < h.rows → (t : Row) → t ≡ row_in (slot_at slots p) →
-          output_end (next_end m (publish_next (region held cut) t k m)) ≡ next_output s p k held cut m
+          output_end (published_by m (publish_next (region held cut) t k m)) ≡ next_output s p k held cut m
       unfolding next_output
       next-done e l t q =
-          ap (λ (t : Row). output_end (next_end m (publish_next (region held cut) t k m))) (q ∙ sym (row_is l)) ∙ sym (rw (e, next_output))
+          ap (λ (t : Row). output_end (published_by m (publish_next (region held cut) t k m))) (q ∙ sym (row_is l)) ∙ sym (rw (e, next_output))

@@ -3,19 +3,21 @@
 
 ghost use Rattle.std.specs.Prelude.{◌≡◌};
 ghost use Rattle.model.specs.Records.{fresh};
-ghost use Rattle.model.specs.Operations.{make, hit, deduce, next_output, begin, decide};
+ghost use Rattle.model.specs.Operations.{make, hit, deduce, next_answer, next_output, begin, decide};
 ghost use Rattle.contents.specs.Lent.{lent};
+ghost use Rattle.row_deduce.specs.Walks.{walked};
+ghost use Rattle.row_deduce.specs.Publication.{next_of};
 ghost use Rattle.operations.specs.Ends.{make_end, hit_end, refused_by, deduced_by, deduce_end, output_end, begin_end, decide_end};
 
 use contents::{accept, limits_ok};
 use lists::fill_zero;
-use meter::{Capture, Meter, Sharing};
+use meter::{Capture, Meter, Sharing, Stopped};
 use model::{
     BeginAnswer, BeginResult, DecideAnswer, DecideResult, DeduceAnswer, DeduceResult, Deduction,
-    Header, HitAnswer, HitResult, LearningLimits, MakeAnswer, MakeResult, Mark, NextAnswer,
+    Header, HitAnswer, HitResult, LearningLimits, Literal, MakeAnswer, MakeResult, Mark, NextAnswer,
     NextResult, OutputCursor, POSTING_WORDS, SLOT_WORDS,
 };
-use row_deduce::{Deduced, cursor_ok, deduction, next_publication_output};
+use row_deduce::{cursor_ok, deduction, next_publication_output};
 use words::is_region;
 
 // The header of a ledger with no rows.
@@ -141,22 +143,19 @@ fn deduce_refused(number: u64, work: Meter) -> DeduceResult
     }
 }
 
-// A deduction as the row's own gives it, done or stopped.
-fn deduce_done(found: Deduced) -> DeduceResult
-    ensures { result ≡ deduced_by found }
+// A deduction as the row's own gives it, done or stopped, with the ticks made since the meter stood at `before`.
+fn deduce_done(found: Result<Deduction, Stopped>, before: Meter, meter: Meter) -> DeduceResult
+    ensures { result ≡ deduced_by before (walked found meter) }
 {
-    let said = found.deduction;
-    let meter = found.meter;
-    let answer = if found.stopped {
-        DeduceAnswer::Stopped
-    } else {
-        DeduceAnswer::Done
+    let (answer, said) = match found {
+        Ok(said) => (DeduceAnswer::Done, said),
+        Err(Stopped) => (DeduceAnswer::Stopped, Deduction::Nothing),
     };
     DeduceResult {
         answer,
         deduction: said,
         meter,
-        ticks: found.ticks,
+        ticks: meter.made(before),
     }
 }
 
@@ -186,7 +185,21 @@ pub fn deduce(
     }
     let a = SLOT_WORDS * (position as usize);
     let e = a + SLOT_WORDS;
-    deduce_done(deduction(&slots[a..e], held, cut, work))
+    let mut meter = work;
+    let found = deduction(&slots[a..e], held, cut, &mut meter);
+    deduce_done(found, work, meter)
+}
+
+// The answer of what is next.
+#[tactic(auto, unfolding(model::specs::Operations::next_answer))]
+fn next_answer(found: Result<Option<Literal>, Stopped>) -> NextAnswer
+    ensures { result ≡ next_answer (next_of found) }
+{
+    match found {
+        Ok(Some(literal)) => NextAnswer::Output(literal),
+        Ok(None) => NextAnswer::End,
+        Err(Stopped) => NextAnswer::Stopped,
+    }
 }
 
 // The next output of the row at a position, with the cursor past it: refused as `deduce`, and by 8 if the cursor is none of that row's;
@@ -240,7 +253,15 @@ pub fn next_output(
             ticks: 0,
         };
     }
-    next_publication_output(&slots[a..e], cursor, held, cut, work)
+    let mut meter = work;
+    let mut past = cursor;
+    let found = next_publication_output(&slots[a..e], &mut past, held, cut, &mut meter);
+    NextResult {
+        answer: next_answer(found),
+        cursor: past,
+        meter,
+        ticks: meter.made(work),
+    }
 }
 
 // Holds or cuts an atom of a region: refused by 6 if there is no region over `atoms` atoms; false, and nothing changed, if the atom is

@@ -103,9 +103,6 @@ module _ (n : ℕ) (slot : List ℕ) (w : Stored n slot) (r : Region) (k : Outpu
       c : Singles slot s (row_in slot).outputs
       c = output-codes n slot w p
 
-      choice : Bool → Published → Published
-      choice b x = elim b [ true ↦ published end k m | false ↦ x ]
-
       go : Dec (k.next < s.count)
           → single_next slot s k m ≡ (elim (leb (length (row_in slot).outputs) k.next) as (λ z. Published) [
             | true ↦ published end k m

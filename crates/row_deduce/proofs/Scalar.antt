@@ -1,58 +1,43 @@
--- A turn over one code of a scalar side, by the tests that the code makes. Assumes nothing.
-use mathlib.Core.Path.{◌≡◌, ap, ◌∙◌}
-use mathlib.Core.Bool.{Bool, true, false}
+-- A literal of a scalar side in a region: how it stands as a condition, and whether it is contradicted as an output. Assumes nothing.
+use mathlib.Core.Path.{◌≡◌, sym, ap, ◌∙◌}
+use mathlib.Core.Bool.{Bool, true, false, not, or-false}
 use mathlib.Core.List.{List, [], ◌∷◌}
-use Prim.Native.Nat.{ℕ, ◌+◌, ◌-◌, ◌<◌}
-use lib.ListN.{get_or}
+use Prim.Native.Nat.{ℕ}
+use Rattle.std.specs.Prelude.{Some, None}
+use Rattle.lists.specs.Lists.{any, select}
 use Rattle.words.specs.Region.{Region, holds, contradicts}
-use Rattle.meter.specs.declared.Meter.{Meter}
-use Rattle.meter.specs.Tick.{Ticked}
-use Rattle.meter.specs.Meter.{tick_of}
 use Rattle.model.specs.Deduction.{failing, contradicted, contradictions}
-use Rattle.slots.specs.declared.Side.{Side}
-use Rattle.row_deduce.specs.declared.ConditionState.TheVariants as condition
-use Rattle.row_deduce.specs.Chunks.{chunk_at, chunks_from, chunks_of}
-use Rattle.row_deduce.specs.Walks.{conditions_read, read_conditions}
-use Rattle.row_deduce.proofs.Turns.{Walking, At, at_next, chunk-code, one_holds, one-fails, one-clash, one-contradicted}
-use Rattle.row_deduce.proofs.Turns.{one-clear, turn_holds, turn-opens, turn-second, turn-clash}
+use Rattle.row_deduce.specs.declared.ConditionState.TheVariants.{Idle, Holds, Undecided}
+use Rattle.row_deduce.specs.Walks.{state_of, first_of}
+use Rattle.row_deduce.proofs.Walks.{idle-clash, state-idle, state-one}
 
--- the chunk is one code
-module _ (r : Region) (ws : List ℕ) (s : Side) (g : ℕ) (p : s.packed ≡ false) where
-  pub code-hit : contradicts r (get_or ws (s.base + g) 0) ≡ true → contradictions r (chunk_at ws s g) ≡ get_or ws (s.base + g) 0 ∷ []
-  code-hit e = ap (contradictions r) (chunk-code ws s g p) ∙ one-contradicted r (get_or ws (s.base + g) 0) e
+module _ (r : Region) (c : ℕ) where
+  one_holds : holds r c ≡ true → failing r (c ∷ []) ≡ []
+  unfolding failing select
+  one_holds e = ap (λ (b : Bool). elim (not b) as (λ z. List ℕ) [ true ↦ c ∷ [] | false ↦ [] ]) e
 
-  pub code-miss : contradicts r (get_or ws (s.base + g) 0) ≡ false → contradictions r (chunk_at ws s g) ≡ []
-  code-miss e = ap (contradictions r) (chunk-code ws s g p) ∙ one-clear r (get_or ws (s.base + g) 0) e
+  one-fails : holds r c ≡ false → failing r (c ∷ []) ≡ c ∷ []
+  unfolding failing select
+  one-fails e = ap (λ (b : Bool). elim (not b) as (λ z. List ℕ) [ true ↦ c ∷ [] | false ↦ [] ]) e
 
-module _ (r : Region) (ws : List ℕ) (s : Side) (start : Meter) (opened : Bool) (code g : ℕ) (m : Meter)
-    (w : At r ws s start opened code g m) (more : g < s.count) (form : s.packed ≡ false) (n : Meter) (tick : Ticked n ≡ tick_of m) where
-  abbrev left : List (List ℕ)
-  left = chunks_from ws s (s.count - (g + 1)) (g + 1)
+  one-clash : contradicted r (c ∷ []) ≡ contradicts r c
+  unfolding contradicted any
+  one-clash = or-false (contradicts r c)
 
-  abbrev here : Walking r (chunks_of ws s) start opened code (chunk_at ws s g ∷ chunks_from ws s (s.count - (g + 1)) (g + 1)) m
-  here = at_next r ws s start opened code g m w more
+  pub code-holds : holds r c ≡ true → Holds ≡ state_of r (failing r (c ∷ []))
+  unfolding state_of
+  code-holds e = sym (ap (state_of r) (one_holds e))
 
-  pub scalar-holds : holds r (get_or ws (s.base + g) 0) ≡ true → At r ws s start opened code (g + 1) n
-  scalar-holds e =
-      turn_holds r (chunks_of ws s) start opened code (chunk_at ws s g) left m here n tick
-      (ap (failing r) (chunk-code ws s g form) ∙ one_holds r (get_or ws (s.base + g) 0) e)
+  pub code-idle : holds r c ≡ false → contradicts r c ≡ true → Idle ≡ state_of r (failing r (c ∷ []))
+  code-idle e f = sym (ap (state_of r) (one-fails e) ∙ state-idle r (c ∷ []) (idle-clash r (c ∷ []) (one-clash ∙ f)))
 
-  module _ (e : holds r (get_or ws (s.base + g) 0) ≡ false) where
-    fails : failing r (chunk_at ws s g) ≡ get_or ws (s.base + g) 0 ∷ []
-    fails = ap (failing r) (chunk-code ws s g form) ∙ one-fails r (get_or ws (s.base + g) 0) e
+  pub code-open : holds r c ≡ false → contradicts r c ≡ false → Undecided c ≡ state_of r (failing r (c ∷ []))
+  code-open e f = sym (ap (state_of r) (one-fails e) ∙ state-one r c (one-clash ∙ f))
 
-    clash-is : contradicted r (failing r (chunk_at ws s g)) ≡ contradicts r (get_or ws (s.base + g) 0)
-    clash-is = ap (contradicted r) fails ∙ one-clash r (get_or ws (s.base + g) 0)
+  pub code-contradicted : contradicts r c ≡ true → Some c ≡ first_of (contradictions r (c ∷ []))
+  unfolding contradictions select
+  code-contradicted e = sym (ap (λ (b : Bool). first_of (elim b as (λ z. List ℕ) [ true ↦ c ∷ [] | false ↦ [] ])) e)
 
-    pub scalar-second : opened ≡ true → conditions_read condition.Idle n ≡ read_conditions r [] (chunks_of ws s) start
-    scalar-second o =
-        turn-second r (chunks_of ws s) start opened code (chunk_at ws s g) left m here n tick (get_or ws (s.base + g) 0) [] o fails
-
-    pub scalar-clash : contradicts r (get_or ws (s.base + g) 0) ≡ true
-        → conditions_read condition.Idle n ≡ read_conditions r [] (chunks_of ws s) start
-    scalar-clash f = turn-clash r (chunks_of ws s) start opened code (chunk_at ws s g) left m here n tick (clash-is ∙ f)
-
-    pub scalar-opens : opened ≡ false → contradicts r (get_or ws (s.base + g) 0) ≡ false
-        → At r ws s start true (get_or ws (s.base + g) 0) (g + 1) n
-    scalar-opens o f =
-        turn-opens r (chunks_of ws s) start opened code (chunk_at ws s g) left m here n tick (get_or ws (s.base + g) 0) o fails (clash-is ∙ f)
+  pub code-clear : contradicts r c ≡ false → None ≡ first_of (contradictions r (c ∷ []))
+  unfolding contradictions select
+  code-clear e = sym (ap (λ (b : Bool). first_of (elim b as (λ z. List ℕ) [ true ↦ c ∷ [] | false ↦ [] ])) e)

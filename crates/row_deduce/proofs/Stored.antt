@@ -17,7 +17,7 @@ use Rattle.slots.specs.declared.Side.{Side}
 use Rattle.slots.specs.Cursor as cursor
 use Rattle.slots.specs.Layout.{condition_side, output_side, Stored}
 use Rattle.slots.proofs.Storing.{Grouped, Singles, singles, laid-stored, form-stored, grouped-stored, conditions-apart}
-use Rattle.row_deduce.specs.Chunks.{chunk_at, chunks_from, chunks_of, Readable, OneSigned, Matched}
+use Rattle.row_deduce.specs.Chunks.{chunk_at, chunks_from, chunks_of, Readable, Walkable, OneSigned, Matched}
 use Rattle.row_deduce.proofs.Turns.{chunk-group, chunk-code}
 
 -- ---- the chunks of a side by what stands at each
@@ -108,3 +108,10 @@ module _ (slot held cut : List ℕ) (m : Matched slot held cut) where
       readable (output_side slot) (groups (row_in slot).outputs)
       (grouped-stored m.holds.atoms slot m.holds.stored (sym (form-stored m.holds.atoms slot m.holds.stored).1 ∙ p)).1
       (laid-stored m.holds.atoms slot m.holds.stored).second
+
+  pub conditions-walkable : Walkable slot (condition_side slot) held cut
+  conditions-walkable =
+      record { groups = λ p. (conditions-readable p).0; codes = (laid-stored m.holds.atoms slot m.holds.stored).first.single }
+
+  pub outputs-walkable : Walkable slot (output_side slot) held cut
+  outputs-walkable = record { groups = outputs-readable; codes = (laid-stored m.holds.atoms slot m.holds.stored).second.single }

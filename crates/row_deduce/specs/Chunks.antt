@@ -42,6 +42,17 @@ pub record Readable (ws : List ℕ) (s : Side) (held cut : List ℕ) : Type 0 wh
   pub few : length held ≤ words_wide code_bits
   pub same : length cut ≡ length held
 
+-- a group lies within the words of a region
+pub record Inside (k : Group) (held cut : List ℕ) : Type 0 where
+  pub index : k.index < length held
+  pub few : length held ≤ words_wide code_bits
+  pub same : length cut ≡ length held
+
+-- a side that is walked over in the form that it has
+pub record Walkable (ws : List ℕ) (s : Side) (held cut : List ℕ) : Type 0 where
+  pub groups : s.packed ≡ true → Readable ws s held cut
+  pub codes : s.packed ≡ false → s.base + s.count ≤ length ws
+
 -- no atom of a packed side has both signs
 abbrev pub OneSigned : List ℕ → Side → Type 0
 OneSigned ws s = (g : ℕ) → g < s.count → bit_and (get_or ws (s.base + group_length * g + 1) 0) (get_or ws (s.base + group_length * g + 2) 0) ≡ 0

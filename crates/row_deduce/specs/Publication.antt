@@ -1,36 +1,34 @@
 -- 01, module 4: `next_publication_output` by the words of a side: what is given next, and the cursor after it. Assumes nothing.
-use Rattle.std.specs.Prelude.{◌≡◌, Bool, true, false, ◌&&◌, List, [], ◌∷◌, ℕ, suc, ◌+◌, ◌≤◌, ◌<◌, eqb, leb, length, get_or}
+use Rattle.std.specs.Prelude.{◌≡◌, Bool, true, false, ◌&&◌, List, ℕ, suc, ◌+◌, ◌≤◌, ◌<◌, eqb, leb, length, get_or}
+use Rattle.std.specs.Prelude.{Option, Some, None, Result, Ok, Err}
 use Rattle.words.specs.Literal.{code_bits, words_wide}
 use Rattle.words.specs.Region.{Region}
 use Rattle.meter.specs.declared.Meter.{Meter}
+use Rattle.meter.specs.declared.Stopped as error
 use Rattle.meter.specs.Tick.{Tick, Ticked, Stopped}
-use Rattle.meter.specs.Meter.{tick_of, made}
+use Rattle.meter.specs.Meter.{tick_of}
+use Rattle.model.specs.declared.Literal.{Literal}
 use Rattle.model.specs.declared.OutputCursor.{OutputCursor}
-use Rattle.model.specs.declared.NextAnswer.{NextAnswer}
-use Rattle.model.specs.declared.NextResult.{NextResult}
 use Rattle.model.specs.Records.{Row}
 use Rattle.model.specs.Rows.{groups, packed}
 use Rattle.model.specs.Slots.{index_of, bits_of}
-use Rattle.model.specs.Deduction.{Published, published, output, stopped, end, failing, pending, give}
-use Rattle.model.specs.Operations.{next_answer, bits_among}
+use Rattle.model.specs.Deduction.{Next, Published, published, output, stopped, end, failing}
+use Rattle.model.specs.Operations.{bits_among}
 use Rattle.slots.specs.declared.Side.{Side}
 use Rattle.row_deduce.specs.declared.Group.{Group}
 
--- an answer that ends a call, with the ticks made since it began
-abbrev pub published_with : NextAnswer → OutputCursor → Meter → Meter → NextResult
-published_with x k before after = record { answer = x; cursor = k; meter = after; ticks = made before after }
+-- what is given next by a function's result, with the cursor and the meter that it leaves
+abbrev pub next_of : Result (Option Literal) error.Stopped → Next
+next_of (Ok None) = end
+next_of (Ok (Some c)) = output c.0
+next_of (Err e) = stopped
 
--- what is published, as the result of a call that began at m
-abbrev pub next_end : Meter → Published → NextResult
-next_end m x = published_with (next_answer x.next) x.cursor m x.meter
+abbrev pub published_as : Result (Option Literal) error.Stopped → OutputCursor → Meter → Published
+published_as x k m = published (next_of x) k m
 
 -- the cursor past group `next`, loaded without what is true in the region
 abbrev pub loaded_from : Region → List ℕ → ℕ → OutputCursor
 loaded_from r g next = record { next = suc next; word = index_of g; present = bits_of true (failing r g); absent = bits_of false (failing r g) }
-
--- an output of the loaded group
-unfoldable pub given_next : OutputCursor → Meter → Published
-given_next k m = elim (pending k) [ [] ↦ published end k m | c ∷ cs ↦ give c cs k (tick_of m) ]
 
 -- the code at the cursor of a scalar side
 abbrev pub single_given : ℕ → OutputCursor → Tick → Published

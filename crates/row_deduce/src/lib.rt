@@ -1,65 +1,46 @@
 // What a row says of a region: its deduction, and its outputs one by one.
 #![tactic(auto)]
 
-ghost use Rattle.std.specs.Prelude.{◌≡◌, true, false, [], ◌+◌, ◌-◌, ◌*◌, ◌<◌, ◌≤◌, length};
-ghost use Rattle.std.specs.Int.Bits.{bit_or};
+ghost use Rattle.std.specs.Prelude.{◌≡◌, true, false, [], ◌∷◌, ◌+◌, ◌-◌, ◌*◌, ◌<◌, ◌≤◌, length};
+ghost use Rattle.std.specs.Int.Bits.{bit_and, bit_or};
 ghost use Rattle.words.specs.Literal.{code_bits, codes_wide, words_wide, opposite};
 ghost use Rattle.words.specs.Region.{region};
 ghost use Rattle.meter.specs.Meter.{ticks};
 ghost use Rattle.model.specs.Records.{group_length};
 ghost use Rattle.model.specs.Rows.{packed};
-ghost use Rattle.model.specs.Slots.{row_in};
-ghost use Rattle.model.specs.Deduction.{deduction, deduction_ticks, chunks, packed_next, next_output};
-ghost use Rattle.model.specs.Operations.{unloaded, cursor_ok};
+ghost use Rattle.model.specs.Slots.{row_in, codes_of};
+ghost use Rattle.model.specs.Deduction.{deduction, deduction_ticks, failing, contradictions, chunks, packed_next, next_output};
+ghost use Rattle.model.specs.Operations.{unloaded, bits_among, cursor_ok};
 ghost use Rattle.slots.specs.Layout.{Holds, output_side};
-ghost use Rattle.row_deduce.specs.Chunks.{chunk_at, chunks_from, chunks_of, group_at, Readable, OneSigned, Publishable, SmallCodes};
-ghost use Rattle.row_deduce.specs.Chunks.{Matched};
-ghost use Rattle.row_deduce.specs.Publication.{published_with, next_end, loaded_from, given_next, single_next, of_words, Pointed};
-ghost use Rattle.row_deduce.specs.Walks.{literal, code_in, read_conditions, read_outputs, ended as ended_with};
-ghost use Rattle.row_deduce.specs.Walks.{concluded as concluded_with, deduced};
+ghost use Rattle.row_deduce.specs.Chunks.{chunk_at, chunks_from, group_at, Inside, Walkable, OneSigned, Publishable, SmallCodes, Matched};
+ghost use Rattle.row_deduce.specs.Publication.{published_as, loaded_from, single_next, of_words, Pointed};
+ghost use Rattle.row_deduce.specs.Walks.{literal, state_of, both_of, first_of, read_conditions, read_outputs, walked, once};
 
-use meter::{Meter, Tick};
-use model::{Deduction, GROUP_WORDS, Literal, NextAnswer, NextResult, OutputCursor};
+use meter::{Meter, Stopped};
+use model::{Deduction, GROUP_WORDS, Literal, OutputCursor};
 use slots::Side;
-use words::WORD_BITS;
 
-// How the conditions of a row stand: all hold, one is undecided and the others hold, or nothing follows.
+// How conditions stand in a region: all hold, one is undecided and the others hold, or nothing follows.
 #[derive(Clone, Copy)]
-pub enum ConditionState {
-    Stopped,
+enum ConditionState {
     Idle,
     Holds,
     Undecided(u64),
 }
 
-// The state of the conditions, with the meter after its ticks.
-#[derive(Clone, Copy)]
-pub struct ConditionsRead {
-    pub state: ConditionState,
-    pub meter: Meter,
-}
-
-// Whether an output of a row is contradicted, and the least that is.
-#[derive(Clone, Copy)]
-pub enum OutputState {
-    Stopped,
-    Clear,
-    Contradicted(u64),
-}
-
-#[derive(Clone, Copy)]
-pub struct OutputsRead {
-    pub state: OutputState,
-    pub meter: Meter,
-}
-
-// A deduction, with the meter after it and the ticks made. Stopped: the ticks were not all made, and nothing was deduced.
-#[derive(Clone, Copy)]
-pub struct Deduced {
-    pub deduction: Deduction,
-    pub stopped: bool,
-    pub meter: Meter,
-    pub ticks: u64,
+impl ConditionState {
+    // How they stand with more of them: a second one that is undecided leaves nothing to follow.
+    fn both(self, more: ConditionState) -> ConditionState
+        ensures { result ≡ both_of self more }
+    {
+        match more {
+            ConditionState::Holds => self,
+            _ => match self {
+                ConditionState::Holds => more,
+                _ => ConditionState::Idle,
+            },
+        }
+    }
 }
 
 // The words of a group: its place among the words of a region, and its bits of each sign.
@@ -83,227 +64,138 @@ fn group_at(slot: &[u64], side: Side, g: usize) -> Group
     }
 }
 
-// The code of the one condition whose bit is set in `unknown`.
-fn undecided(index: u64, absent: u64, unknown: u64) -> u64
-    requires fact_1 { index < words_wide code_bits }
-    requires fact_2 { 0 < unknown }
-    ensures { result ≡ code_in index absent unknown }
+// How the conditions of a group stand. It has no atom with both signs, so that two bits are two conditions.
+fn group_state(k: Group, held: &[u64], cut: &[u64]) -> ConditionState
+    requires fact_1 { Inside k held.now cut.now }
+    requires fact_2 { bit_and k.present k.absent ≡ 0 }
+    ensures { result ≡ state_of (region held.now cut.now)
+        (failing (region held.now cut.now) (codes_of k.index k.present k.absent)) }
 {
-    let atom = WORD_BITS * index + words::first_bit(unknown);
-    if absent & unknown != 0 {
-        2 * atom
+    let index = k.index;
+    let h = held[index];
+    let c = cut[index];
+    let present = k.present & !h;
+    let absent = k.absent & !c;
+    let fails = absent | present;
+    if fails == 0 {
+        return ConditionState::Holds;
+    }
+    let clash = (absent & h) | (present & c);
+    if clash != 0 || fails & (fails - 1) != 0 {
+        return ConditionState::Idle;
+    }
+    let p = slots::take(index as u64, present, absent);
+    ConditionState::Undecided(p.code)
+}
+
+// How a condition alone stands.
+fn code_state(code: u64, held: &[u64], cut: &[u64]) -> ConditionState
+    ensures { result ≡ state_of (region held.now cut.now)
+        (failing (region held.now cut.now) (code ∷ [])) }
+{
+    if words::holds(held, cut, code) {
+        return ConditionState::Holds;
+    }
+    if words::contradicts(held, cut, code) {
+        return ConditionState::Idle;
+    }
+    ConditionState::Undecided(code)
+}
+
+// How the conditions of chunk `g` of a side stand.
+fn chunk_state(slot: &[u64], side: Side, g: usize, held: &[u64], cut: &[u64]) -> ConditionState
+    requires fact_1 { Walkable slot.now side held.now cut.now }
+    requires fact_2 { side.packed ≡ true → OneSigned slot.now side }
+    requires fact_3 { g < side.count }
+    ensures { result ≡ state_of (region held.now cut.now)
+        (failing (region held.now cut.now) (chunk_at slot.now side g)) }
+{
+    if side.packed {
+        group_state(group_at(slot, side, g), held, cut)
     } else {
-        2 * atom + 1
+        code_state(slot[side.base + g], held, cut)
     }
 }
 
-// The conditions of a packed row, a tick before each group.
-fn packed_conditions(
+// The least output of a group that is contradicted.
+fn group_contradicted(k: Group, held: &[u64], cut: &[u64]) -> Option<u64>
+    requires { Inside k held.now cut.now }
+    ensures { result ≡ first_of (contradictions (region held.now cut.now)
+        (codes_of k.index k.present k.absent)) }
+{
+    let index = k.index;
+    let absent = k.absent & held[index];
+    let present = k.present & cut[index];
+    if absent | present == 0 {
+        return None;
+    }
+    let least = slots::take(index as u64, present, absent);
+    Some(least.code)
+}
+
+// The least output of chunk `g` of a side that is contradicted.
+fn chunk_contradicted(slot: &[u64], side: Side, g: usize, held: &[u64], cut: &[u64]) -> Option<u64>
+    requires fact_1 { Walkable slot.now side held.now cut.now }
+    requires fact_2 { g < side.count }
+    ensures { result ≡ first_of (contradictions (region held.now cut.now)
+        (chunk_at slot.now side g)) }
+{
+    if side.packed {
+        return group_contradicted(group_at(slot, side, g), held, cut);
+    }
+    let code = slot[side.base + g];
+    if words::contradicts(held, cut, code) {
+        Some(code)
+    } else {
+        None
+    }
+}
+
+// How the conditions of a row stand, a tick before each chunk.
+fn conditions(
     slot: &[u64],
-    side: Side,
     held: &[u64],
     cut: &[u64],
-    work: Meter,
-) -> ConditionsRead
-    requires fact_1 { Readable slot.now side held.now cut.now }
-    requires fact_2 { OneSigned slot.now side }
-    ensures { result ≡ read_conditions (region held.now cut.now) [] (chunks_of slot.now side) work }
-{
-    let mut meter = work;
-    let mut opened = false;
-    let mut code: u64 = 0;
-    let mut g: usize = 0;
-    while g < side.count {
-        match meter.tick() {
-            Tick::Ticked(m) => meter = m,
-            Tick::Stopped(m) => {
-                return ConditionsRead {
-                    state: ConditionState::Stopped,
-                    meter: m,
-                };
-            }
-        }
-        let k = group_at(slot, side, g);
-        let index = k.index;
-        let h = held[index];
-        let c = cut[index];
-        let unknown = (k.present | k.absent) & !((k.present & h) | (k.absent & c));
-        if unknown != 0 {
-            if opened || unknown & (h | c) != 0 || unknown & (unknown - 1) != 0 {
-                return ConditionsRead {
-                    state: ConditionState::Idle,
-                    meter: meter,
-                };
-            }
-            opened = true;
-            code = undecided(index as u64, k.absent, unknown);
-        }
-        g += 1;
-    }
-    if opened {
-        ConditionsRead {
-            state: ConditionState::Undecided(code),
-            meter: meter,
-        }
-    } else {
-        ConditionsRead {
-            state: ConditionState::Holds,
-            meter: meter,
-        }
-    }
-}
-
-// The conditions of a scalar row, a tick before each.
-fn scalar_conditions(
-    slot: &[u64],
-    side: Side,
-    held: &[u64],
-    cut: &[u64],
-    work: Meter,
-) -> ConditionsRead
-    requires fact_1 { side.packed ≡ false }
-    requires fact_2 { side.base + side.count ≤ length slot.now }
-    ensures { result ≡ read_conditions (region held.now cut.now) [] (chunks_of slot.now side) work }
-{
-    let mut meter = work;
-    let mut opened = false;
-    let mut code: u64 = 0;
-    let mut g: usize = 0;
-    while g < side.count {
-        match meter.tick() {
-            Tick::Ticked(m) => meter = m,
-            Tick::Stopped(m) => {
-                return ConditionsRead {
-                    state: ConditionState::Stopped,
-                    meter: m,
-                };
-            }
-        }
-        let at = side.base + g;
-        let literal = slot[at];
-        if !words::holds(held, cut, literal) {
-            if opened || words::contradicts(held, cut, literal) {
-                return ConditionsRead {
-                    state: ConditionState::Idle,
-                    meter: meter,
-                };
-            }
-            opened = true;
-            code = literal;
-        }
-        g += 1;
-    }
-    if opened {
-        ConditionsRead {
-            state: ConditionState::Undecided(code),
-            meter: meter,
-        }
-    } else {
-        ConditionsRead {
-            state: ConditionState::Holds,
-            meter: meter,
-        }
-    }
-}
-
-// The outputs of a packed row, a tick before each group.
-fn packed_outputs(slot: &[u64], side: Side, held: &[u64], cut: &[u64], work: Meter) -> OutputsRead
-    requires { Readable slot.now side held.now cut.now }
-    ensures { result ≡ read_outputs (region held.now cut.now) (chunks_of slot.now side) work }
-{
-    let mut meter = work;
-    let mut g: usize = 0;
-    while g < side.count {
-        match meter.tick() {
-            Tick::Ticked(m) => meter = m,
-            Tick::Stopped(m) => {
-                return OutputsRead {
-                    state: OutputState::Stopped,
-                    meter: m,
-                };
-            }
-        }
-        let k = group_at(slot, side, g);
-        let index = k.index;
-        let absent = k.absent & held[index];
-        let present = k.present & cut[index];
-        if absent | present != 0 {
-            let p = slots::take(index as u64, present, absent);
-            return OutputsRead {
-                state: OutputState::Contradicted(p.code),
-                meter: meter,
-            };
-        }
-        g += 1;
-    }
-    OutputsRead {
-        state: OutputState::Clear,
-        meter: meter,
-    }
-}
-
-// The outputs of a scalar row, a tick before each.
-fn scalar_outputs(slot: &[u64], side: Side, held: &[u64], cut: &[u64], work: Meter) -> OutputsRead
-    requires fact_1 { side.packed ≡ false }
-    requires fact_2 { side.base + side.count ≤ length slot.now }
-    ensures { result ≡ read_outputs (region held.now cut.now) (chunks_of slot.now side) work }
-{
-    let mut meter = work;
-    let mut g: usize = 0;
-    while g < side.count {
-        match meter.tick() {
-            Tick::Ticked(m) => meter = m,
-            Tick::Stopped(m) => {
-                return OutputsRead {
-                    state: OutputState::Stopped,
-                    meter: m,
-                };
-            }
-        }
-        let at = side.base + g;
-        let literal = slot[at];
-        if words::contradicts(held, cut, literal) {
-            return OutputsRead {
-                state: OutputState::Contradicted(literal),
-                meter: meter,
-            };
-        }
-        g += 1;
-    }
-    OutputsRead {
-        state: OutputState::Clear,
-        meter: meter,
-    }
-}
-
-// How the conditions of a row stand in a region.
-fn conditions(slot: &[u64], held: &[u64], cut: &[u64], work: Meter) -> ConditionsRead
+    meter: &mut Meter,
+) -> Result<ConditionState, Stopped>
     requires { Matched slot.now held.now cut.now }
-    ensures { result
+    ensures { walked result meter.new
         ≡ read_conditions (region held.now cut.now) []
-        (chunks (packed (row_in slot.now)) (row_in slot.now).conditions) work }
+        (chunks (packed (row_in slot.now)) (row_in slot.now).conditions) meter.old }
 {
     let side = slots::conditions(slot);
-    if side.packed {
-        packed_conditions(slot, side, held, cut, work)
-    } else {
-        scalar_conditions(slot, side, held, cut, work)
+    let mut state = ConditionState::Holds;
+    for g in 0..side.count {
+        meter.tick()?;
+        state = state.both(chunk_state(slot, side, g, held, cut));
+        if let ConditionState::Idle = state {
+            return Ok(state);
+        }
     }
+    Ok(state)
 }
 
-// Whether an output of a row is contradicted in a region, and the first that is.
-fn outputs(slot: &[u64], held: &[u64], cut: &[u64], work: Meter) -> OutputsRead
+// The first output of a row that is contradicted, a tick before each chunk.
+fn outputs(
+    slot: &[u64],
+    held: &[u64],
+    cut: &[u64],
+    meter: &mut Meter,
+) -> Result<Option<u64>, Stopped>
     requires { Matched slot.now held.now cut.now }
-    ensures { result
+    ensures { walked result meter.new
         ≡ read_outputs (region held.now cut.now)
-        (chunks (packed (row_in slot.now)) (row_in slot.now).outputs) work }
+        (chunks (packed (row_in slot.now)) (row_in slot.now).outputs) meter.old }
 {
     let side = slots::outputs(slot);
-    if side.packed {
-        packed_outputs(slot, side, held, cut, work)
-    } else {
-        scalar_outputs(slot, side, held, cut, work)
+    for g in 0..side.count {
+        meter.tick()?;
+        let found = chunk_contradicted(slot, side, g, held, cut);
+        if let Some(_) = found {
+            return Ok(found);
+        }
     }
+    Ok(None)
 }
 
 // The opposite of a literal.
@@ -318,75 +210,33 @@ fn negation(code: u64) -> Literal
     }
 }
 
-// A deduction, or that it was stopped, with the meter and the ticks made since it stood at `before`.
-fn ended(deduction: Deduction, stopped: bool, before: Meter, after: Meter) -> Deduced
-    ensures { result ≡ ended_with deduction stopped before after }
-{
-    Deduced {
-        deduction,
-        stopped,
-        meter: after,
-        ticks: after.made(before),
-    }
-}
-
-// Where the condition `code` alone is undecided: its opposite is required if an output is contradicted, and the least of those is named.
-fn concluded(
+// What a row says of a region. Force: its conditions all hold. Require: one is undecided, the others hold, and an output is
+// contradicted; the least of those is named. Nothing: else. Stopped: the ticks were not all made.
+pub fn deduction(
     slot: &[u64],
     held: &[u64],
     cut: &[u64],
-    code: u64,
-    before: Meter,
-    work: Meter,
-) -> Deduced
-    requires fact_1 { Matched slot.now held.now cut.now }
-    requires fact_2 { code < codes_wide code_bits }
-    ensures { result
-        ≡ concluded_with code before (read_outputs (region held.now cut.now)
-        (chunks (packed (row_in slot.now)) (row_in slot.now).outputs) work) }
-{
-    let found = outputs(slot, held, cut, work);
-    let state = found.state;
-    match state {
-        OutputState::Stopped => ended(Deduction::Nothing, true, before, found.meter),
-        OutputState::Clear => ended(Deduction::Nothing, false, before, found.meter),
-        OutputState::Contradicted(output) => {
-            let required = negation(code);
-            let named = output as u32;
-            let said = Deduction::Require {
-                required,
-                contradicted: Literal(named),
-            };
-            ended(said, false, before, found.meter)
-        }
-    }
-}
-
-// What a row says of a region. Force: its conditions all hold. Require: one is undecided, the others hold, and an output is
-// contradicted; the least of those is named. Nothing: else. Stopped: the ticks were not all made.
-pub fn deduction(slot: &[u64], held: &[u64], cut: &[u64], work: Meter) -> Deduced
+    meter: &mut Meter,
+) -> Result<Deduction, Stopped>
     requires { Matched slot.now held.now cut.now }
-    ensures { result ≡ deduced (deduction (region held.now cut.now) (row_in slot.now)) work
-        (ticks (deduction_ticks (region held.now cut.now) (row_in slot.now)) work) }
+    ensures { walked result meter.new
+        ≡ once (deduction (region held.now cut.now) (row_in slot.now))
+        (ticks (deduction_ticks (region held.now cut.now) (row_in slot.now)) meter.old) }
 {
-    match work.tick() {
-        Tick::Stopped(m) => ended(Deduction::Nothing, true, work, m),
-        Tick::Ticked(m) => {
-            let found = conditions(slot, held, cut, m);
-            let state = found.state;
-            match state {
-                ConditionState::Stopped => ended(Deduction::Nothing, true, work, found.meter),
-                ConditionState::Idle => ended(Deduction::Nothing, false, work, found.meter),
-                ConditionState::Holds => ended(Deduction::Force, false, work, found.meter),
-                ConditionState::Undecided(code) => concluded(
-                    slot,
-                    held,
-                    cut,
-                    code,
-                    work,
-                    found.meter,
-                ),
-            }
+    meter.tick()?;
+    let code = match conditions(slot, held, cut, meter)? {
+        ConditionState::Idle => return Ok(Deduction::Nothing),
+        ConditionState::Holds => return Ok(Deduction::Force),
+        ConditionState::Undecided(code) => code,
+    };
+    match outputs(slot, held, cut, meter)? {
+        None => Ok(Deduction::Nothing),
+        Some(output) => {
+            let named = output as u32;
+            Ok(Deduction::Require {
+                required: negation(code),
+                contradicted: Literal(named),
+            })
         }
     }
 }
@@ -409,136 +259,104 @@ fn loaded(slot: &[u64], side: Side, next: u64, held: &[u64], cut: &[u64]) -> Out
     }
 }
 
-// An answer, with the cursor, the meter and the ticks made since it stood at `before`.
-fn published(answer: NextAnswer, cursor: OutputCursor, before: Meter, after: Meter) -> NextResult
-    ensures { result ≡ published_with answer cursor before after }
-{
-    NextResult {
-        answer: answer,
-        cursor: cursor,
-        meter: after,
-        ticks: after.made(before),
-    }
-}
-
-// The next output of the loaded group, which has one left.
-fn given(cursor: OutputCursor, before: Meter, work: Meter) -> NextResult
-    requires fact_1 { cursor.word < words_wide code_bits }
-    requires fact_2 { 0 < bit_or cursor.absent cursor.present }
-    ensures { result ≡ next_end before (given_next cursor work) }
-{
-    let p = slots::take(cursor.word, cursor.present, cursor.absent);
-    match work.tick() {
-        Tick::Stopped(m) => published(NextAnswer::Stopped, cursor, before, m),
-        Tick::Ticked(m) => {
-            let left = OutputCursor {
-                next: cursor.next,
-                word: cursor.word,
-                present: p.present,
-                absent: p.absent,
-            };
-            let code = p.code as u32;
-            published(NextAnswer::Output(Literal(code)), left, before, m)
-        }
-    }
-}
-
 // The next output of a packed row: groups are loaded, a tick before each, until one has an output that is not yet true.
 fn packed_next(
     slot: &[u64],
     side: Side,
-    cursor: OutputCursor,
+    cursor: &mut OutputCursor,
     held: &[u64],
     cut: &[u64],
-    work: Meter,
-) -> NextResult
+    meter: &mut Meter,
+) -> Result<Option<Literal>, Stopped>
     requires fact_1 { Publishable slot.now side held.now cut.now }
-    requires fact_2 { cursor.next ≤ side.count }
-    requires fact_3 { cursor.word < words_wide code_bits }
-    ensures { result
-        ≡ next_end work (packed_next (region held.now cut.now)
-        (chunks_from slot.now side (side.count - cursor.next) cursor.next) cursor work) }
+    requires fact_2 { cursor.old.next ≤ side.count }
+    requires fact_3 { cursor.old.word < words_wide code_bits }
+    ensures { published_as result cursor.new meter.new
+        ≡ packed_next (region held.now cut.now)
+        (chunks_from slot.now side (side.count - cursor.old.next) cursor.old.next) cursor.old meter.old }
 {
-    let mut k = cursor;
-    let mut meter = work;
-    while k.absent | k.present == 0 {
-        if side.count as u64 <= k.next {
-            return published(NextAnswer::End, k, work, meter);
+    // A while: the cursor that the caller keeps says which group is next, and none is loaded if the first has an output left.
+    while cursor.absent | cursor.present == 0 {
+        if side.count as u64 <= cursor.next {
+            return Ok(None);
         }
-        match meter.tick() {
-            Tick::Ticked(m) => meter = m,
-            Tick::Stopped(m) => return published(NextAnswer::Stopped, k, work, m),
-        }
-        k = loaded(slot, side, k.next, held, cut);
+        meter.tick()?;
+        *cursor = loaded(slot, side, cursor.next, held, cut);
     }
-    given(k, work, meter)
+    let p = slots::take(cursor.word, cursor.present, cursor.absent);
+    meter.tick()?;
+    cursor.present = p.present;
+    cursor.absent = p.absent;
+    let code = p.code as u32;
+    Ok(Some(Literal(code)))
 }
 
 // The next output of a scalar row: the code at the cursor, true in the region or not.
-fn scalar_next(slot: &[u64], side: Side, cursor: OutputCursor, work: Meter) -> NextResult
+fn scalar_next(
+    slot: &[u64],
+    side: Side,
+    cursor: &mut OutputCursor,
+    meter: &mut Meter,
+) -> Result<Option<Literal>, Stopped>
     requires fact_1 { side.packed ≡ false }
     requires fact_2 { side.base + side.count ≤ length slot.now }
     requires fact_3 { SmallCodes slot.now side }
-    ensures { result ≡ next_end work (single_next slot.now side cursor work) }
+    ensures { published_as result cursor.new meter.new
+        ≡ single_next slot.now side cursor.old meter.old }
 {
     let next = cursor.next as usize;
     if side.count <= next {
-        return published(NextAnswer::End, cursor, work, work);
+        return Ok(None);
     }
-    match work.tick() {
-        Tick::Stopped(m) => published(NextAnswer::Stopped, cursor, work, m),
-        Tick::Ticked(m) => {
-            let at = side.base + next;
-            let past = OutputCursor {
-                next: cursor.next + 1,
-                word: 0,
-                present: 0,
-                absent: 0,
-            };
-            let code = slot[at] as u32;
-            published(NextAnswer::Output(Literal(code)), past, work, m)
-        }
-    }
+    meter.tick()?;
+    *cursor = OutputCursor {
+        next: cursor.next + 1,
+        word: 0,
+        present: 0,
+        absent: 0,
+    };
+    let code = slot[side.base + next] as u32;
+    Ok(Some(Literal(code)))
 }
 
-// The next output of the side that a row's outputs are, with the cursor past it. A scalar row gives every output, a packed one those not
-// yet true in the region when their group is loaded. End: none is left. Stopped: a tick was not made.
+// The next output of the side that a row's outputs are, and the cursor goes past it. A scalar row gives every output, a packed one those
+// not yet true in the region when their group is loaded. None is left: None. Stopped: a tick was not made.
 pub fn next_of_side(
     slot: &[u64],
     side: Side,
-    cursor: OutputCursor,
+    cursor: &mut OutputCursor,
     held: &[u64],
     cut: &[u64],
-    work: Meter,
-) -> NextResult
+    meter: &mut Meter,
+) -> Result<Option<Literal>, Stopped>
     requires fact_1 { Matched slot.now held.now cut.now }
-    requires fact_2 { Pointed (row_in slot.now) cursor }
+    requires fact_2 { Pointed (row_in slot.now) cursor.old }
     requires fact_3 { side ≡ output_side slot.now }
-    ensures { result
-        ≡ next_end work (next_output (region held.now cut.now) (row_in slot.now) cursor work) }
+    ensures { published_as result cursor.new meter.new
+        ≡ next_output (region held.now cut.now) (row_in slot.now) cursor.old meter.old }
 {
     if side.packed {
-        packed_next(slot, side, cursor, held, cut, work)
+        packed_next(slot, side, cursor, held, cut, meter)
     } else {
-        scalar_next(slot, side, cursor, work)
+        scalar_next(slot, side, cursor, meter)
     }
 }
 
-// The next output of a row whose conditions all hold, with the cursor past it.
+// The next output of a row whose conditions all hold, and the cursor goes past it.
 pub fn next_publication_output(
     slot: &[u64],
-    cursor: OutputCursor,
+    cursor: &mut OutputCursor,
     held: &[u64],
     cut: &[u64],
-    work: Meter,
-) -> NextResult
+    meter: &mut Meter,
+) -> Result<Option<Literal>, Stopped>
     requires fact_1 { Matched slot.now held.now cut.now }
-    requires fact_2 { Pointed (row_in slot.now) cursor }
-    ensures { result
-        ≡ next_end work (next_output (region held.now cut.now) (row_in slot.now) cursor work) }
+    requires fact_2 { Pointed (row_in slot.now) cursor.old }
+    ensures { published_as result cursor.new meter.new
+        ≡ next_output (region held.now cut.now) (row_in slot.now) cursor.old meter.old }
 {
     let side = slots::outputs(slot);
-    next_of_side(slot, side, cursor, held, cut, work)
+    next_of_side(slot, side, cursor, held, cut, meter)
 }
 
 // Whether no group is loaded.
@@ -548,17 +366,20 @@ fn is_unloaded(cursor: OutputCursor) -> bool
     cursor.word | (cursor.present | cursor.absent) == 0
 }
 
+// Whether bits are among those of a group.
+fn are_among(bits: u64, all: u64) -> bool
+    ensures { result ≡ bits_among bits all }
+{
+    bits & all == bits
+}
+
 // Whether word and bits of a cursor are of a group.
 fn is_of_group(cursor: OutputCursor, k: Group) -> bool
     ensures { result ≡ of_words cursor k }
 {
-    if cursor.word != k.index as u64 {
-        return false;
-    }
-    if cursor.present & k.present != cursor.present {
-        return false;
-    }
-    cursor.absent & k.absent == cursor.absent
+    cursor.word == k.index as u64
+        && are_among(cursor.present, k.present)
+        && are_among(cursor.absent, k.absent)
 }
 
 // Whether a cursor stands in the outputs of a row, as one that the calls give back.

@@ -50,6 +50,6 @@ returns c =
     a.atoms_scratch.now a.work _ _
     c.scratch_ok-others.ensures c.accept-n.ensures c.if-n-ne0.false q in
     close-done a.header a.slots.now a.postings.now a.held.now a.cut.now a.rows_scratch.now
-    a.atoms_scratch.now a.work e g.result _ _ _ _ _ _ _ _ g.ensures.turn g.ensures.runs g.auto.places
+    a.atoms_scratch.now a.work e g.result _ _ _ _ _ _ _ _ _ _ _ g.ensures.turn g.ensures.runs g.auto.places
     g.auto.noted c.fill_zero.ensures
     c.fill_zero-2.ensures _ _ c.answer_of.ensures c.made.ensures

@@ -1,119 +1,59 @@
 -- `close_publish::act`. One law for each way out. Assumes nothing.
 use mathlib.Core.Path.{◌∙◌}
 use mathlib.Core.Logic.{inl, inr}
-use Rattle.words.specs.Region.{region}
-use Rattle.close_note.proofs.Logging.{logs-none}
+use Rattle.meter.proofs.Payments.{passed}
 use Rattle.close_publish.specs.Turns.{ledger_of, beside}
-use Rattle.close_publish.proofs.Standing.{Hits, hits-length, slot-fits, stored-part, hits-stand, decided-stands}
+use Rattle.close_publish.proofs.Ending.{ended-on}
+use Rattle.close_publish.proofs.Standing.{Hits, stored-part, hits-stand, decided-stands}
 use Rattle.close_publish.proofs.Acting.{act-stopped, act-nothing, part-row, act-reads}
-use Rattle.close_publish.proofs.act.Goals.{Joined-read, then-read, else-read}
-use borrow.Author.Rules.{rules}
+use Rattle.close_publish.proofs.act.Goals.{Joined-earned, then-earned, else-earned}
 use Rattle.close_publish.proofs.act.Goals as goal
 
-pub overflow_mul-a : goal.overflow_mul-a
-overflow_mul-a c =
-    let a = c.args in
-    let f = slot-fits a.atoms a.rows _ a.slots.now a.held.now a.cut.now c.requires.fact_1 a.position c.requires.fact_2 in
-    search rules
-
-pub overflow_add-e : goal.overflow_add-e
-overflow_add-e c =
-    let a = c.args in
-    let f = slot-fits a.atoms a.rows _ a.slots.now a.held.now a.cut.now c.requires.fact_1 a.position c.requires.fact_2 in
-    search rules
-
-pub offset_bounds-slots-a : goal.offset_bounds-slots-a
-offset_bounds-slots-a c =
-    let a = c.args in
-    let f = slot-fits a.atoms a.rows _ a.slots.now a.held.now a.cut.now c.requires.fact_1 a.position c.requires.fact_2 in
-    search rules
-
-pub slice_bounds-deduction-end : goal.slice_bounds-deduction-end
-slice_bounds-deduction-end c =
-    let a = c.args in
-    let f = slot-fits a.atoms a.rows _ a.slots.now a.held.now a.cut.now c.requires.fact_1 a.position c.requires.fact_2 in
-    search rules
-
-pub deduction-found-requires : goal.deduction-found-requires
-deduction-found-requires c =
+pub deduction-requires : goal.deduction-requires
+deduction-requires c =
     let a = c.args in
     let s = stored-part a.atoms a.rows _ a.slots.now a.held.now a.cut.now c.requires.fact_1 a.position c.requires.fact_2 in
     record { holds = record { atoms = a.atoms; stored = s }; region = c.requires.fact_1.region }
 
-pub returns-then-found : goal.returns-then-found
-returns-then-found c =
+pub returns-in_err-said-clause-turn : goal.returns-in_err-said-clause-turn
+returns-in_err-said-clause-turn c h =
     let a = c.args in
-    let d = c.deduction-found in record {
-      turn = λ h. act-stopped a.atoms a.position (beside (ledger_of h a.rows a.slots.now) a.before) a.held.now a.cut.now
-          a.work _
-          (part-row a.atoms a.rows a.position a.slots.now a.held.now a.cut.now a.work c.requires.fact_1.holds
-          c.requires.fact_2 h)
-          d.result d.ensures c.if-found.true;
-      stands = c.requires.fact_1;
-      logged = logs-none a.atoms a.decided a.noted.now (region a.held.now a.cut.now) c.requires.fact_3;
-    }
+    ended-on _ (passed c.from_residual.ensures.1)
+    (act-stopped a.atoms a.position (beside (ledger_of h a.rows a.slots.now) a.contradicted.now) a.held.now a.cut.now a.meter.now _
+    (part-row a.atoms a.rows a.position a.slots.now a.held.now a.cut.now a.meter.now c.requires.fact_1.holds c.requires.fact_2 h)
+    c.in_err-said.ensures)
 
-pub returns-in-Nothing : goal.returns-in-Nothing
-returns-in-Nothing c =
+pub returns-in-Nothing-clause-turn : goal.returns-in-Nothing-clause-turn
+returns-in-Nothing-clause-turn c h =
     let a = c.args in
-    let d = c.deduction-found in record {
-      turn = λ h. act-nothing a.atoms a.position (beside (ledger_of h a.rows a.slots.now) a.before) a.held.now a.cut.now
-          a.work _
-          (part-row a.atoms a.rows a.position a.slots.now a.held.now a.cut.now a.work c.requires.fact_1.holds
-          c.requires.fact_2 h)
-          d.result d.ensures c.if-found.false c.in-Nothing.is;
-      stands = c.requires.fact_1;
-      logged = logs-none a.atoms a.decided a.noted.now (region a.held.now a.cut.now) c.requires.fact_3;
-    }
+    act-nothing a.atoms a.position (beside (ledger_of h a.rows a.slots.now) a.contradicted.now) a.held.now a.cut.now a.meter.now _
+    (part-row a.atoms a.rows a.position a.slots.now a.held.now a.cut.now a.meter.now c.requires.fact_1.holds c.requires.fact_2 h)
+    c.in_ok-said.said _ c.in_ok-said.ensures c.in-Nothing.is
 
-pub offset_bounds-slots-a-2 : goal.offset_bounds-slots-a-2
-offset_bounds-slots-a-2 c =
+pub follow-read-requires-clause-fact_1 : goal.follow-read-requires-clause-fact_1
+follow-read-requires-clause-fact_1 c =
     let a = c.args in
-    let f = slot-fits a.atoms a.rows _ a.slots.now a.held.now a.cut.now c.requires.fact_1 a.position c.requires.fact_2 in
-    search rules
-
-pub slice_bounds-follow-end : goal.slice_bounds-follow-end
-slice_bounds-follow-end c =
-    let a = c.args in
-    let f = slot-fits a.atoms a.rows _ a.slots.now a.held.now a.cut.now c.requires.fact_1 a.position c.requires.fact_2 in
-    search rules
-
-pub follow-read-requires : goal.follow-read-requires
-follow-read-requires c =
-    let a = c.args in record {
-      fact_1 = stored-part a.atoms a.rows _ a.slots.now a.held.now a.cut.now c.requires.fact_1 a.position c.requires.fact_2;
-      fact_2 = c.requires.fact_1.region;
-      fact_3 = c.requires.fact_3;
-    }
-
-pub hit-requires : goal.hit-requires
-hit-requires c =
-    let a = c.args in
-    let f = slot-fits a.atoms a.rows _ a.slots.now a.held.now a.cut.now c.requires.fact_1 a.position c.requires.fact_2 in
-    search rules
+    stored-part a.atoms a.rows _ a.slots.now a.held.now a.cut.now c.requires.fact_1 a.position c.requires.fact_2
 
 -- the slots at the end: with the hit that was earned, or as they were
-module _ (c : Joined-read) where
-  hits : Hits c.follow-read.result.earned c.args.position c.args.slots.now c.if-read.slots
-  hits = elim c.if-read.branch [
-    | then-read w ↦ inl (w.if-read.true, w.slots-is ∙ w.hit.ensures)
-    | else-read w ↦ inr (w.if-read.false, w.slots-is)
+module _ (c : Joined-earned) where
+  hits : Hits c.earned.result c.args.position c.args.slots.now c.if-earned.slots
+  hits = elim c.if-earned.branch [
+    | then-earned w ↦ inl (w.if-earned.true, w.slots-is ∙ w.hit.ensures)
+    | else-earned w ↦ inr (w.if-earned.false, w.slots-is)
   ]
 
-pub shape_of-slots : goal.shape_of-slots
-shape_of-slots c = hits-length _ _ _ _ (hits (goal.at.shape_of-slots c).Joined-read)
-
-pub returns : goal.returns
-returns c =
+pub returns-clause-turn : goal.returns-clause-turn
+returns-clause-turn c h =
     let a = c.args in
-    let d = c.deduction-found in
     let g = c.follow-read in
-    let z = hits (goal.at.returns c).Joined-read in
+    act-reads a.atoms a.rows a.position a.slots.now a.held.now a.cut.now a.meter.now c.requires.fact_1.holds c.requires.fact_2
+    c.in_ok-said.said _ c.in_ok-said.ensures g.result _ _ _ g.ensures.turn _ _ g.ensures.counted c.earned.result c.earned.ensures
+    a.contradicted.now h _ (hits (goal.at.returns-clause-turn c).Joined-earned) _ c.named.ensures
+
+pub returns-clause-stands : goal.returns-clause-stands
+returns-clause-stands c =
+    let a = c.args in
     let s = hits-stand a.atoms a.rows _ a.slots.now a.held.now a.cut.now c.requires.fact_1 _ a.position c.requires.fact_2 _
-    z in record {
-      turn = λ h. act-reads a.atoms a.rows a.position a.slots.now a.held.now a.cut.now a.work c.requires.fact_1.holds
-          c.requires.fact_2 d.result d.ensures c.if-found.false g.result _ _ g.ensures.turn g.ensures.earned
-          a.before h _ z _ c.named.ensures;
-      stands = decided-stands a.atoms a.rows _ _ a.held.now a.cut.now s _ _ g.ensures.whole;
-      logged = g.ensures.logged;
-    }
+    (hits (goal.at.returns-clause-stands c).Joined-earned) in
+    decided-stands a.atoms a.rows _ _ a.held.now a.cut.now s _ _ c.follow-read.ensures.whole

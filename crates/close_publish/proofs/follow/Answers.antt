@@ -4,16 +4,17 @@ use Rattle.words.specs.Region.{region}
 use Rattle.model.specs.Slots.{row_in}
 use Rattle.close_note.proofs.Logging.{logs-none}
 use Rattle.close_publish.specs.Turns.{state}
-use Rattle.close_publish.proofs.Acting.{follow-nothing, follow-force, follow-require, going-unearned}
+use Rattle.close_publish.proofs.Deciding.{counted-none}
+use Rattle.close_publish.proofs.Acting.{follow-nothing, follow-force, follow-require}
 use Rattle.close_publish.proofs.follow.Goals as goal
 
 pub returns-in-Nothing : goal.returns-in-Nothing
 returns-in-Nothing c =
     let a = c.args in record {
-      turn = λ l. follow-nothing a.atoms (row_in a.slot.now) a.said (state l a.held.now a.cut.now a.work) c.in-Nothing.is;
-      earned = λ l. going-unearned a.atoms l a.held.now a.cut.now a.work;
+      turn = λ l. follow-nothing a.atoms (row_in a.slot.now) a.said (state l a.held.now a.cut.now a.meter.now) c.in-Nothing.is;
+      counted = counted-none a.atoms a.decided.now (region a.held.now a.cut.now);
       whole = c.requires.fact_2;
-      logged = logs-none a.atoms a.decided a.noted.now (region a.held.now a.cut.now) c.requires.fact_3;
+      logged = logs-none a.atoms a.decided.now a.noted.now (region a.held.now a.cut.now) c.requires.fact_3;
     }
 
 pub returns-in-Force : goal.returns-in-Force
@@ -21,8 +22,8 @@ returns-in-Force c =
     let a = c.args in
     let k = c.publish.ensures in record {
       turn = λ l. k.turn l
-          ∙ follow-force a.atoms (row_in a.slot.now) a.said (state l a.held.now a.cut.now a.work) c.in-Force.is;
-      earned = k.earned;
+          ∙ follow-force a.atoms (row_in a.slot.now) a.said (state l a.held.now a.cut.now a.meter.now) c.in-Force.is;
+      counted = k.counted;
       whole = k.whole;
       logged = k.logged;
     }
@@ -32,9 +33,9 @@ returns-in-Require c =
     let a = c.args in
     let k = c.decide_on.ensures in
     let o = c.in-Require in record {
-      turn = λ l. k.turn l
-          ∙ follow-require a.atoms (row_in a.slot.now) a.said (state l a.held.now a.cut.now a.work) o.required o.contradicted o.is;
-      earned = k.earned;
+      turn = λ l. k.turn l a.meter.now
+          ∙ follow-require a.atoms (row_in a.slot.now) a.said (state l a.held.now a.cut.now a.meter.now) o.required o.contradicted o.is;
+      counted = k.counted;
       whole = k.whole;
       logged = k.logged;
     }

@@ -4,11 +4,10 @@ use Rattle.model.proofs.Priority.Rounds.{opens}
 use Rattle.close_rounds.proofs.Repeating.{Repeating}
 use Rattle.close_rounds.proofs.rounds.Given as goal
 
-abbrev pub invariant-loop-one : goal.invariant-loop-one
-invariant-loop-one l =
-    Repeating l.initial.head l.initial.slots l.initial.postings l.initial.held l.initial.cut l.initial.places l.initial.noted l.initial.meter l.initial.contradicted l.head l.slots l.postings l.held l.cut l.places l.noted l.meter
-    l.contradicted l.given
+abbrev pub invariant-loop-given : goal.invariant-loop-given
+invariant-loop-given l =
+    Repeating l.initial.header l.initial.slots l.initial.postings l.initial.held l.initial.cut l.initial.places l.initial.noted
+    l.initial.meter l.initial.contradicted l.header l.slots l.postings l.held l.cut l.places l.noted l.meter l.contradicted l.given
 
-abbrev pub decreases-loop-one : goal.decreases-loop-one
-decreases-loop-one l =
-    opens l.initial.head.limits.atoms (region l.held l.cut)
+abbrev pub decreases-loop-given : goal.decreases-loop-given
+decreases-loop-given l = opens l.initial.header.limits.atoms (region l.held l.cut)

@@ -1,19 +1,23 @@
-use mathlib.Core.Path.{refl, ◌∙◌}
-use Rattle.leaves.proofs.Calling.{deduce-more, deduce-last, deduce-limit, next-limit}
+-- `deduction_times`: one deduction, and as many more as were left, less one. Assumes nothing.
+use mathlib.Core.Path.{◌≡◌, refl, sym, ap₂, ◌∙◌}
+use Prim.Native.Nat.{◌+◌, ◌-◌, ◌<◌}
+use native.Mathlib.Omega.{arith}
+use Rattle.leaves.proofs.Calling.{deduce-more, deduce-last, meter-walked}
+use Rattle.leaves.proofs.deduction_times.Invariants.{deduces}
 use Rattle.leaves.proofs.deduction_times.Goals as goal
 
-pub loop-left-init : goal.loop-left-init
-loop-left-init c = (refl, refl)
+pub loop-init : goal.loop-init
+loop-init c = refl
 
-pub next_meter-meter-requires : goal.next_meter-meter-requires
-next_meter-meter-requires c = deduce-limit _ _ c.loop-left.left _ c.deduction-d.ensures c.loop-left.invariant.0
-
-pub loop-left-preserved : goal.loop-left-preserved
-loop-left-preserved c = (
-  next-limit c.next_meter-meter.ensures (deduce-limit _ _ c.loop-left.left _ c.deduction-d.ensures c.loop-left.invariant.0),
-  deduce-more _ _ c.loop-left.left _ c.deduction-d.ensures c.loop-left-test.true c.next_meter-meter.ensures ∙ c.loop-left.invariant.1,
-)
+pub loop-preserved : goal.loop-preserved
+loop-preserved c =
+    let a = c.args in
+    let some : 0 < a.times - c.loop.counter = omega arith in
+    let less : a.times - (c.loop.counter + 1) ≡ a.times - c.loop.counter - 1 = omega arith in
+    ap₂ (deduces a.slot.now a.held.now a.cut.now) less (sym (meter-walked c.deduction.result c.deduction.new.meter))
+    ∙ deduce-more _ _ (a.times - c.loop.counter) c.loop.meter c.deduction.ensures some ∙ c.loop.invariant
 
 pub returns : goal.returns
 returns c =
-    deduce-last _ _ c.loop-left.left _ c.deduction.ensures c.loop-left-test.false ∙ c.loop-left.invariant.1
+    let none : c.args.times - c.loop.counter ≡ 0 = omega arith in
+    deduce-last _ _ (c.args.times - c.loop.counter) c.loop.meter c.deduction-2.ensures none ∙ c.loop.invariant

@@ -10,8 +10,8 @@ pub returns-then-not-is_region : goal.returns-then-not-is_region
 returns-then-not-is_region c =
     deduction-unmarked _ _ _ _ _ _ _ (yes c.store.ensures.0 c.if-not-store.false) (no c.is_region.ensures c.if-not-is_region.true)
 
-pub deduction_times-d-requires : goal.deduction_times-d-requires
-deduction_times-d-requires c =
+pub deduction_times-found-requires : goal.deduction_times-found-requires
+deduction_times-found-requires c =
     let x = c.store.ensures in
     matched-of _ _ _ _ (fits-stored _ _ (yes x.0 c.if-not-store.false) _ (told _ x.1 c.if-not-store.false))
     (yes c.is_region.ensures c.if-not-is_region.false)
@@ -20,5 +20,5 @@ pub returns : goal.returns
 returns c =
     let x = c.store.ensures in
     let f = yes x.0 c.if-not-store.false in
-    deduction-done _ _ _ _ _ _ _ f (yes c.is_region.ensures c.if-not-is_region.false) (fits-row _ _ f _ (told _ x.1 c.if-not-store.false))
-    c.meter_of.ensures c.deduction_times-d.ensures c.put_deduced.ensures
+    deduction-done _ _ _ _ _ _ _ f _ c.deduction_times-found.result (yes c.is_region.ensures c.if-not-is_region.false) (fits-row _ _ f _ (told _ x.1 c.if-not-store.false))
+    c.meter_of-meter.ensures c.deduction_times-found.ensures c.put_deduced.ensures

@@ -22,8 +22,8 @@ returns-then-not-cursor_ok c =
     next-unpointed _ _ _ _ _ _ _ f (yes c.is_region.ensures c.if-not-is_region.false) (fits-row _ _ f _ (told _ x.1 c.if-not-store.false))
     c.cursor_of-k.ensures (no c.cursor_ok.ensures c.if-not-cursor_ok.true)
 
-pub next_publication_output-d-requires : goal.next_publication_output-d-requires
-next_publication_output-d-requires c =
+pub next_publication_output-found-requires : goal.next_publication_output-found-requires
+next_publication_output-found-requires c =
     let x = c.store.ensures in
     let s = fits-stored _ _ (yes x.0 c.if-not-store.false) _ (told _ x.1 c.if-not-store.false) in record {
       fact_1 = matched-of _ _ _ _ s (yes c.is_region.ensures c.if-not-is_region.false);
@@ -35,5 +35,6 @@ returns c =
     let x = c.store.ensures in
     let f = yes x.0 c.if-not-store.false in
     next-done _ _ _ _ _ _ _ f (yes c.is_region.ensures c.if-not-is_region.false) (fits-row _ _ f _ (told _ x.1 c.if-not-store.false))
-    c.cursor_of-k.ensures (yes c.cursor_ok.ensures c.if-not-cursor_ok.false) c.meter_of.ensures
-    c.next_publication_output-d.ensures c.put_cursor.ensures c.put_next.ensures
+    c.cursor_of-k.ensures _ _ c.next_publication_output-found.result (yes c.cursor_ok.ensures c.if-not-cursor_ok.false)
+    c.meter_of-meter.ensures
+    c.next_publication_output-found.ensures c.put_cursor.ensures c.put_next.ensures

@@ -82,8 +82,8 @@ slice_bounds-deduction-end c =
     let f = slot-fits a.header a.slots.now a.postings.now a.position k c.if-header-position.false in
     search rules
 
-pub deduction-requires : goal.deduction-requires
-deduction-requires c =
+pub deduction-found-requires : goal.deduction-found-requires
+deduction-found-requires c =
     let a = c.args in
     let s = lent a.header a.slots.now a.postings.now in
     let k = accepted a.header a.slots.now a.postings.now true []
@@ -96,7 +96,7 @@ pub returns : goal.returns
 returns c =
     let a = c.args in
     let s = lent a.header a.slots.now a.postings.now in
-    ap deduce_end (c.deduce_done.ensures ∙ ap deduced_by c.deduction.ensures)
+    ap deduce_end (c.deduce_done.ensures ∙ ap (deduced_by a.work) c.deduction-found.ensures)
     ∙ deduce-done a.header a.slots.now a.postings.now a.position a.held.now a.cut.now a.work
     (accept-passed s true ((position_ok s a.position, 5) ∷ (region_ok s a.held.now a.cut.now, 6) ∷ []) _
     c.accept-n.ensures

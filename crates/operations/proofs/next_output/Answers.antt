@@ -1,7 +1,10 @@
 -- `operations::next_output`. One law for each way out. Assumes nothing.
-use mathlib.Core.Path.{sym, ap, ◌∙◌}
+use mathlib.Core.Path.{sym, ap, ap₂, ◌∙◌}
 use mathlib.Core.Bool.{true}
 use mathlib.Core.List.{[], ◌∷◌}
+use Prim.Native.Nat.{ℕ}
+use Rattle.model.specs.declared.NextAnswer.{NextAnswer}
+use Rattle.model.specs.Deduction.{Published, published}
 use Rattle.model.specs.Slots.{row_in}
 use Rattle.model.specs.Refusals.{ledger_in}
 use Rattle.model.specs.Records.{row_at}
@@ -11,7 +14,7 @@ use Rattle.contents.proofs.Accepting.{accepted, accept-refused, accept-passed, a
 use Rattle.operations.specs.Ends.{output_end}
 use Rattle.operations.proofs.Tests.{position-no, position-yes, region-no, region-yes}
 use Rattle.model.specs.Operations.{position_ok, region_ok, cursor_ok}
-use Rattle.operations.proofs.Deducing.{slot-fits, holds, matched, pointed, cursor-no, cursor-yes, next-refused, next-done}
+use Rattle.operations.proofs.Deducing.{slot-fits, holds, matched, pointed, cursor-no, cursor-yes, next-refused, next-done, published_by}
 use borrow.Author.Rules.{rules}
 use Rattle.operations.proofs.next_output.Goals as goal
 
@@ -138,8 +141,8 @@ slice_bounds-next_publication_output-end c =
     c.if-header-position.false in
     search rules
 
-pub next_publication_output-requires : goal.next_publication_output-requires
-next_publication_output-requires c =
+pub next_publication_output-found-requires : goal.next_publication_output-found-requires
+next_publication_output-found-requires c =
     let a = c.args in
     let s = lent a.header a.slots.now a.postings.now in
     let k = accepted a.header a.slots.now a.postings.now true []
@@ -153,11 +156,14 @@ next_publication_output-requires c =
     }
 
 pub returns : goal.returns
+unfolding published
 returns c =
-    let a =
-    c.args in
+    let a = c.args in
     let s = lent a.header a.slots.now a.postings.now in
-    ap output_end c.next_publication_output.ensures
+    let n = c.next_publication_output-found.new in
+    ap₂ (λ (x : NextAnswer) (t : ℕ). output_end (record { answer = x; cursor = n.cursor; meter = n.meter; ticks = t }))
+    c.next_answer.ensures c.made.ensures
+    ∙ ap (λ (x : Published). output_end (published_by a.work x)) c.next_publication_output-found.ensures
     ∙ next-done a.header a.slots.now a.postings.now a.position a.held.now a.cut.now a.work a.cursor
     (accept-passed s true
     ((position_ok s a.position, 5) ∷ (region_ok s a.held.now a.cut.now, 6)

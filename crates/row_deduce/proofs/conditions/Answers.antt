@@ -1,64 +1,79 @@
 -- `row_deduce::conditions`: the side that is read has the chunks of the row's conditions. Assumes nothing.
 use mathlib.Core.Path.{◌≡◌, sym, ap, ◌∙◌, subst}
+use mathlib.Core.Bool.{true}
 use mathlib.Core.List.{List, []}
-use Prim.Native.Nat.{ℕ, ◌+◌, ◌≤◌}
+use Prim.Native.Nat.{ℕ}
 use native.Mathlib.Omega.{arith}
-use lib.ListN.{length}
-use Rattle.words.specs.Region.{region}
+use Rattle.words.specs.Region.{Region, region}
+use Rattle.meter.proofs.Payments.{passed}
 use Rattle.model.specs.Rows.{packed}
 use Rattle.model.specs.Slots.{row_in}
 use Rattle.model.specs.Deduction.{chunks}
 use Rattle.slots.specs.declared.Side.{Side}
-use Rattle.slots.specs.Layout.{condition_side, Laid}
 use Rattle.slots.proofs.Storing.{laid-stored}
-use Rattle.row_deduce.specs.Chunks.{chunks_of, Readable, OneSigned}
-use Rattle.row_deduce.specs.declared.ConditionsRead.{ConditionsRead}
-use Rattle.row_deduce.specs.Walks.{read_conditions}
-use Rattle.row_deduce.proofs.Stored.{condition-chunks, conditions-readable}
-use Rattle.row_deduce.proofs.conditions.Goals.{Start, After-conditions-side}
+use Rattle.row_deduce.specs.Chunks.{chunks_of, Walkable, OneSigned}
+use Rattle.row_deduce.specs.declared.ConditionState.{ConditionState}
+use Rattle.row_deduce.specs.Walks.{Walked, read_conditions, both_of}
+use Rattle.row_deduce.proofs.Walks.{walked-on}
+use Rattle.row_deduce.proofs.Turns.{walk_start, walk_end, turn_stopped, turn-idle, turn_on}
+use Rattle.row_deduce.proofs.Stored.{condition-chunks, conditions-readable, conditions-walkable}
+use Rattle.row_deduce.proofs.conditions.Goals.{After-conditions-side}
 use Rattle.row_deduce.proofs.conditions.Goals as goal
-
-laid : (c : Start) → Laid c.args.slot.now
-laid c = laid-stored c.requires.holds.atoms c.args.slot.now c.requires.holds.stored
 
 -- the side that was read
 module _ (c : After-conditions-side) where
-  form : (condition_side c.args.slot.now).packed ≡ c.conditions-side.result.packed
-  form = ap (λ (x : Side). x.packed) (sym c.conditions-side.ensures)
+  abbrev r : Region
+  r = region c.args.held.now c.args.cut.now
 
-  whole : (r : ConditionsRead)
-      → r ≡ read_conditions (region c.args.held.now c.args.cut.now) []
-      (chunks_of c.args.slot.now c.conditions-side.result) c.args.work
-      → r ≡ read_conditions (region c.args.held.now c.args.cut.now) []
-      (chunks (packed (row_in c.args.slot.now)) (row_in c.args.slot.now).conditions) c.args.work
-  whole r e =
+  whole : {w : Walked ConditionState}
+      → w ≡ read_conditions (region c.args.held.now c.args.cut.now) [] (chunks_of c.args.slot.now c.conditions-side.result) c.args.meter.now
+      → w ≡ read_conditions (region c.args.held.now c.args.cut.now) []
+      (chunks (packed (row_in c.args.slot.now)) (row_in c.args.slot.now).conditions) c.args.meter.now
+  whole e =
       e
-      ∙ ap (λ (x : Side). read_conditions (region c.args.held.now c.args.cut.now) [] (chunks_of c.args.slot.now x)
-      c.args.work) c.conditions-side.ensures
-      ∙ ap (λ (ks : List (List ℕ)). read_conditions (region c.args.held.now c.args.cut.now) [] ks c.args.work)
+      ∙ ap (λ (x : Side). read_conditions r [] (chunks_of c.args.slot.now x) c.args.meter.now) c.conditions-side.ensures
+      ∙ ap (λ (ks : List (List ℕ)). read_conditions r [] ks c.args.meter.now)
       (condition-chunks c.requires.holds.atoms c.args.slot.now c.requires.holds.stored)
 
 pub conditions-side-requires : goal.conditions-side-requires
-conditions-side-requires c = (let l = (laid (goal.at.conditions-side-requires c).Start).long in omega arith)
+conditions-side-requires c =
+    let l = (laid-stored c.requires.holds.atoms c.args.slot.now c.requires.holds.stored).long in omega arith
 
-pub packed_conditions-requires : goal.packed_conditions-requires
-packed_conditions-requires c =
-    let a = c.args in
-    let both = subst (λ (x : Side). Readable a.slot.now x a.held.now a.cut.now × OneSigned a.slot.now x) (sym c.conditions-side.ensures)
-    (conditions-readable a.slot.now a.held.now a.cut.now c.requires (form (goal.at.packed_conditions-requires c).After-conditions-side ∙ c.if-side.true)) in record {
-      fact_1 = both.0;
-      fact_2 = both.1;
+pub loop-g-init : goal.loop-g-init
+loop-g-init c = walk_start (region c.args.held.now c.args.cut.now) c.args.slot.now c.conditions-side.result c.args.meter.now
+
+pub returns-in_err-tick : goal.returns-in_err-tick
+returns-in_err-tick c =
+    let l = c.loop-g in
+    walked-on _ (passed c.from_residual.ensures.1)
+    (whole (goal.at.returns-in_err-tick c).After-conditions-side
+    (turn_stopped _ _ _ _ l.state l.g l.meter l.invariant c.loop-g-test.true c.in_err-tick.ensures))
+
+pub chunk_state-requires : goal.chunk_state-requires
+chunk_state-requires c =
+    let a = c.args in record {
+      fact_1 = subst (λ (x : Side). Walkable a.slot.now x a.held.now a.cut.now) (sym c.conditions-side.ensures)
+          (conditions-walkable a.slot.now a.held.now a.cut.now c.requires);
+      fact_2 = subst (λ (x : Side). x.packed ≡ true → OneSigned a.slot.now x) (sym c.conditions-side.ensures)
+          (λ p. (conditions-readable a.slot.now a.held.now a.cut.now c.requires p).1);
+      fact_3 = c.loop-g-test.true;
     }
 
-pub scalar_conditions-requires : goal.scalar_conditions-requires
-scalar_conditions-requires c = record {
-  fact_1 = c.if-side.false;
-  fact_2 = subst (λ (x : Side). x.base + x.count ≤ length c.args.slot.now) (sym c.conditions-side.ensures)
-      ((laid (goal.at.scalar_conditions-requires c).Start).first.single (form (goal.at.scalar_conditions-requires c).After-conditions-side ∙ c.if-side.false));
-}
+pub returns-in-Idle : goal.returns-in-Idle
+returns-in-Idle c =
+    let l = c.loop-g in
+    whole (goal.at.returns-in-Idle c).After-conditions-side
+    (turn-idle _ _ _ _ l.state l.g l.meter l.invariant c.loop-g-test.true c.in_ok-tick.ensures _
+    (c.both-state.ensures ∙ ap (both_of l.state) c.chunk_state.ensures) c.in-Idle.is)
 
-pub returns-then-side : goal.returns-then-side
-returns-then-side c = whole (goal.at.returns-then-side c).After-conditions-side c.packed_conditions.result c.packed_conditions.ensures
+pub loop-g-preserved : goal.loop-g-preserved
+loop-g-preserved c =
+    let l = c.loop-g in
+    turn_on _ _ _ _ l.state l.g l.meter l.invariant c.loop-g-test.true c.in_ok-tick.ensures _
+    (c.both-state.ensures ∙ ap (both_of l.state) c.chunk_state.ensures) c.in_default.not-Idle
 
-pub returns-else-side : goal.returns-else-side
-returns-else-side c = whole (goal.at.returns-else-side c).After-conditions-side c.scalar_conditions.result c.scalar_conditions.ensures
+pub returns : goal.returns
+returns c =
+    let l = c.loop-g in
+    whole (goal.at.returns c).After-conditions-side
+    (walk_end _ _ _ _ l.state l.g l.meter l.invariant c.loop-g-test.false)

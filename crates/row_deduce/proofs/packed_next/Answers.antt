@@ -1,20 +1,19 @@
-use mathlib.Core.Path.{◌≡◌, refl, sym, ap, ◌∙◌}
+-- `row_deduce::packed_next`: groups are loaded up to one that has an output, which is given. Assumes nothing.
+use mathlib.Core.Path.{◌≡◌, refl}
 use Prim.Native.Nat.{ℕ, ◌+◌, ◌*◌, ◌<◌}
 use native.Mathlib.Omega.{arith}
 use lib.ListN.{get_or}
 use Rattle.words.specs.Literal.{code_bits, words_wide}
-use Rattle.words.specs.Region.{region}
+use Rattle.meter.proofs.Payments.{passed}
 use Rattle.model.specs.Records.{group_length}
-use Rattle.model.specs.declared.OutputCursor.{OutputCursor}
 use Rattle.model.specs.Slots.{index_of}
 use Rattle.row_deduce.specs.Chunks.{chunk_at}
-use Rattle.row_deduce.specs.Publication.{next_end}
-use Rattle.row_deduce.proofs.Publishing.{chunk-index, load_given, load-end, load-stopped, load-on}
-use Rattle.row_deduce.proofs.packed_next.Goals.{At-loop-k}
+use Rattle.row_deduce.proofs.Publishing.{chunk-index, code_lt, stops-on, given-stopped, given-ticked, load-end, load-stopped, load-on}
+use Rattle.row_deduce.proofs.packed_next.Goals.{At-loop-cursor}
 use Rattle.row_deduce.proofs.packed_next.Goals as goal
 
 -- the index of a group is that of a word of the region
-index-lt : (l : At-loop-k) (g : ℕ) → g < l.args.side.count
+index-lt : (l : At-loop-cursor) (g : ℕ) → g < l.args.side.count
     → index_of (chunk_at l.args.slot.now l.args.side g) < words_wide code_bits
 index-lt l g h =
     let p = l.requires.fact_1 in
@@ -24,56 +23,38 @@ index-lt l g h =
     (l.type_inv.slot _).fits (p.some g h) in
     omega (arith, p.readable.index g h, p.readable.few)
 
-pub loop-k-init : goal.loop-k-init
-loop-k-init c = record { within = c.requires.fact_2; small = c.requires.fact_3; same = refl }
+pub loop-cursor-init : goal.loop-cursor-init
+loop-cursor-init c = record { within = c.requires.fact_2; small = c.requires.fact_3; same = refl }
 
-pub returns-then-side-k : goal.returns-then-side-k
-returns-then-side-k c =
-    let a = c.args in
-    c.published.ensures
-    ∙ load-end (region a.held.now a.cut.now) a.slot.now a.side a.cursor a.work c.loop-k.k c.loop-k.meter
-    c.loop-k.invariant c.loop-k-test.true c.if-side-k.true
+pub returns-then-side-cursor : goal.returns-then-side-cursor
+returns-then-side-cursor c =
+    load-end _ _ _ _ _ _ _ c.loop-cursor.invariant c.loop-cursor-test.true c.if-side-cursor.true
 
-pub returns-in-Stopped : goal.returns-in-Stopped
-returns-in-Stopped c =
-    let a = c.args in
-    c.published-in-Stopped.ensures
-    ∙ load-stopped (region a.held.now a.cut.now) a.slot.now a.side a.cursor a.work c.loop-k.k c.loop-k.meter
-    c.loop-k.invariant c.loop-k-test.true
-    c.if-side-k.false
-    (sym c.in-Stopped.is ∙ c.tick.ensures)
+pub returns-in_err-tick : goal.returns-in_err-tick
+returns-in_err-tick c =
+    stops-on _ _ (passed c.from_residual.ensures.1)
+    (load-stopped _ _ _ _ _ _ _ c.loop-cursor.invariant c.loop-cursor-test.true c.if-side-cursor.false c.in_err-tick.ensures)
 
-pub loaded-k-requires : goal.loaded-k-requires
-loaded-k-requires c = record {
-  fact_1 = c.requires.fact_1;
-  fact_2 = c.if-side-k.false;
-}
+pub loop-cursor-preserved : goal.loop-cursor-preserved
+loop-cursor-preserved c =
+    load-on _ _ _ _ _ c.loop-cursor.cursor _ c.loop-cursor.invariant c.loop-cursor-test.true c.if-side-cursor.false
+    c.loaded.result c.in_ok-tick.ensures c.loaded.ensures
+    (index-lt (goal.at.loop-cursor-preserved c).At-loop-cursor c.loop-cursor.cursor.next c.if-side-cursor.false)
 
-pub loop-k-smaller : goal.loop-k-smaller
-loop-k-smaller c =
-    let h = c.if-side-k.false in
-    omega (arith, ap (λ (x : OutputCursor). x.next) c.loaded-k.ensures)
+pub returns-in_err-tick-2 : goal.returns-in_err-tick-2
+returns-in_err-tick-2 c =
+    stops-on _ _ (passed c.from_residual-in_err-tick-2.ensures.1)
+    (given-stopped _ _ _ _ _ _ _ c.loop-cursor.invariant c.take-p.result.code _ c.take-p.ensures c.in_err-tick-2.ensures)
 
-pub loop-k-preserved : goal.loop-k-preserved
-loop-k-preserved c =
-    let a = c.args in
-    load-on (region a.held.now a.cut.now) a.slot.now a.side a.cursor a.work c.loop-k.k c.loop-k.meter
-    c.loop-k.invariant c.loop-k-test.true
-    c.if-side-k.false
-    c.loaded-k.result (sym c.in-Ticked.is ∙ c.tick.ensures) c.loaded-k.ensures
-    (index-lt (goal.at.loop-k-preserved c).At-loop-k c.loop-k.k.next c.if-side-k.false)
-
-pub given-requires : goal.given-requires
-given-requires c = record {
-  fact_1 = c.loop-k.invariant.small;
-  fact_2 = let f = c.loop-k-test.false in omega arith;
-}
+pub overflow_cast-code : goal.overflow_cast-code
+overflow_cast-code c =
+    omega (
+      arith,
+      code_lt c.loop-cursor.cursor c.take-p.result.code c.take-p.result.present c.take-p.result.absent c.take-p.ensures
+          code_bits (omega arith) c.loop-cursor.invariant.small,
+    )
 
 pub returns : goal.returns
 returns c =
-    let a = c.args in
-    c.given.ensures
-    ∙ ap (next_end a.work) (load_given (region a.held.now a.cut.now) a.slot.now a.side a.cursor a.work c.loop-k.k
-    c.loop-k.meter c.loop-k.invariant
-    (omega arith) (omega arith)
-    (let f = c.loop-k-test.false in omega arith))
+    given-ticked _ _ _ _ _ c.loop-cursor.cursor _ c.loop-cursor.invariant c.take-p.result.code c.take-p.result.present c.take-p.result.absent
+    (omega arith) (omega arith) c.take-p.ensures c.in_ok-tick-2.ensures
