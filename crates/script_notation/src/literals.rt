@@ -7,7 +7,7 @@ use crate::memory::ATOMS;
 use crate::points;
 use std::num::wrapping_add_u64;
 use text::{Parsed, is_digit, is_text, put, put_comma, put_decimal, value, word};
-use words::{Found, MAX_ATOMS};
+use words::MAX_ATOMS;
 
 // Every code is below this.
 const ALL_CODES: u64 = 2 * MAX_ATOMS;
@@ -181,7 +181,7 @@ pub fn gather(set: &[u64], list: &mut [u64]) -> usize
     let mut count: usize = 0;
     let mut from: u64 = 0;
     while count < list.len() {
-        let Found::At(c) = words::next_from(CODES, set, from) else {
+        let Some(c) = words::next_from(CODES, set, from) else {
             return count;
         };
         list[count] = c;

@@ -7,7 +7,7 @@ use crate::memory::ATOMS;
 use crate::points::put_atom;
 use std::num::wrapping_add_u64;
 use text::{Parsed, ended, find, is_text, put, put_comma, put_text, value, word};
-use words::{Found, WORD_BITS};
+use words::WORD_BITS;
 
 // A set that was read: the place after it, and whether every atom lies below its bound; `ok` is false for a word that is no list.
 #[derive(Clone, Copy)]
@@ -114,7 +114,7 @@ fn mark_codes(atoms: u64, set: &[u64], held: &mut [u64], cut: &mut [u64]) -> boo
     let mut from: u64 = 0;
     let mut turns = CODES;
     while 0 < turns {
-        let Found::At(code) = words::next_from(CODES, set, from) else {
+        let Some(code) = words::next_from(CODES, set, from) else {
             return fit;
         };
         fit = mark_code(atoms, code, held, cut, fit);
