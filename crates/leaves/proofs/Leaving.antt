@@ -7,7 +7,7 @@ use mathlib.Core.Option as found
 use Prim.Native.Nat.{ℕ, ◌≤◌, ◌<◌}
 use lib.ListN.{length, get_or}
 use borrow.Author.Tests.{eq-eqb, ne_eqb, le-leb, lt-leb}
-use Rattle.words.specs.declared.Found.{Found}
+use Rattle.std.specs.Prelude.{Option as Said}
 use Rattle.words.specs.Bit.{max_word}
 use Rattle.words.specs.Literal.{code}
 use Rattle.words.specs.Region.{region, is_region, Decision, decision_on, decision_with, next_from, found_at}
@@ -292,6 +292,6 @@ module _ (atoms : ℕ) (held cut : List ℕ) (atom value : ℕ) (answer : List �
       ap (λ (w : ℕ). left 0 (h ∷ k ∷ (w ∷ 0 ∷ 0 ∷ 0 ∷ []) ∷ [])) f ∙ ap (λ (x : Decision). left 0 (decide_left x)) e
       ∙ passed (held ∷ cut ∷ answer ∷ []) _ ∙ passes no_region _ _ _ g
 
-pub found_as : (ws : List ℕ) (from : ℕ) {f x : Found} → found_at f ≡ next_from max_word ws from → f ≡ x
+pub found_as : (ws : List ℕ) (from : ℕ) {f x : Said ℕ} → found_at f ≡ next_from max_word ws from → f ≡ x
     → left 0 (next_from_words (found_at x) ∷ []) ≡ found_call ws from
 found_as ws from e g = ap (λ (o : found.Option ℕ). left 0 (next_from_words o ∷ [])) (ap found_at (sym g) ∙ e)

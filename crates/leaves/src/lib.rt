@@ -34,7 +34,7 @@ ghost use Rattle.leaves.specs.Calls.{found_call};
 use meter::{Account, Capture, Judged, Meter, Sharing, Stopped, Verdict};
 use model::{Deduction, Literal, MAX_CONDITIONS, MAX_OUTPUTS, SLOT_WORDS, Source};
 use wire::{cursor_of, flag_word, put_cursor};
-use words::{Found, MAX_ATOMS, MAX_WORD};
+use words::{MAX_ATOMS, MAX_WORD};
 
 // What was not given: a row, a region, a cursor of the row, a number that the function knows, the words of a slot.
 pub const NO_ROW: u64 = 1;
@@ -559,10 +559,10 @@ pub fn leaf_next_from(words: &[u64], from: u64, answer: &mut [u64; 4]) -> u64
     ensures { left result (answer.new ∷ []) ≡ found_call words.now from }
 {
     match words::next_from(MAX_WORD, words, from) {
-        Found::At(atom) => {
+        Some(atom) => {
             *answer = [1, atom, 0, 0];
         }
-        Found::Nothing => {
+        None => {
             *answer = [0, 0, 0, 0];
         }
     }

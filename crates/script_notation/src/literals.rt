@@ -7,7 +7,7 @@ use crate::memory::ATOMS;
 use crate::points::{Point, atom_named, name_at, name_of, put_atom, put_name};
 use std::num::wrapping_add_u64;
 use text::{put, put_comma, put_decimal, value, word};
-use words::{Found, MAX_ATOMS};
+use words::MAX_ATOMS;
 
 // Every code is below this.
 const ALL_CODES: u64 = 2 * MAX_ATOMS;
@@ -97,7 +97,7 @@ pub fn gather(set: &[u64], list: &mut [u64]) -> usize
 {
     let mut from: u64 = 0;
     for (i, place) in list.iter_mut().enumerate() {
-        let Found::At(c) = words::next_from(CODES, set, from) else {
+        let Some(c) = words::next_from(CODES, set, from) else {
             return i;
         };
         *place = c;

@@ -7,7 +7,7 @@ use crate::memory::ATOMS;
 use crate::points::{Point, put_atom};
 use std::num::wrapping_add_u64;
 use text::{ended, put, put_comma, put_text, value, word};
-use words::{Found, WORD_BITS};
+use words::WORD_BITS;
 
 // A set that was read: whether every atom lies below its bound, and the place after it.
 #[derive(Clone, Copy)]
@@ -107,7 +107,7 @@ fn mark_codes(atoms: u64, set: &[u64], held: &mut [u64], cut: &mut [u64]) -> boo
     let mut fit = true;
     let mut from: u64 = 0;
     for _ in 0..CODES {
-        let Found::At(code) = words::next_from(CODES, set, from) else {
+        let Some(code) = words::next_from(CODES, set, from) else {
             return fit;
         };
         fit = mark_code(atoms, code, held, cut) && fit;

@@ -52,7 +52,8 @@ module _ (bits : ℕ) (cs : List ℕ) (i : ℕ) (some : 1 ≤ i) where
   pub runs-kept : i < length cs → get_or cs i 0 / 2 ^ bits ≡ get_or cs (i - 1) 0 / 2 ^ bits
       → runs bits (drop (i - 1) cs) ≡ runs bits (drop (i + 1 - 1) cs)
   runs-kept l e =
-      ap (runs bits) (two l) ∙ runs_same bits (get_or cs (i - 1) 0) (get_or cs i 0) (drop (i + 1) cs) (sym e) ∙ sym (ap (runs bits) (rest_of l))
+      ap (runs bits) (two l) ∙ runs_same bits (get_or cs (i - 1) 0) (get_or cs i 0) (drop (i + 1) cs) (sym e)
+      ∙ sym (ap (runs bits) (rest_of l))
 
   pub runs-more : i < length cs → (get_or cs i 0 / 2 ^ bits ≡ get_or cs (i - 1) 0 / 2 ^ bits → ⊥)
       → runs bits (drop (i - 1) cs) ≡ suc (runs bits (drop (i + 1 - 1) cs))
@@ -128,7 +129,8 @@ module _ (bits : ℕ) where
     below-yes [] f l = refl
     below-yes (c ∷ []) f l = let h : c / 2 < n = l (omega arith) in rw (lt-ltb c (2 * n) (omega arith))
     below-yes (c ∷ d ∷ ds) f l =
-        let r : below (2 * n) (d ∷ ds) ≡ true = below-yes (d ∷ ds) (λ k h. f (suc k) (omega arith)) (λ h. omega (arith, l (omega arith), last-cons c d ds)) in
+        let r : below (2 * n) (d ∷ ds) ≡ true =
+        below-yes (d ∷ ds) (λ k h. f (suc k) (omega arith)) (λ h. omega (arith, l (omega arith), last-cons c d ds)) in
         let h : d < 2 * n = ltb-true d (2 * n) (and_both (ltb d (2 * n)) _ r).0 in
         let g : c < d = key-less c d (f 0 (omega arith)) in
         rw (lt-ltb c (2 * n) (omega arith)) r
@@ -137,7 +139,9 @@ module _ (bits : ℕ) where
     unfolding below all
     below-no [] h l = absurd (omega arith)
     below-no (c ∷ []) h l = rw (le-ltb c (2 * n) (omega arith))
-    below-no (c ∷ d ∷ ds) h l = ap (λ (b : Bool). ltb c (2 * n) && b) (below-no (d ∷ ds) (omega arith) (omega (arith, last-cons c d ds))) ∙ and-false (ltb c (2 * n))
+    below-no (c ∷ d ∷ ds) h l =
+        ap (λ (b : Bool). ltb c (2 * n) && b) (below-no (d ∷ ds) (omega arith) (omega (arith, last-cons c d ds)))
+        ∙ and-false (ltb c (2 * n))
 
     pub climbs-high : (cs : List ℕ) → 0 < length cs → n ≤ get_or cs (length cs - 1) 0 / 2 → false ≡ climbs n bits cs
     unfolding climbs

@@ -222,7 +222,8 @@ module _ (n : ℕ) (held cut : List ℕ) (c : ℕ) (b : Bool) (held' cut' : List
       go (some s) q = absurd (false≢true (sym f ∙ ap (λ (x : Decision). x.answer) (e ∙ ap (decision before) q)))
 
   -- true: the slices are the region after the decision
-  pub answer-some : decision_with b held' cut' ≡ decision_on n held cut c → b ≡ true → decide n (region held cut) c ≡ some (region held' cut')
+  pub answer-some : decision_with b held' cut' ≡ decision_on n held cut c → b ≡ true →
+      decide n (region held cut) c ≡ some (region held' cut')
   answer-some e f = go (decide n before c) refl
     where
       go : (d : Option Region) → decide n before c ≡ d → decide n before c ≡ some (region held' cut')

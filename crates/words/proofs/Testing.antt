@@ -1,18 +1,17 @@
--- `is_set`, `is_apart` and `is_region` by the code's tests. Assumes nothing.
+-- `is_set` and `is_apart` by the code's tests. Assumes nothing.
 use mathlib.Core.Path.{◌≡◌, sym, ap, ap₂, ◌∙◌}
-use mathlib.Core.Bool.{Bool, true, false, ◌&&◌, and-true, and_assoc, and-false}
+use mathlib.Core.Bool.{Bool, true, false, ◌&&◌, and-true, and_assoc}
 use mathlib.Core.List.{List, [], ◌∷◌}
-use Prim.Native.Nat.{ℕ, ◌+◌, ◌-◌, ◌*◌, ◌/◌, ◌%◌, ◌^◌, ◌≤◌, ◌<◌}
+use Prim.Native.Nat.{ℕ, ◌+◌, ◌-◌, ◌*◌, ◌/◌, ◌%◌, ◌^◌, ◌≤◌}
 use native.Mathlib.Omega.{arith}
 use lib.ListN.{length, get_or, get_or-eq_default}
 use lib.Bits.{bit_and, bit_or}
-use lib.Dec.{eqb, ltb, leb}
-use borrow.Author.Tests.{eq-eqb, ne_eqb, eqb-true, le-leb, lt-leb}
-use Rattle.lists.proofs.Bools.{and_both}
+use lib.Dec.{eqb, ltb}
+use borrow.Author.Tests.{eq-eqb, ne_eqb}
 use Rattle.lists.proofs.Tests.{eqb-or}
 use Rattle.std.specs.List.{fold, zip}
 use Rattle.words.specs.Literal.{word_of, bit_of}
-use Rattle.words.specs.Region.{atoms_ok, Region, words_for, is_set, apart, is_region, max_atoms}
+use Rattle.words.specs.Region.{words_for, is_set, apart}
 use Rattle.words.proofs.Places.{shl-bit}
 use Rattle.words.proofs.Regions.{Words, all_words}
 
@@ -21,10 +20,6 @@ module _ (n : ℕ) (ws : List ℕ) where
   pub set_long : (length ws ≡ (n + 63) / 64 → ⊥) → false ≡ is_set n ws
   unfolding is_set words_for
   set_long f = rw (ne_eqb (length ws) ((n + 63) / 64) f, is_set)
-
-  pub set-length : is_set n ws ≡ true → length ws ≡ words_for n
-  unfolding is_set
-  set-length e = eqb-true (length ws) (words_for n) (and_both (eqb (length ws) (words_for n)) _ e).0
 
   -- what is left: the word at n has no bit there or above
   set-top : length ws ≡ (n + 63) / 64 → Words ws → ltb (get_or ws (word_of n) 0) (2 ^ bit_of n) ≡ is_set n ws
@@ -56,26 +51,3 @@ apart-shared (h ∷ hs) [] shared = sym (and-true (eqb shared 0))
 apart-shared (h ∷ hs) (c ∷ cs) shared =
     apart-shared hs cs (bit_or shared (bit_and h c)) ∙ ap (λ (b : Bool). b && apart hs cs) (eqb-or shared (bit_and h c))
     ∙ and_assoc (eqb shared 0) (eqb (bit_and h c) 0) (apart hs cs)
-
--- ---- is_region
-module _ (n : ℕ) (r : Region) where
-  pub region-low : n < 1 → false ≡ is_region n r
-  unfolding is_region atoms_ok
-  region-low h = rw (lt-leb 1 n h, is_region, atoms_ok)
-
-  pub region-high : max_atoms < n → false ≡ is_region n r
-  unfolding is_region atoms_ok
-  region-high h = rw (lt-leb n max_atoms h, and-false (leb 1 n), is_region, atoms_ok)
-
-  region-in : 1 ≤ n → n ≤ max_atoms → is_region n r ≡ (is_set n r.held && (is_set n r.cut && apart r.held r.cut))
-  unfolding is_region atoms_ok
-  region-in a b = rw (le-leb 1 n a, le-leb n max_atoms b, is_region, atoms_ok)
-
-  pub region-held : 1 ≤ n → n ≤ max_atoms → is_set n r.held ≡ false → false ≡ is_region n r
-  region-held a b e = sym (region-in a b ∙ rw e)
-
-  pub region-cut : 1 ≤ n → n ≤ max_atoms → is_set n r.held ≡ true → is_set n r.cut ≡ false → false ≡ is_region n r
-  region-cut a b e f = sym (region-in a b ∙ rw (e, f))
-
-  pub region-both : 1 ≤ n → n ≤ max_atoms → is_set n r.held ≡ true → is_set n r.cut ≡ true → apart r.held r.cut ≡ is_region n r
-  region-both a b e f = sym (region-in a b ∙ rw (e, f))
