@@ -1,13 +1,12 @@
 -- `retain` by the ways that it ends. Assumes nothing.
 use mathlib.Core.Path.{◌≡◌, refl, sym, ap, ◌∙◌}
-use mathlib.Core.Bool.{Bool, true, false}
+use mathlib.Core.Bool.{Bool, false}
 use mathlib.Core.List.{List}
 use Rattle.std.specs.Prelude.{Option, Some, None, Result, Ok, Err}
 use Prim.Native.Nat.{ℕ, ◌+◌, ◌≤◌}
 use native.Mathlib.Omega.{arith}
 use Rattle.meter.specs.declared.Purse.{Purse}
 use Rattle.meter.specs.declared.Unpaid.{Unpaid}
-use Rattle.meter.specs.Results.{unpaid_end}
 use Rattle.meter.proofs.Payments.{unpaid-more}
 use Rattle.meter.specs.Read.{Read}
 use Rattle.meter.specs.Read as read
@@ -15,7 +14,7 @@ use Rattle.meter.specs.Meter.{and_then, pay}
 use Rattle.meter.proofs.Laws.{pay-add, pay-none}
 use Rattle.model.specs.declared.Header.{Header}
 use Rattle.model.specs.declared.Source.{Source}
-use Rattle.model.specs.Records.{Row, Entry, Ledger, is_row, max_outputs}
+use Rattle.model.specs.Records.{Row, Entry, Ledger}
 use Rattle.model.specs.Slots.{entries_in}
 use Rattle.model.specs.Retention.{Pass, passed, Placement, subsumed, protected, placing, evicting, Subsumes, first_pass}
 use Rattle.model.specs.Retention.{placement_after, placement, place_reads, retain_reads, carry_out, retained, retain}

@@ -2,14 +2,14 @@
 use mathlib.Core.Path.{◌≡◌, sym, ap, ap₂, ◌∙◌, subst}
 use mathlib.Core.Bool.{Bool}
 use mathlib.Core.List.{List, [], ◌∷◌}
-use Prim.Native.Nat.{ℕ, ◌+◌, ◌*◌, ◌≤◌, ◌<◌}
+use Prim.Native.Nat.{ℕ, ◌+◌, ◌≤◌, ◌<◌}
 use native.Mathlib.Omega.{arith}
 use lib.ListN.{length, set, length-append, length-set}
 use Rattle.words.specs.Literal.{code_bits}
 use Rattle.words.specs.Region.{max_atoms}
 use Rattle.words.proofs.Widths.{most-coded}
 use Rattle.model.specs.declared.Source.{Source}
-use Rattle.model.specs.Records.{Entry, is_row, slot_words}
+use Rattle.model.specs.Records.{Entry, is_row}
 use Rattle.model.specs.Slots.{slots_of, row_in, entries_in}
 use Rattle.slots.specs.Layout.{tier_of, Held}
 use Rattle.slots.proofs.Holding.{AllRows, tier-laid, entries-laid, held-laid, held_rows, held-few}

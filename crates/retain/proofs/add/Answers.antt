@@ -30,5 +30,5 @@ pub returns : goal.returns
 returns c =
     c.settle.ensures
     ∙ ap₂ (λ (x : List Entry) (n : ℕ). lent_of (settle c.args.header x n))
-    (new-entries _ _ _ c.requires.fact_1 _ _ c.requires.fact_2 (f (goal.at.returns c).After-place-rows) _ _ _ _ _ c.place-rows.ensures.0 c.place-rows.ensures.1
-    c.saturating_add-born.ensures) c.evictions-evicted.ensures
+    (new-entries _ _ _ c.requires.fact_1 _ _ c.requires.fact_2 (f (goal.at.returns c).After-place-rows) _ _ _ _ _
+    c.place-rows.ensures.0 c.place-rows.ensures.1 c.saturating_add-born.ensures) c.evictions-evicted.ensures

@@ -2,7 +2,7 @@
 use mathlib.Core.Bool.{Bool}
 use Prim.Native.Nat.{ℕ}
 use Rattle.words.specs.Region.{has}
-use Rattle.retain.proofs.Ways.{after-inside, first-inside, victim-inside, first-before, first-held, place_after, place-first}
+use Rattle.retain.proofs.Ways.{first-before, first-held, place_after, place-first}
 use Rattle.retain.proofs.Ways.{place-victim}
 use Rattle.retain.proofs.place.Goals.{Start}
 use Rattle.retain.proofs.place.Goals as goal
@@ -23,7 +23,8 @@ returns-in-After c =
 
 pub returns-in-First : goal.returns-in-First
 returns-in-First c =
-    place-first _ _ _ _ c.requires.fact_1 (f (goal.at.returns-in-First c).Start) _ _ _ _ c.in-First.is _ c.write_at-in-First.ensures _ _ c.close_up.ensures
+    place-first _ _ _ _ c.requires.fact_1 (f (goal.at.returns-in-First c).Start) _ _ _ _ c.in-First.is _
+    c.write_at-in-First.ensures _ _ c.close_up.ensures
 
 pub returns-in-Victim : goal.returns-in-Victim
 returns-in-Victim c =

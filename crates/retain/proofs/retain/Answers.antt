@@ -57,7 +57,8 @@ admit-requires c =
     record {
       fact_1 = c.requires.fact_1;
       fact_2 = t.1;
-      fact_3 = both-row c.args.header.now c.args.most (row_in c.args.p.now) _ c.requires.fact_4 c.requires.fact_3 c.requires.fact_1.entries t.0;
+      fact_3 = both-row c.args.header.now c.args.most (row_in c.args.p.now) _ c.requires.fact_4 c.requires.fact_3
+          c.requires.fact_1.entries t.0;
     }
 
 pub returns-in_err-found : goal.returns-in_err-found

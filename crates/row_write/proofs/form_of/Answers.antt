@@ -55,9 +55,11 @@ overflow_mul-total c = omega (arith, (first-is c).1, (second_is c).1)
 pub returns-then-total-m : goal.returns-then-total-m
 returns-then-total-m c =
     let at_after_count_words = (goal.at.returns-then-total-m c).After-count_words in
-    chosen-packed (R at_after_count_words) _ _ _ (first-is at_after_count_words).0 (second_is at_after_count_words).0 (both-parts c.requires) c.if-total-m.true
+    chosen-packed (R at_after_count_words) _ _ _ (first-is at_after_count_words).0 (second_is at_after_count_words).0
+    (both-parts c.requires) c.if-total-m.true
 
 pub returns : goal.returns
 returns c =
     let at_after_count_words = (goal.at.returns c).After-count_words in
-    chosen-scalar (R at_after_count_words) _ _ _ (first-is at_after_count_words).0 (second_is at_after_count_words).0 (both-parts c.requires) c.if-total-m.false
+    chosen-scalar (R at_after_count_words) _ _ _ (first-is at_after_count_words).0 (second_is at_after_count_words).0
+    (both-parts c.requires) c.if-total-m.false

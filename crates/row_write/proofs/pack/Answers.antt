@@ -5,7 +5,8 @@ use Prim.Native.Nat.{ℕ, ◌+◌, ◌-◌, ◌*◌, ◌/◌, ◌≤◌}
 use lib.ListN.{length, get_or}
 use Rattle.model.specs.Records.{group_length}
 use Rattle.row_write.specs.Packs.{begun, entered}
-use Rattle.row_write.proofs.Packing.{Packing, First, Taken, first-all, taken-last, begun-le, pack-start, pack-end, pack-fits, pack-room, pack-turn}
+use Rattle.row_write.proofs.Packing.{Packing, First, Taken, first-all, taken-last, begun-le}
+use Rattle.row_write.proofs.Packing.{pack-start, pack-end, pack-fits, pack-room, pack-turn}
 use Rattle.row_write.proofs.pack.Goals.{After-begins}
 use Rattle.row_write.proofs.pack.Goals as goal
 
@@ -52,7 +53,8 @@ loop-code-preserved c =
     let t = taken b in
     let cs = c.args.codes.now in
     let at : ℕ = c.loop-code.at - group_length * c.begins.result in
-    let words = pack-turn cs c.loop-code.out c.loop-code.at (length (rest b)) c.begins.result c.loop-code.invariant.1 t.some (begun-is b) in (
+    let words =
+    pack-turn cs c.loop-code.out c.loop-code.at (length (rest b)) c.begins.result c.loop-code.invariant.1 t.some (begun-is b) in (
       t.first,
       subst (Packing cs at (length c.next.new.self.iter.rest.now)) (ap (entered c.loop-code.out at) t.code_is ∙ sym c.enter.ensures)
           (subst (λ (i : ℕ). Packing cs at i (entered c.loop-code.out at (get_or cs (length (rest b) - 1) 0))) t.count words),

@@ -71,9 +71,11 @@ slice_bounds-pack-end-4 c =
 
 pub pack-requires-2 : goal.pack-requires-2
 pack-requires-2 c =
-    let both = ready-second c.requires.fact_2 (at (goal.at.pack-requires-2 c).Start) (zeros (goal.at.pack-requires-2 c).After-fill_zero) c.pack.ensures in
+    let filled = zeros (goal.at.pack-requires-2 c).After-fill_zero in
+    let both = ready-second c.requires.fact_2 (at (goal.at.pack-requires-2 c).Start) filled c.pack.ensures in
     record { fact_1 = both.0; fact_2 = both.1.0; fact_3 = both.1.1 }
 
 pub returns : goal.returns
 returns c =
-    packed-words c.requires.fact_2 (at (goal.at.returns c).Start) (zeros (goal.at.returns c).After-fill_zero) c.pack.ensures c.pack-2.ensures
+    packed-words c.requires.fact_2 (at (goal.at.returns c).Start) (zeros (goal.at.returns c).After-fill_zero) c.pack.ensures
+    c.pack-2.ensures

@@ -72,7 +72,8 @@ returns c =
     let a = c.args in
     let end = c.seed_rows-end in
     seed-done a.tier a.store a.tier_slots.now a.tier_postings.now a.store_slots.now a.store_postings.now a.work
-    a.tier.limits.atoms a.store.rows c.mark_for-upto.result c.mark_for-upto.ensures end.result end.new.transfer end.new.slots end.new.postings
+    a.tier.limits.atoms a.store.rows c.mark_for-upto.result c.mark_for-upto.ensures end.result end.new.transfer end.new.slots
+    end.new.postings
     (subst (λ (p : TransferState). Carried p.header.limits.atoms a.store.rows (progress_of end.result) end.new.transfer end.new.slots
     end.new.postings (seed_rows p.header.limits c.mark_for-upto.result (entries_in a.store.rows a.store_slots.now)
     (start_of p a.tier_slots.now a.tier_postings.now))) c.start-transfer.ensures end.ensures)
