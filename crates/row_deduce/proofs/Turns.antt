@@ -1,5 +1,5 @@
 -- A turn of the walk over the conditions, or over the outputs, by what a chunk says. Assumes nothing.
-use mathlib.Core.Path.{◌≡◌, refl, sym, ap, ◌∙◌}
+use mathlib.Core.Path.{◌≡◌, refl, sym, ap, ap₂, ◌∙◌}
 use mathlib.Core.Bool.{true, false}
 use mathlib.Core.List.{List, [], ◌∷◌, ◌++◌}
 use Prim.Native.Nat.{ℕ, suc, ◌+◌, ◌-◌, ◌*◌, ◌≤◌, ◌<◌}
@@ -16,10 +16,10 @@ use Rattle.model.specs.Slots.{codes_of}
 use Rattle.model.specs.Deduction.{failing, contradictions, idle}
 use Rattle.slots.specs.declared.Side.{Side}
 use Rattle.row_deduce.specs.declared.ConditionState.{ConditionState}
-use Rattle.row_deduce.specs.declared.ConditionState.TheVariants.{Idle, Holds}
+use Rattle.row_deduce.specs.declared.ConditionState.TheVariants.{Idle, Holds, Undecided}
 use Rattle.row_deduce.specs.Chunks.{chunk_at, chunks_from, chunks_of}
 use Rattle.row_deduce.specs.Walks.{done, halted, state_of, both_of, first_of, read_conditions, read_outputs}
-use Rattle.row_deduce.proofs.Walks.{idle-none, state-append, calm-state, looking-stopped, looking-idle, looking-on, looking-end}
+use Rattle.row_deduce.proofs.Walks.{idle-none, state-append, calm-state, state-calm, looking-stopped, looking-idle, looking-on, looking-end}
 use Rattle.row_deduce.proofs.Walks.{clashing-stopped, clashing-hit, clashing-on, clashing-end}
 
 -- ---- the chunks from g on
@@ -80,27 +80,57 @@ module _ (r : Region) (ws : List ℕ) (s : Side) (start : Meter) (state : Condit
     pub turn_stopped : {n : Meter} → Stopped n ≡ tick_of m → halted n ≡ read_conditions r [] (chunks_of ws s) start
     turn_stopped e = looking-stopped r w.fails (chunk_at ws s g) left m e ∙ next
 
-    -- how the conditions stand after the chunk
-    module _ {n : Meter} (e : Ticked n ≡ tick_of m) (now : ConditionState)
-        (said : now ≡ both_of state (state_of r (failing r (chunk_at ws s g)))) where
-      after : now ≡ state_of r (w.fails ++ failing r (chunk_at ws s g))
-      after =
-          said ∙ ap (λ (l : ConditionState). both_of l (state_of r (failing r (chunk_at ws s g)))) w.is
-          ∙ sym (state-append r w.fails (failing r (chunk_at ws s g)))
+    -- how the conditions stand after the chunk, of which it is said how it stands
+    module _ {n : Meter} (e : Ticked n ≡ tick_of m) (said : ConditionState)
+        (by : said ≡ state_of r (failing r (chunk_at ws s g))) where
+      abbrev fails : List ℕ
+      fails = w.fails ++ failing r (chunk_at ws s g)
 
-      pub turn-idle : now ≡ Idle → done now n ≡ read_conditions r [] (chunks_of ws s) start
-      turn-idle f =
-          ap (λ (l : ConditionState). done l n) f
-          ∙ looking-idle r w.fails (chunk_at ws s g) left m e (sym after ∙ f) ∙ next
+      after : both_of state said ≡ state_of r (w.fails ++ failing r (chunk_at ws s g))
+      after = ap₂ both_of w.is by ∙ sym (state-append r w.fails (failing r (chunk_at ws s g)))
 
-      pub turn_on : (now ≡ Idle → ⊥) → Walking r ws s start now (g + 1) n
-      turn_on f =
-          let calm = calm-state r (w.fails ++ failing r (chunk_at ws s g)) (λ q. f (after ∙ q)) in record {
-            fails = w.fails ++ failing r (chunk_at ws s g);
-            is = after;
+      turn-idle : both_of state said ≡ Idle → done Idle n ≡ read_conditions r [] (chunks_of ws s) start
+      turn-idle f = looking-idle r w.fails (chunk_at ws s g) left m e (sym after ∙ f) ∙ next
+
+      turn_on : (now : ConditionState) → both_of state said ≡ now → (now ≡ Idle → ⊥) → Walking r ws s start now (g + 1) n
+      turn_on now f i =
+          let calm = calm-state r fails (λ q. i (sym f ∙ after ∙ q)) in record {
+            fails = fails;
+            is = sym f ∙ after;
             calm = calm;
             same = looking-on r w.fails (chunk_at ws s g) left m e calm ∙ next;
           }
+
+    module _ {n : Meter} (e : Ticked n ≡ tick_of m) where
+      pub chunk-idle : Idle ≡ state_of r (failing r (chunk_at ws s g)) → done Idle n ≡ read_conditions r [] (chunks_of ws s) start
+      chunk-idle f = turn-idle e Idle f (both-idle state)
+        where
+          both-idle : (t : ConditionState) → both_of t Idle ≡ Idle
+          both-idle Idle = refl
+          both-idle Holds = refl
+          both-idle (Undecided c) = refl
+
+      -- a second one that is undecided
+      pub chunk-second : (c : ℕ) → Undecided c ≡ state_of r (failing r (chunk_at ws s g)) → (state ≡ Holds → ⊥)
+          → done Idle n ≡ read_conditions r [] (chunks_of ws s) start
+      chunk-second c f i = turn-idle e (Undecided c) f (second state i)
+        where
+          second : (t : ConditionState) → (t ≡ Holds → ⊥) → both_of t (Undecided c) ≡ Idle
+          second Idle j = refl
+          second Holds j = absurd (j refl)
+          second (Undecided d) j = refl
+
+      pub chunk-holds : Holds ≡ state_of r (failing r (chunk_at ws s g)) → Walking r ws s start state (g + 1) n
+      chunk-holds f = turn_on e Holds f state (as-it-was state) (λ q. state-calm r w.fails w.calm (sym w.is ∙ q))
+        where
+          as-it-was : (t : ConditionState) → both_of t Holds ≡ t
+          as-it-was Idle = refl
+          as-it-was Holds = refl
+          as-it-was (Undecided c) = refl
+
+      pub chunk-opens : (c : ℕ) → Undecided c ≡ state_of r (failing r (chunk_at ws s g)) → state ≡ Holds
+          → Walking r ws s start (Undecided c) (g + 1) n
+      chunk-opens c f i = turn_on e (Undecided c) f (Undecided c) (ap (λ (t : ConditionState). both_of t (Undecided c)) i) (λ q. cc)
 
 -- ---- the walk over the outputs of a side, before chunk g
 abbrev pub Passing : Region → List ℕ → Side → Meter → ℕ → Meter → Type 0

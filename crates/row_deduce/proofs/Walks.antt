@@ -172,6 +172,9 @@ module _ (r : Region) where
       go true e = absurd (f (state-idle fs e))
       go false e = refl
 
+  pub state-calm : (fs : List ℕ) → idle r fs ≡ false → state_of r fs ≡ Idle → ⊥
+  state-calm fs f e = false≢true (sym f ∙ idle-state fs e)
+
   pub looking-end : (fs : List ℕ) (m : Meter) → done (state_of r fs) m ≡ read_conditions r fs [] m
   unfolding read_conditions
   looking-end fs m = refl

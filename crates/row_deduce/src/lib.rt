@@ -14,7 +14,7 @@ ghost use Rattle.model.specs.Operations.{unloaded, bits_among, cursor_ok};
 ghost use Rattle.slots.specs.Layout.{Holds, output_side};
 ghost use Rattle.row_deduce.specs.Chunks.{chunk_at, chunks_from, group_at, Inside, Walkable, OneSigned, Publishable, SmallCodes, Matched};
 ghost use Rattle.row_deduce.specs.Publication.{published_as, loaded_from, single_next, of_words, Pointed};
-ghost use Rattle.row_deduce.specs.Walks.{literal, state_of, both_of, first_of, read_conditions, read_outputs, walked, once};
+ghost use Rattle.row_deduce.specs.Walks.{literal, state_of, first_of, read_conditions, read_outputs, walked, once};
 
 use meter::{Meter, Stopped};
 use model::{Deduction, GROUP_WORDS, Literal, OutputCursor};
@@ -26,21 +26,6 @@ enum ConditionState {
     Idle,
     Holds,
     Undecided(u64),
-}
-
-impl ConditionState {
-    // How they stand with more of them: a second one that is undecided leaves nothing to follow.
-    fn both(self, more: ConditionState) -> ConditionState
-        ensures { result ≡ both_of self more }
-    {
-        match more {
-            ConditionState::Holds => self,
-            _ => match self {
-                ConditionState::Holds => more,
-                _ => ConditionState::Idle,
-            },
-        }
-    }
 }
 
 // The words of a group: its place among the words of a region, and its bits of each sign.
@@ -167,9 +152,16 @@ fn conditions(
     let mut state = ConditionState::Holds;
     for g in 0..side.count {
         meter.tick()?;
-        state = state.both(chunk_state(slot, side, g, held, cut));
-        if let ConditionState::Idle = state {
-            return Ok(state);
+        match chunk_state(slot, side, g, held, cut) {
+            ConditionState::Holds => {}
+            ConditionState::Idle => return Ok(ConditionState::Idle),
+            ConditionState::Undecided(code) => {
+                // a second one that is undecided leaves nothing to follow
+                let ConditionState::Holds = state else {
+                    return Ok(ConditionState::Idle);
+                };
+                state = ConditionState::Undecided(code);
+            }
         }
     }
     Ok(state)

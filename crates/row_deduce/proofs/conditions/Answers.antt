@@ -13,11 +13,11 @@ use Rattle.slots.specs.declared.Side.{Side}
 use Rattle.slots.proofs.Storing.{laid-stored}
 use Rattle.row_deduce.specs.Chunks.{chunks_of, Walkable, OneSigned}
 use Rattle.row_deduce.specs.declared.ConditionState.{ConditionState}
-use Rattle.row_deduce.specs.Walks.{Walked, read_conditions, both_of}
+use Rattle.row_deduce.specs.Walks.{Walked, read_conditions}
 use Rattle.row_deduce.proofs.Walks.{walked-on}
-use Rattle.row_deduce.proofs.Turns.{walk_start, walk_end, turn_stopped, turn-idle, turn_on}
+use Rattle.row_deduce.proofs.Turns.{walk_start, walk_end, turn_stopped, chunk-idle, chunk-second, chunk-holds, chunk-opens}
 use Rattle.row_deduce.proofs.Stored.{condition-chunks, conditions-readable, conditions-walkable}
-use Rattle.row_deduce.proofs.conditions.Goals.{After-conditions-side}
+use Rattle.row_deduce.proofs.conditions.Goals.{After-conditions-side, in-Holds, in-Undecided+in-Holds-state}
 use Rattle.row_deduce.proofs.conditions.Goals as goal
 
 -- the side that was read
@@ -63,14 +63,25 @@ pub returns-in-Idle : goal.returns-in-Idle
 returns-in-Idle c =
     let l = c.loop-g in
     whole (goal.at.returns-in-Idle c).After-conditions-side
-    (turn-idle _ _ _ _ l.state l.g l.meter l.invariant c.loop-g-test.true c.in_ok-tick.ensures _
-    (c.both-state.ensures ∙ ap (both_of l.state) c.chunk_state.ensures) c.in-Idle.is)
+    (chunk-idle _ _ _ _ l.state l.g l.meter l.invariant c.loop-g-test.true c.in_ok-tick.ensures c.in-Idle.ensures)
+
+pub returns-in_default : goal.returns-in_default
+returns-in_default c =
+    let l = c.loop-g in
+    whole (goal.at.returns-in_default c).After-conditions-side
+    (chunk-second _ _ _ _ l.state l.g l.meter l.invariant c.loop-g-test.true c.in_ok-tick.ensures c.in-Undecided.code
+    c.in-Undecided.ensures c.in_default.not-Holds)
 
 pub loop-g-preserved : goal.loop-g-preserved
 loop-g-preserved c =
     let l = c.loop-g in
-    turn_on _ _ _ _ l.state l.g l.meter l.invariant c.loop-g-test.true c.in_ok-tick.ensures _
-    (c.both-state.ensures ∙ ap (both_of l.state) c.chunk_state.ensures) c.in_default.not-Idle
+    elim c.match-chunk_state.branch [
+      | in-Holds w ↦ rw w.state-is
+          (chunk-holds _ _ _ _ l.state l.g l.meter l.invariant c.loop-g-test.true c.in_ok-tick.ensures w.in-Holds.ensures)
+      | in-Undecided+in-Holds-state w ↦ rw w.state-is
+          (chunk-opens _ _ _ _ l.state l.g l.meter l.invariant c.loop-g-test.true c.in_ok-tick.ensures w.in-Undecided.code
+          w.in-Undecided.ensures w.in-Holds-state.is)
+    ]
 
 pub returns : goal.returns
 returns c =
