@@ -9,5 +9,6 @@ returns c =
     let x = from-one _ c.from-first.ensures in
     let y = from-one _ c.from-second.ensures in (
       omega (arith, x, y, one-le),
-      codes-sure c.args.slot.now c.requires.fact_1 c.requires.fact_2 _ _ c.args.atom _ _ (omega arith) (omega (arith, c.requires.fact_3)) x y,
+      codes-sure c.args.slot.now c.requires.fact_1 c.requires.fact_2 _ _ c.args.atom _ _ (omega arith) (omega (arith, c.requires.fact_3))
+          x y,
     )
