@@ -130,12 +130,6 @@ fn groups_have(words: &[u64], atom: u64) -> bool
     bits != 0
 }
 
-fn one_if(yes: bool) -> u64
-    ensures { (result ≡ one_if yes) × (result ≤ 1) }
-{
-    if yes { 1 } else { 0 }
-}
-
 // How often the row in a slot is posted under an atom: at most once for its conditions and once for its outputs.
 fn times_posted(slot: &[u64], atom: u64) -> u64
     requires fact_1 { LaidOut slot.now }
@@ -145,12 +139,13 @@ fn times_posted(slot: &[u64], atom: u64) -> u64
     if slot[TOTAL_GROUPS_AT] == 0 {
         let from = BODY_AT + slot[CONDITIONS_AT] as usize;
         let end = from + slot[OUTPUTS_AT] as usize;
-        return one_if(codes_have(&slot[BODY_AT..from], atom))
-            + one_if(codes_have(&slot[from..end], atom));
+        return u64::from(codes_have(&slot[BODY_AT..from], atom))
+            + u64::from(codes_have(&slot[from..end], atom));
     }
     let from = BODY_AT + GROUP_WORDS * (slot[CONDITION_GROUPS_AT] as usize);
     let end = BODY_AT + GROUP_WORDS * (slot[TOTAL_GROUPS_AT] as usize);
-    one_if(groups_have(&slot[BODY_AT..from], atom)) + one_if(groups_have(&slot[from..end], atom))
+    u64::from(groups_have(&slot[BODY_AT..from], atom))
+        + u64::from(groups_have(&slot[from..end], atom))
 }
 
 // Whether the row in a slot is posted under an atom at all: the codes, or the groups, of both its sides stand one behind the other.
@@ -235,8 +230,8 @@ fn code_steps(slot: &[u64], place: usize, atom: u64) -> usize
     requires fact_3 { place < packed_from }
     ensures { (result ≤ 257) × (1 ≤ atom → 1 ≤ result → 1 ≤ times atom (posted_atoms (row_in slot.now))) }
 {
-    let first = one_if(slot[BODY_AT + place % MOST_CODES] / 2 == atom) as usize;
-    let second = one_if(slot[BODY_AT + place / SIDE] / 2 == atom) as usize;
+    let first = usize::from(slot[BODY_AT + place % MOST_CODES] / 2 == atom);
+    let second = usize::from(slot[BODY_AT + place / SIDE] / 2 == atom);
     first + SIDE * second
 }
 
@@ -263,10 +258,8 @@ fn group_steps(slot: &[u64], place: usize, atom: u64) -> usize
     ensures { result ≤ 257 }
 {
     let word = atom / 64;
-    let first = one_if(slot[BODY_AT + GROUP_WORDS * (place % MOST_GROUPS)] < word) as usize;
-    let second = one_if(
-        slot[BODY_AT + GROUP_WORDS * (place / SIDE - PACKED / SIDE)] < word,
-    ) as usize;
+    let first = usize::from(slot[BODY_AT + GROUP_WORDS * (place % MOST_GROUPS)] < word);
+    let second = usize::from(slot[BODY_AT + GROUP_WORDS * (place / SIDE - PACKED / SIDE)] < word);
     first + SIDE * second
 }
 

@@ -16,14 +16,17 @@ lies : (c : After-slot_at-slot) → LaidOut c.slot_at-slot.result.now
 lies c =
     let a = c.args in
     let r = c.requires in
-    lent-row a.rows a.slots.now a.places.now r.fact_1 r.fact_3 a.posting a.place r.fact_4 (omega (arith, r.fact_5)) _ c.slot_at-slot.ensures.slot
+    lent-row a.rows a.slots.now a.places.now r.fact_1 r.fact_3 a.posting a.place r.fact_4 (omega (arith, r.fact_5)) _
+    c.slot_at-slot.ensures.slot
 
 once : (c : After-slot_at-slot) → let a = c.args in
-    1 ≤ times (a.posting / max_rows) (posted_atoms (row_in c.slot_at-slot.result.now)) → 1 ≤ times a.posting (postings_of (rows_in a.rows a.slots.now))
+    1 ≤ times (a.posting / max_rows) (posted_atoms (row_in c.slot_at-slot.result.now))
+    → 1 ≤ times a.posting (postings_of (rows_in a.rows a.slots.now))
 once c =
     let a = c.args in
     let r = c.requires in
-    posted-once a.rows a.slots.now a.places.now r.fact_1 r.fact_3 a.posting a.place r.fact_4 (omega (arith, r.fact_5)) _ c.slot_at-slot.ensures.slot
+    posted-once a.rows a.slots.now a.places.now r.fact_1 r.fact_3 a.posting a.place r.fact_4 (omega (arith, r.fact_5)) _
+    c.slot_at-slot.ensures.slot
 
 pub code_steps-steps-requires-clause-fact_1 : goal.code_steps-steps-requires-clause-fact_1
 code_steps-steps-requires-clause-fact_1 c = lies (goal.at.code_steps-steps-requires-clause-fact_1 c).After-slot_at-slot
@@ -38,4 +41,5 @@ code_steps-more-requires-clause-fact_1 c = lies (goal.at.code_steps-more-require
 
 pub returns-clause-bound : goal.returns-clause-bound
 returns-clause-bound c =
-    λ t m. once (goal.at.returns-clause-bound c).After-slot_at-slot (c.code_steps-more.ensures.1 (omega arith) (ltb-true 0 c.code_steps-more.result t))
+    λ t m. once (goal.at.returns-clause-bound c).After-slot_at-slot
+    (c.code_steps-more.ensures.1 (omega arith) (ltb-true 0 c.code_steps-more.result t))

@@ -18,7 +18,8 @@ lies c =
     lent-row a.rows a.slots.now a.places.now r.fact_1 r.fact_3 a.posting a.place r.fact_4 r.fact_5.1 _ c.slot_at-slot.ensures.slot
 
 once : (c : After-slot_at-slot) → let a = c.args in
-    1 ≤ times (a.posting / max_rows) (posted_atoms (row_in c.slot_at-slot.result.now)) → 1 ≤ times a.posting (postings_of (rows_in a.rows a.slots.now))
+    1 ≤ times (a.posting / max_rows) (posted_atoms (row_in c.slot_at-slot.result.now))
+    → 1 ≤ times a.posting (postings_of (rows_in a.rows a.slots.now))
 once c =
     let a = c.args in
     let r = c.requires in
