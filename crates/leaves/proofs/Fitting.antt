@@ -101,10 +101,6 @@ pub written : (r : Row) {p slot : List ℕ} → p ≡ proposal r → slot ≡ sl
     ≡ slot_of (new_entry r 0 0 Founded)
 written r e w = w ∙ ap (λ (x : Row). slot_of (new_entry x 0 0 Founded)) (ap row_in e ∙ row-proposal r)
 
--- the outputs of words that are laid out
-pub outputs-sound : (ws : List ℕ) {s : Side} → Laid ws → s ≡ output_side ws → Sound ws s
-outputs-sound ws l e = subst (Sound ws) (sym e) l.second
-
 pub outputs-list : (ws : List ℕ) {s : Side} → Laid ws → s ≡ output_side ws → list_of ws s ≡ (row_in ws).outputs
 outputs-list ws l e = ap (list_of ws) e ∙ l.outputs
 

@@ -54,19 +54,6 @@ account-capture ws e = sym (ap (account_by ws) (eq-eqb (get_or ws 1 0) 0 e))
 pub account-share : (ws : List ℕ) → (get_or ws 1 0 ≡ 0 → ⊥) → Share (record { 0 = get_or ws 0 0 }) ≡ account_in ws
 account-share ws n = sym (ap (account_by ws) (ne_eqb (get_or ws 1 0) 0 n))
 
-abbrev meter_with : ℕ → ℕ → Meter
-meter_with c l = record { charged = c; limit = l }
-
-pub same-meter : (w a : Meter) → a.limit ≡ w.limit → meter_with a.charged w.limit ≡ a
-same-meter w a e = ap (meter_with a.charged) (sym e)
-
-abbrev judged_as : ℕ → Account → ℕ → List ℕ
-judged_as n a charged = n ∷ flag_word (is_share a) ∷ reads_left a ∷ charged ∷ []
-
-pub judged-as : (j : Judged) {n : ℕ} {a : Account} → n ≡ verdict_number j.verdict → j.account ≡ a
-    → judged_as n a j.meter.charged ≡ judged_words j
-judged-as j e f = ap₂ (λ (n : ℕ) (a : Account). judged_as n a j.meter.charged) e (sym f)
-
 -- ---- prepare
 module _ (atoms : ℕ) (cs os paying : List ℕ) (times : ℕ) (slot answer : List ℕ) where
   pub prepare-unfit : row_fits atoms (row_of cs os) ≡ false
@@ -92,12 +79,6 @@ module _ (atoms : ℕ) (cs os paying : List ℕ) (times : ℕ) (slot answer : Li
         ap (λ (v : List ℕ). left 0 (s ∷ v ∷ [])) y
         ∙ ap (λ (z : Prepared). left 0 (z.slot ∷ judged_words z.judged ∷ [])) all
         ∙ passed (slot ∷ answer ∷ []) _ ∙ passes no_slot _ _ _ (eq-eqb _ _ l) ∙ passes no_row _ _ _ f
-
--- one call of it
-pub prepared-once : (r : Row) (a : Account) (m : Meter) (slot new : List ℕ) {j : Judged} → j ≡ judged true (pay (prepare_reads r) a m)
-    → new ≡ if_yes j.verdict (slot_of (new_entry r 0 0 Founded)) slot
-    → prepared j new ≡ prepared_by r (judged true (pay (prepare_reads r) a m)) slot
-prepared-once r a m slot new {j} e f = ap (prepared j) f ∙ ap (λ (x : Judged). prepared_by r x slot) e
 
 -- ---- includes
 module _ (atoms : ℕ) (cs ws : List ℕ) (forms : ℕ) (paying : List ℕ) (times : ℕ) (answer : List ℕ) where

@@ -68,7 +68,8 @@ loop-next-preserved-then-eq c =
       placed = c.in-Some.ensures.1;
       room = room-skip (room here);
       same = ap (λ (l : List ℕ). walk put l (filled_to c.loop-next.next c.loop-next.postings) c.loop-next.meter)
-          (sym (left-skip c.args.position (last_met c.loop-next.last) (code here) (past here) (met-same _ _ (sym c.eq.ensures ∙ c.if-eq.true)))) ∙ turn here;
+          (sym (left-skip c.args.position (last_met c.loop-next.last) (code here) (past here)
+          (met-same _ _ (sym c.eq.ensures ∙ c.if-eq.true)))) ∙ turn here;
     }
 
 pub returns-in_err-tick : goal.returns-in_err-tick
@@ -90,11 +91,13 @@ loop-next-preserved c =
     record {
       placed = c.in-Some.ensures.1;
       room = simp length-set (room-post (room here));
-      same = sym (left_step _ _ (code here) (past here) _ _ (other here (sym c.eq.ensures ∙ c.if-eq.false)) c.in_ok-tick.ensures) ∙ turn here;
+      same = sym (left_step _ _ (code here) (past here) _ _ (other here (sym c.eq.ensures ∙ c.if-eq.false)) c.in_ok-tick.ensures)
+          ∙ turn here;
     }
 
 pub returns : goal.returns
 returns c =
     walk-done put _ _ _
-    (ap (left_postings c.args.position (last_met c.loop-next.last)) (sym c.in_default.ensures.0) ∙ left-none c.args.position (last_met c.loop-next.last))
+    (ap (left_postings c.args.position (last_met c.loop-next.last)) (sym c.in_default.ensures.0)
+    ∙ left-none c.args.position (last_met c.loop-next.last))
     ∙ c.loop-next.invariant.same
