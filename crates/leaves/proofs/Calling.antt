@@ -1,23 +1,18 @@
 -- The tests of a call one after the other, and a call that is made several times. Assumes nothing.
-use mathlib.Core.Path.{◌≡◌, refl, sym, ap, ap₂, ◌∙◌}
+use mathlib.Core.Path.{◌≡◌, refl, sym, ap, ◌∙◌}
 use mathlib.Core.Bool.{Bool, true, false}
 use mathlib.Core.List.{List, [], ◌∷◌}
-use Prim.Native.Nat.{ℕ, zero, suc, ◌-◌, ◌≤◌, ◌<◌}
+use Prim.Native.Nat.{ℕ, zero, suc, ◌-◌, ◌<◌}
 use native.Mathlib.Omega.{arith}
 use Rattle.std.specs.Prelude.{Result, Ok, Err}
 use Rattle.meter.specs.declared.Meter.{Meter}
 use Rattle.meter.specs.declared.Stopped as error
-use Rattle.meter.specs.declared.Account.{Account}
-use Rattle.meter.specs.Judged.{Judged}
-use Rattle.meter.specs.Meter.{pay, judged}
-use Rattle.meter.proofs.Counting.{judged-limit}
 use Rattle.words.specs.Region.{Region}
 use Rattle.model.specs.Records.{Row}
-use Rattle.model.specs.Rows.{prepare_reads}
 use Rattle.model.specs.declared.Deduction.{Deduction}
 use Rattle.row_deduce.specs.Walks.{Walked, walked}
 use Rattle.wire.specs.Replies.{left}
-use Rattle.leaves.specs.Calls.{unless, again, asked, payer, Prepared, prepared, prepare_once, preparer, deduce_once, meter_after}
+use Rattle.leaves.specs.Calls.{unless, again, deduce_once, meter_after}
 
 -- ---- the tests
 module _ {b : Bool} (n : ℕ) (ts : List (Bool × ℕ)) (old new : List (List ℕ)) where

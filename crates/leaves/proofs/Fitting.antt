@@ -16,7 +16,7 @@ use Rattle.model.specs.Slots.{row_in, slot_of}
 use Rattle.model.proofs.Slots.{Valid, valid-of, row-there}
 use Rattle.model.proofs.Rows.{row_more}
 use Rattle.slots.specs.declared.Side.{Side}
-use Rattle.slots.specs.Cursor.{Sound, list_of}
+use Rattle.slots.specs.Cursor.{list_of}
 use Rattle.slots.specs.Layout.{Laid, Stored, output_side, proposal}
 use Rattle.slots.proofs.Storing.{stored-slot, laid-stored, row-proposal, laid-proposal}
 use Rattle.model.specs.declared.OutputCursor.{OutputCursor}

@@ -16,30 +16,28 @@ use Rattle.meter.specs.declared.Stopped as error
 use Rattle.meter.specs.declared.Account.{Account}
 use Rattle.meter.specs.declared.Account.TheVariants.{Remaining, Share}
 use Rattle.meter.specs.Judged.{Judged}
-use Rattle.meter.specs.Meter.{reads_left, pay, judged}
+use Rattle.meter.specs.Meter.{pay, judged}
 use Rattle.model.specs.declared.Literal.{Literal}
 use Rattle.model.specs.declared.Deduction.{Deduction}
 use Rattle.model.specs.declared.OutputCursor.{OutputCursor}
 use Rattle.model.specs.Answers.{flag_word}
 use Rattle.model.specs.Records.{Row, slot_words, max_outputs}
-use Rattle.model.specs.Rows.{includes, includes_reads, subsumes, subsumes_reads, prepare_reads}
+use Rattle.model.specs.Rows.{includes, includes_reads, subsumes, subsumes_reads}
 use Rattle.model.specs.Union.{joins, join_reads, grown}
-use Rattle.model.specs.Slots.{row_in, slot_of}
+use Rattle.model.specs.Slots.{row_in}
 use Rattle.model.specs.Deduction.{Published, published, next_output}
 use Rattle.model.specs.Operations.{cursor_ok}
 use Rattle.slots.specs.Layout.{proposal}
 use Rattle.slots.proofs.Storing.{row-proposal}
 use Rattle.slots.specs.Layout.{row_of}
 use Rattle.row_merge.specs.Merge.{if_yes}
-use Rattle.model.specs.declared.Source.TheVariants.{Founded}
-use Rattle.row_write.specs.Forms.{new_entry}
 use Rattle.row_deduce.specs.Walks.{walked}
 use Rattle.row_deduce.specs.Publication.{next_of, published_as}
 use Rattle.wire.specs.Words.{flag_in, cursor_in, cursor_words}
-use Rattle.leaves.specs.Calls.{account_in, meter_of, verdict_number, is_share, judged_words, next_words, deduced_words, walked_words, next_left}
+use Rattle.leaves.specs.Calls.{account_in, meter_of, judged_words, next_words, deduced_words, walked_words, next_left}
 use Rattle.wire.specs.Replies.{left}
 use Rattle.leaves.specs.Calls.{no_row, no_region, no_cursor, no_choice, no_slot, row_fits, asked_times}
-use Rattle.leaves.specs.Calls.{Prepared, prepared, prepared_by, prepare_times, prepare_call, includes_call, subsumes_words, subsumes_call}
+use Rattle.leaves.specs.Calls.{Prepared, prepared, prepare_times, prepare_call, includes_call, subsumes_words, subsumes_call}
 use Rattle.leaves.specs.Calls.{united_by, union_times, union_call, deduce_times, deduction_call, next_call, decide_left, decide_call}
 use Rattle.leaves.specs.Calls.{next_from_words, found_call}
 use Rattle.leaves.proofs.Calling.{fails, passes, passed}

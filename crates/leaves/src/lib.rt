@@ -104,10 +104,12 @@ fn put_deduced(found: Result<Deduction, Stopped>, charged: u64, answer: &mut [u6
         Err(Stopped) => [0, 0, 0, charged],
         Ok(Deduction::Nothing) => [1, 0, 0, charged],
         Ok(Deduction::Force) => [2, 0, 0, charged],
-        Ok(Deduction::Require {
-            required,
-            contradicted,
-        }) => [3, required.0 as u64, contradicted.0 as u64, charged],
+        Ok(
+            Deduction::Require {
+                required,
+                contradicted,
+            },
+        ) => [3, required.0 as u64, contradicted.0 as u64, charged],
     };
 }
 

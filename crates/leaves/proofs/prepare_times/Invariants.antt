@@ -1,8 +1,6 @@
 -- `prepare_times` meets its contract: each turn prepares with the account, the meter and the slot that the last left. Assumes nothing.
 use mathlib.Core.Path.{◌≡◌}
 use Prim.Native.Nat.{◌-◌}
-use lib.ListN.{length}
-use Rattle.model.specs.Records.{slot_words}
 use Rattle.model.specs.Slots.{row_in}
 use Rattle.leaves.specs.Calls.{again, prepare_once, preparer}
 use Rattle.leaves.proofs.prepare_times.Given as goal

@@ -1,8 +1,6 @@
 -- `union_times` meets its contract: each turn unites anew with the account and the meter that the last left. Assumes nothing.
 use mathlib.Core.Path.{◌≡◌}
 use Prim.Native.Nat.{ℕ, ◌-◌}
-use lib.ListN.{length}
-use Rattle.model.specs.Records.{slot_words}
 use Rattle.leaves.specs.Calls.{again, payer, asked}
 use mathlib.Core.List.{List}
 use Rattle.meter.specs.declared.Meter.{Meter}
