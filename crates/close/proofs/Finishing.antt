@@ -79,7 +79,8 @@ module _ (h : Header) (slots postings held₀ cut x y : List ℕ) (m : Meter) wh
         accept-passed s others ((region_ok s held₀ cut, 6) ∷ []) n number z ∙ region-yes h slots postings held₀ cut [] q ∙ all-passed
 
   pub close-refused : (n : ℕ) → refusal tests ≡ some n
-      → closed_end (record { answer = answer.Refused n; contradicted = None; header = h; meter = m; ticks = 0 }) slots postings held₀ cut x y
+      → closed_end (record { answer = answer.Refused n; contradicted = None; header = h; meter = m; ticks = 0 })
+      slots postings held₀ cut x y
       ≡ close s held₀ cut x y m
   unfolding close
   close-refused n e = rw (e, close)
