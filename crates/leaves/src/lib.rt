@@ -10,6 +10,7 @@
 
 ghost use Rattle.std.specs.Prelude.{◌≡◌, true, [], ◌∷◌, ◌≤◌, length};
 ghost use Rattle.meter.specs.Meter.{pay, judged};
+ghost use Rattle.meter.specs.Results.{judged_end, verdict_of};
 ghost use Rattle.words.specs.Region.{max_atoms, region, has, mark};
 ghost use Rattle.model.specs.Records.{is_row, slot_words, max_outputs};
 ghost use Rattle.model.specs.Rows.{includes, includes_reads, subsumes, subsumes_reads, prepare_reads};
@@ -31,7 +32,7 @@ ghost use Rattle.leaves.specs.Calls.{asked_times, prepared, prepared_by, prepare
 ghost use Rattle.leaves.specs.Calls.{prepare_call, includes_call, subsumes_call, union_call, deduction_call, next_call, decide_call};
 ghost use Rattle.leaves.specs.Calls.{found_call};
 
-use meter::{Account, Capture, Judged, Meter, Sharing, Stopped, Verdict};
+use meter::{Account, Capture, Meter, Purse, Sharing, Stopped, Unpaid};
 use model::{Deduction, Literal, MAX_CONDITIONS, MAX_OUTPUTS, SLOT_WORDS, Source};
 use wire::{cursor_of, flag_word, put_cursor};
 use words::{Found, MAX_ATOMS, MAX_WORD};
@@ -66,52 +67,31 @@ fn meter_of(paying: &[u64; 4]) -> Meter
     }
 }
 
-// The account and the meter for the next of several calls, word by word: a whole struct read back at once, as soon as its words
-// were stored one by one, would make the processor wait, and that would be measured too.
-fn next_account(account: Account) -> Account
-    ensures { result ≡ account }
+// The number of an answer.
+fn number_of(answered: Result<bool, Unpaid>) -> u64
+    ensures { result ≡ verdict_number (verdict_of answered) }
 {
-    match account {
-        Account::Remaining(c) => Account::Remaining(Capture(c.0)),
-        Account::Share(s) => Account::Share(Sharing(s.0)),
-    }
-}
-
-fn next_meter(work: Meter, after: Meter) -> Meter
-    requires { after.limit ≡ work.limit }
-    ensures { result ≡ after }
-{
-    Meter {
-        charged: after.charged,
-        limit: work.limit,
-    }
-}
-
-// The number of a verdict.
-fn number_of(verdict: Verdict) -> u64
-    ensures { result ≡ verdict_number verdict }
-{
-    match verdict {
-        Verdict::Stopped => 0,
-        Verdict::Declined => 1,
-        Verdict::No => 2,
-        Verdict::Yes => 3,
+    match answered {
+        Err(Unpaid::Stopped) => 0,
+        Err(Unpaid::Declined) => 1,
+        Ok(false) => 2,
+        Ok(true) => 3,
     }
 }
 
 // The answer of a question whose reads are paid; its value is 1 for the sharing account.
-fn put_judged(j: Judged, answer: &mut [u64; 4])
-    ensures { answer.new ≡ judged_words j }
+fn put_judged(answered: Result<bool, Unpaid>, purse: Purse, answer: &mut [u64; 4])
+    ensures { answer.new ≡ judged_words (judged_end answered purse) }
 {
-    let account = j.account;
-    let verdict = j.verdict;
-    let number = number_of(verdict);
+    let number = number_of(answered);
+    let account = purse.account;
+    let charged = purse.meter.charged;
     match account {
         Account::Remaining(c) => {
-            *answer = [number, 0, c.0, j.meter.charged];
+            *answer = [number, 0, c.0, charged];
         }
         Account::Share(s) => {
-            *answer = [number, 1, s.0, j.meter.charged];
+            *answer = [number, 1, s.0, charged];
         }
     }
 }
@@ -124,10 +104,12 @@ fn put_deduced(found: Result<Deduction, Stopped>, charged: u64, answer: &mut [u6
         Err(Stopped) => [0, 0, 0, charged],
         Ok(Deduction::Nothing) => [1, 0, 0, charged],
         Ok(Deduction::Force) => [2, 0, 0, charged],
-        Ok(Deduction::Require {
-            required,
-            contradicted,
-        }) => [3, required.0 as u64, contradicted.0 as u64, charged],
+        Ok(
+            Deduction::Require {
+                required,
+                contradicted,
+            },
+        ) => [3, required.0 as u64, contradicted.0 as u64, charged],
     };
 }
 
@@ -192,81 +174,54 @@ fn lay(atoms: u64, conditions: &[u64], outputs: &[u64], stored: bool, ws: &mut [
 }
 
 // The form of a proposal's row, and where its reads are paid its slot.
-fn prepare(p: &[u64], slot: &mut [u64], account: Account, work: Meter) -> Judged
+fn prepare(p: &[u64], slot: &mut [u64], purse: &mut Purse) -> Result<bool, Unpaid>
     requires fact_1 { Proposed p.now }
     requires fact_2 { length slot.old ≡ slot_words }
-    ensures { prepared result slot.new ≡ prepared_by (row_in p.now)
-        (judged true (pay (prepare_reads (row_in p.now)) account work)) slot.old }
+    ensures { prepared (judged_end result purse.new) slot.new ≡ prepared_by (row_in p.now)
+        (judged true (pay (prepare_reads (row_in p.now)) purse.old.account purse.old.meter)) slot.old }
 {
-    let prepared = row_write::prepare(p, account, work);
-    let judged = prepared.judged;
-    let form = prepared.form;
-    let verdict = judged.verdict;
-    let Verdict::Yes = verdict else {
-        return judged;
-    };
+    let form = row_write::prepare(p, purse)?;
     row_write::write_row(slot, p, form, 0, 0, Source::Founded);
-    judged
+    Ok(true)
 }
 
-fn prepare_times(p: &[u64], slot: &mut [u64], account: Account, work: Meter, times: u64) -> Judged
+fn prepare_times(p: &[u64], slot: &mut [u64], purse: &mut Purse, times: u64) -> Result<bool, Unpaid>
     requires fact_1 { Proposed p.now }
     requires fact_2 { length slot.old ≡ slot_words }
-    ensures { prepared result slot.new
-        ≡ prepare_times (row_in p.now) times account work slot.old }
+    ensures { prepared (judged_end result purse.new) slot.new
+        ≡ prepare_times (row_in p.now) times purse.old.account purse.old.meter slot.old }
 {
-    let mut account = account;
-    let mut meter = work;
-    let mut left = times;
-    while 1 < left {
-        let j = prepare(p, slot, account, meter);
-        let paid = j.account;
-        account = next_account(paid);
-        meter = next_meter(work, j.meter);
-        left -= 1;
+    for _ in 1..times {
+        let _ = prepare(p, slot, purse);
     }
-    prepare(p, slot, account, meter)
+    prepare(p, slot, purse)
 }
 
 // Whether the outputs of the one row are among those of the other.
-fn includes_times(a: &[u64], b: &[u64], account: Account, work: Meter, times: u64) -> Judged
+fn includes_times(a: &[u64], b: &[u64], purse: &mut Purse, times: u64) -> Result<bool, Unpaid>
     requires fact_1 { Laid a.now }
     requires fact_2 { Laid b.now }
-    ensures { result ≡ asked_times (includes (row_in a.now).outputs (row_in b.now).outputs)
-        (includes_reads (row_in a.now).outputs (row_in b.now).outputs) times account work }
+    ensures { judged_end result purse.new ≡ asked_times (includes (row_in a.now).outputs (row_in b.now).outputs)
+        (includes_reads (row_in a.now).outputs (row_in b.now).outputs) times purse.old.account purse.old.meter }
 {
     let candidates = slots::outputs(a);
     let wanted = slots::outputs(b);
-    let mut account = account;
-    let mut meter = work;
-    let mut left = times;
-    while 1 < left {
-        let j = row_subsume::includes(a, candidates, b, wanted, account, meter);
-        let paid = j.account;
-        account = next_account(paid);
-        meter = next_meter(work, j.meter);
-        left -= 1;
+    for _ in 1..times {
+        let _ = row_subsume::includes(a, candidates, b, wanted, purse);
     }
-    row_subsume::includes(a, candidates, b, wanted, account, meter)
+    row_subsume::includes(a, candidates, b, wanted, purse)
 }
 
-fn subsumes_times(r: &[u64], s: &[u64], account: Account, work: Meter, times: u64) -> Judged
+fn subsumes_times(r: &[u64], s: &[u64], purse: &mut Purse, times: u64) -> Result<bool, Unpaid>
     requires fact_1 { Laid r.now }
     requires fact_2 { Laid s.now }
-    ensures { result ≡ asked_times (subsumes (row_in r.now) (row_in s.now))
-        (subsumes_reads (row_in r.now) (row_in s.now)) times account work }
+    ensures { judged_end result purse.new ≡ asked_times (subsumes (row_in r.now) (row_in s.now))
+        (subsumes_reads (row_in r.now) (row_in s.now)) times purse.old.account purse.old.meter }
 {
-    let mut account = account;
-    let mut meter = work;
-    let mut left = times;
-    while 1 < left {
-        let j = row_subsume::subsumes(r, s, account, meter);
-        let paid = j.account;
-        account = next_account(paid);
-        meter = next_meter(work, j.meter);
-        left -= 1;
+    for _ in 1..times {
+        let _ = row_subsume::subsumes(r, s, purse);
     }
-    row_subsume::subsumes(r, s, account, meter)
+    row_subsume::subsumes(r, s, purse)
 }
 
 // p becomes the proposal of the lists, and then the union.
@@ -276,19 +231,18 @@ fn unite(
     outputs: &[u64],
     p: &mut [u64],
     most: u64,
-    account: Account,
-    work: Meter,
-) -> Judged
+    purse: &mut Purse,
+) -> Result<bool, Unpaid>
     requires fact_1 { Laid r.now }
     requires fact_2 { is_row max_atoms (row_of conditions.now outputs.now) ≡ true }
     requires fact_3 { length p.old ≡ slot_words }
     requires fact_4 { most ≤ max_outputs }
-    ensures { (result ≡ judged (joins most (row_in r.now) (row_of conditions.now outputs.now))
-        (pay (join_reads most (row_in r.now) (row_of conditions.now outputs.now)) account work))
-        × (p.new ≡ united_by (row_in r.now) (row_of conditions.now outputs.now) result) }
+    ensures { (judged_end result purse.new ≡ judged (joins most (row_in r.now) (row_of conditions.now outputs.now))
+        (pay (join_reads most (row_in r.now) (row_of conditions.now outputs.now)) purse.old.account purse.old.meter))
+        × (p.new ≡ united_by (row_in r.now) (row_of conditions.now outputs.now) (judged_end result purse.new)) }
 {
     row_propose::propose(conditions, outputs, p);
-    row_merge::union_outputs(r, p, most, account, work)
+    row_merge::union_outputs(r, p, most, purse)
 }
 
 fn union_times(
@@ -297,29 +251,21 @@ fn union_times(
     outputs: &[u64],
     p: &mut [u64],
     most: u64,
-    account: Account,
-    work: Meter,
+    purse: &mut Purse,
     times: u64,
-) -> Judged
+) -> Result<bool, Unpaid>
     requires fact_1 { Laid r.now }
     requires fact_2 { is_row max_atoms (row_of conditions.now outputs.now) ≡ true }
     requires fact_3 { length p.old ≡ slot_words }
     requires fact_4 { most ≤ max_outputs }
-    ensures { (result
-        ≡ union_times most (row_in r.now) (row_of conditions.now outputs.now) times account work)
-        × (p.new ≡ united_by (row_in r.now) (row_of conditions.now outputs.now) result) }
+    ensures { (judged_end result purse.new
+        ≡ union_times most (row_in r.now) (row_of conditions.now outputs.now) times purse.old.account purse.old.meter)
+        × (p.new ≡ united_by (row_in r.now) (row_of conditions.now outputs.now) (judged_end result purse.new)) }
 {
-    let mut account = account;
-    let mut meter = work;
-    let mut left = times;
-    while 1 < left {
-        let j = unite(r, conditions, outputs, p, most, account, meter);
-        let paid = j.account;
-        account = next_account(paid);
-        meter = next_meter(work, j.meter);
-        left -= 1;
+    for _ in 1..times {
+        let _ = unite(r, conditions, outputs, p, most, purse);
     }
-    unite(r, conditions, outputs, p, most, account, meter)
+    unite(r, conditions, outputs, p, most, purse)
 }
 
 fn deduction_times(
@@ -360,8 +306,12 @@ pub fn leaf_prepare(
     if slot.len() != SLOT_WORDS {
         return NO_SLOT;
     }
-    let j = prepare_times(&p, slot, account_of(paying), meter_of(paying), times);
-    put_judged(j, answer);
+    let mut purse = Purse {
+        account: account_of(paying),
+        meter: meter_of(paying),
+    };
+    let answered = prepare_times(&p, slot, &mut purse, times);
+    put_judged(answered, purse, answer);
     0
 }
 
@@ -389,8 +339,12 @@ pub fn leaf_includes(
     if 3 < forms {
         return NO_CHOICE;
     }
-    let j = includes_times(&a, &b, account_of(paying), meter_of(paying), times);
-    put_judged(j, answer);
+    let mut purse = Purse {
+        account: account_of(paying),
+        meter: meter_of(paying),
+    };
+    let answered = includes_times(&a, &b, &mut purse, times);
+    put_judged(answered, purse, answer);
     0
 }
 
@@ -418,13 +372,17 @@ pub fn leaf_subsumes(
     if !lay(atoms, other_conditions, other_outputs, false, &mut p) {
         return NO_ROW;
     }
+    let mut purse = Purse {
+        account: account_of(paying),
+        meter: meter_of(paying),
+    };
     if turned != 0 {
-        let j = subsumes_times(&p, &r, account_of(paying), meter_of(paying), times);
-        put_judged(j, answer);
+        let answered = subsumes_times(&p, &r, &mut purse, times);
+        put_judged(answered, purse, answer);
         return 0;
     }
-    let j = subsumes_times(&r, &p, account_of(paying), meter_of(paying), times);
-    put_judged(j, answer);
+    let answered = subsumes_times(&r, &p, &mut purse, times);
+    put_judged(answered, purse, answer);
     0
 }
 
@@ -459,17 +417,20 @@ pub fn leaf_union_outputs(
     if slot.len() != SLOT_WORDS {
         return NO_SLOT;
     }
-    let j = union_times(
+    let mut purse = Purse {
+        account: account_of(paying),
+        meter: meter_of(paying),
+    };
+    let answered = union_times(
         &r,
         other_conditions,
         other_outputs,
         slot,
         maximum,
-        account_of(paying),
-        meter_of(paying),
+        &mut purse,
         times,
     );
-    put_judged(j, answer);
+    put_judged(answered, purse, answer);
     0
 }
 

@@ -3,12 +3,16 @@ use mathlib.Core.Path.{◌≡◌, refl, sym, ap, ap₂, ◌∙◌, subst}
 use mathlib.Core.Bool.{Bool, true, false, ◌&&◌, not}
 use mathlib.Core.List.{List, [], ◌∷◌}
 use mathlib.Core.Option.{none, some}
+use Rattle.std.specs.Prelude.{Result, Ok, Err}
 use Prim.Native.Nat.{ℕ, ◌+◌, ◌≤◌, ◌<◌}
 use native.Mathlib.Omega.{arith}
 use lib.Dec.{ltb, leb}
 use lib.ListN.{length}
 use borrow.Author.Tests.{lt-ltb, le-ltb, lt-leb, le-leb}
 use Rattle.meter.specs.declared.Meter.{Meter}
+use Rattle.meter.specs.declared.Purse.{Purse}
+use Rattle.meter.specs.declared.Unpaid.{Unpaid}
+use Rattle.meter.specs.declared.Unpaid.TheVariants.{Declined, Stopped}
 use Rattle.meter.specs.declared.Account.{Account}
 use Rattle.meter.specs.declared.Account.TheVariants.{Remaining}
 use Rattle.meter.specs.Read.{Paid}
@@ -22,7 +26,7 @@ use Rattle.model.specs.Records.{Row, Entry, Ledger, attempted, with_account, wit
 use Rattle.model.specs.Slots.{entries_in, row_in}
 use Rattle.slots.specs.Layout.{proposal}
 use Rattle.slots.proofs.Storing.{row-proposal}
-use Rattle.model.specs.Retention.{Retention as Kept, retain, protects, full_shuts, can_capture}
+use Rattle.model.specs.Retention.{Retention, retain, protects, full_shuts, can_capture}
 use Rattle.model.specs.Refusals.{Lent, refusal, accepts, ledger_in, lent_of}
 use Rattle.model.specs.Answers.{offer_reply}
 use Rattle.model.specs.Operations.{OfferEnd, Offered, offer, capture, offer_answer, unoffered, fits_offer, source_ok, offer_tests}
@@ -31,9 +35,8 @@ use Rattle.model.proofs.Slots.{entries-length}
 use Rattle.model.proofs.Entries.{founded-all}
 use Rattle.contents.specs.Accepted.{Accepted}
 use Rattle.contents.proofs.Accepting.{accepted}
-use Rattle.retain.specs.declared.Retained.{Retained}
-use Rattle.retain.specs.declared.Retained.TheVariants as retention
-use Rattle.retain.specs.declared.Retention.{Retention}
+use Rattle.retain.specs.declared.Kept.{Kept}
+use Rattle.retain.specs.declared.Kept.TheVariants.{Subsumed, Added}
 use Rattle.retain.specs.Ends.{End, outcome_of, retain_end, end_of}
 use Rattle.model.proofs.Headers.{set_attempts, attempts-in}
 use Rattle.retain_keep.proofs.Headers.{account-lent}
@@ -50,35 +53,6 @@ may-capture h slots postings a =
     (sym (entries-length h.rows slots)) a.founded
     ∙ ap (λ (b : Bool). leb h.limits.tier_rows (length es) && (b && leb (founded_rows es) h.limits.founded_floor))
     (sym (founded-all es)))
-
--- `full_shuts` and `can_capture`, test by test
-module _ (h : Header) where
-  pub shut-room : h.rows < h.limits.tier_rows → false ≡ shut_by h
-  unfolding shut_by
-  shut-room l = sym (rw (lt-leb h.limits.tier_rows h.rows l))
-
-  pub shut-tip : h.limits.tier_rows ≤ h.rows → h.founded < h.rows → false ≡ shut_by h
-  unfolding shut_by
-  shut-tip l k = sym (rw (le-leb h.limits.tier_rows h.rows l, lt-leb h.rows h.founded k))
-
-  pub shut-floor : h.limits.tier_rows ≤ h.rows → h.rows ≤ h.founded → leb h.founded h.limits.founded_floor ≡ shut_by h
-  unfolding shut_by
-  shut-floor l k = sym (rw (le-leb h.limits.tier_rows h.rows l, le-leb h.rows h.founded k))
-
-  pub capture-tried : h.limits.founded_attempts ≤ h.attempts → false ≡ may_capture h
-  unfolding may_capture
-  capture-tried l = sym (rw (le-ltb h.attempts h.limits.founded_attempts l))
-
-  pub capture-spent : h.attempts < h.limits.founded_attempts → h.remaining.0 ≡ 0 → false ≡ may_capture h
-  unfolding may_capture
-  capture-spent l e = sym (rw (lt-ltb h.attempts h.limits.founded_attempts l, le-ltb 0 h.remaining.0 (omega arith)))
-
-  pub capture-rest : h.attempts < h.limits.founded_attempts → (h.remaining.0 ≡ 0 → ⊥) → {b : Bool} → b ≡ shut_by h
-      → not b ≡ may_capture h
-  unfolding may_capture
-  capture-rest l e {b} q =
-      let funded : 0 < h.remaining.0 = omega arith in
-      ap not q ∙ sym (rw (lt-ltb h.attempts h.limits.founded_attempts l, lt-ltb 0 h.remaining.0 funded))
 
 module _ (h : Header) (slots postings cs os : List ℕ) (source : ℕ) (m : Meter) where
   abbrev s : Lent
@@ -146,29 +120,29 @@ module _ (h : Header) (slots postings cs os : List ℕ) (source : ℕ) (m : Mete
         subst (λ (y : Offered). offer_end r ws ps ≡ y.seen)
         (ap (λ (y : Source). capture (ledger_in s) y t m) q ∙ sym (captured (sym (may-capture h slots postings held) ∙ sym g ∙ f)))
 
--- ---- the retention is over
-answer-is : (x : Retained) → answer_of x ≡ offer_answer (outcome_of x)
+-- ---- the retention is over: its result r, the header h, the purse p
+answer-is : (r : Result Kept Unpaid) → answer_of r ≡ offer_answer (outcome_of r)
 unfolding offer_answer
-answer-is retention.Stopped = refl
-answer-is retention.Declined = refl
-answer-is (retention.Subsumed p) = refl
-answer-is (retention.Added p) = refl
+answer-is (Ok (Subsumed p)) = refl
+answer-is (Ok (Added p)) = refl
+answer-is (Err Declined) = refl
+answer-is (Err Stopped) = refl
 
 module _ (l : Ledger) (source : Source) (t : Row) (m : Meter) where
   abbrev k : Header
   k = attempted l.header
 
-  abbrev d : Kept
+  abbrev d : Retention
   d = retain (record { header = k; entries = l.entries }) k.limits.founded_outputs 0 source t (Paid (Remaining k.remaining) m)
 
-  pub captured-end : (r : Retention) (ws ps : List ℕ) → retain_end r ws ps ≡ end_of d
-      → offer_end (captured_by r m) ws ps ≡ (capture l source t m).seen
+  pub captured-end : (r : Result Kept Unpaid) (h : Header) (p : Purse) (ws ps : List ℕ) → retain_end r h ws ps p ≡ end_of d
+      → offer_end (captured_by r h p m) ws ps ≡ (capture l source t m).seen
   unfolding capture
-  captured-end r ws ps e =
-      let answer : answer_of r.answer ≡ offer_answer d.outcome = answer-is r.answer ∙ ap (λ (x : End). offer_answer x.outcome) e in
-      let words : lent (with_account r.header r.account) ws ps
+  captured-end r h p ws ps e =
+      let answer : answer_of r ≡ offer_answer d.outcome = answer-is r ∙ ap (λ (x : End). offer_answer x.outcome) e in
+      let words : lent (with_account h p.account) ws ps
       ≡ lent_of (record { header = with_account d.ledger.header d.account; entries = d.ledger.entries })
-      = account-lent r.header ws ps d.ledger (ap (λ (x : End). x.ledger) e) r.account
+      = account-lent h ws ps d.ledger (ap (λ (x : End). x.ledger) e) p.account
       ∙ ap (λ (a : Account). lent_of (record { header = with_account d.ledger.header a; entries = d.ledger.entries }))
       (ap (λ (x : End). x.account) e) in
       ap₂ {C =
@@ -176,8 +150,8 @@ module _ (l : Ledger) (source : Source) (t : Row) (m : Meter) where
       (λ (a : OfferAnswer) (w : Lent). record {
         answer = offer_reply a;
         ledger = w;
-        meter = r.meter;
-        ticks = made m r.meter;
+        meter = p.meter;
+        ticks = made m p.meter;
       }) answer words
       ∙ ap
       (λ (w : Meter). record {
@@ -188,28 +162,21 @@ module _ (l : Ledger) (source : Source) (t : Row) (m : Meter) where
       }) (ap (λ (x : End). x.meter) e)
 
 -- the same, of a header with one attempt more
-pub capture-retained : (h : Header) (slots postings : List ℕ) (source : Source) (t : Row) (m : Meter) (r : Retention) (x : OfferResult)
-    (ws ps : List ℕ)
-    → x ≡ captured_by r m
-    → retain_end r ws ps
+pub capture-retained : (h : Header) (slots postings : List ℕ) (source : Source) (t : Row) (m : Meter) (r : Result Kept Unpaid)
+    (after : Header) (p : Purse) (x : OfferResult) (ws ps : List ℕ)
+    → x ≡ captured_by r after p m
+    → retain_end r after ws ps p
     ≡ end_of (retain (ledger_in (lent (set_attempts h (h.attempts + 1)) slots postings)) h.limits.founded_outputs 0 source t
     (Paid (Remaining h.remaining) m))
     → offer_end x ws ps ≡ (capture (ledger_in (lent h slots postings)) source t m).seen
 unfolding ledger_in attempted
-capture-retained h slots postings source t m r x ws ps q e =
+capture-retained h slots postings source t m r after p x ws ps q e =
     ap (λ (y : OfferResult). offer_end y ws ps) q
-    ∙ captured-end (ledger_in (lent h slots postings)) source t m r ws ps
+    ∙ captured-end (ledger_in (lent h slots postings)) source t m r after p ws ps
     (e
     ∙ ap (λ (k : Header). end_of
     (retain (record { header = k; entries = entries_in h.rows slots }) h.limits.founded_outputs 0 source t
     (Paid (Remaining h.remaining) m))) (attempts-in h))
-
-pub captured-is : (k : Retention) (m : Meter) (a : OfferAnswer) (h : Header) (n : ℕ) → a ≡ answer_of k.answer
-    → h ≡ with_account k.header k.account → n ≡ made m k.meter
-    → record { answer = a; header = h; meter = k.meter; ticks = n } ≡ captured_by k m
-captured-is k m a h n e f g =
-    ap₂ {C = OfferResult} (λ (x : OfferAnswer) (y : Header). record { answer = x; header = y; meter = k.meter; ticks = n }) e f
-    ∙ ap (λ (x : ℕ). record { answer = answer_of k.answer; header = with_account k.header k.account; meter = k.meter; ticks = x }) g
 
 -- a proposal of the offered row is captured as the row
 pub capture-proposed : (l : Ledger) (source : Source) (t : Row) (m : Meter) (r : OfferResult) (ws ps p : List ℕ) → p ≡ proposal t →

@@ -13,9 +13,9 @@ ghost use Rattle.contents.specs.Accepted.{Accepted};
 ghost use Rattle.offer.specs.Ends.{offer_end, unoffered_by, answer_of, captured_by, shut_by, may_capture};
 
 use contents::accept;
-use meter::{Account, Meter};
+use meter::{Account, Meter, Purse, Unpaid};
 use model::{Header, OfferAnswer, OfferResult, SLOT_WORDS, Source, source_of};
-use retain::{Retained, Retention, retain};
+use retain::{Kept, retain};
 use retain_keep::put_account;
 use row_propose::{is_row, propose};
 
@@ -32,61 +32,47 @@ fn unoffered(answer: OfferAnswer, header: Header, work: Meter) -> OfferResult
 }
 
 // Whether being full shuts a ledger: it holds no Tip, and no more Founded rows than the floor protects.
+#[tactic(auto, unfolding(crate::specs::Ends::shut_by))]
 fn full_shuts(header: Header) -> bool
     ensures { result ≡ shut_by header }
 {
     let limits = header.limits;
-    if header.rows < limits.tier_rows {
-        return false;
-    }
-    if header.founded < header.rows {
-        return false;
-    }
-    header.founded <= limits.founded_floor
+    limits.tier_rows <= header.rows
+        && header.rows <= header.founded
+        && header.founded <= limits.founded_floor
 }
 
 // Whether a ledger takes offers: it has attempts and reads left, and being full does not shut it.
+#[tactic(auto, unfolding(crate::specs::Ends::may_capture))]
 fn can_capture(header: Header) -> bool
     ensures { result ≡ may_capture header }
 {
-    let limits = header.limits;
-    if limits.founded_attempts <= header.attempts {
-        return false;
-    }
-    if header.remaining.0 == 0 {
-        return false;
-    }
-    !full_shuts(header)
+    header.attempts < header.limits.founded_attempts
+        && 0 < header.remaining.0
+        && !full_shuts(header)
 }
 
 // The answer of an offer whose retention is over.
-fn answer_of(kept: Retained) -> OfferAnswer
+fn answer_of(kept: Result<Kept, Unpaid>) -> OfferAnswer
     ensures { result ≡ answer_of kept }
 {
     match kept {
-        Retained::Stopped => OfferAnswer::Stopped,
-        Retained::Declined => OfferAnswer::Declined,
-        Retained::Subsumed(p) => OfferAnswer::Subsumed(p),
-        Retained::Added(p) => OfferAnswer::Added(p),
+        Ok(Kept::Subsumed(p)) => OfferAnswer::Subsumed(p),
+        Ok(Kept::Added(p)) => OfferAnswer::Added(p),
+        Err(Unpaid::Declined) => OfferAnswer::Declined,
+        Err(Unpaid::Stopped) => OfferAnswer::Stopped,
     }
 }
 
 // The result of an offer whose retention is over: the account goes back to its place.
-fn captured(kept: Retention, work: Meter) -> OfferResult
-    ensures { result ≡ captured_by kept work }
+fn captured(kept: Result<Kept, Unpaid>, header: Header, purse: Purse, work: Meter) -> OfferResult
+    ensures { result ≡ captured_by kept header purse work }
 {
-    let answer = kept.answer;
-    let account = kept.account;
-    let before = kept.header;
-    let meter = kept.meter;
-    let ticks = meter.made(work);
-    let header = put_account(before, account);
-    let answer = answer_of(answer);
     OfferResult {
-        answer,
-        header,
-        meter,
-        ticks,
+        answer: answer_of(kept),
+        header: put_account(header, purse.account),
+        meter: purse.meter,
+        ticks: purse.meter.made(work),
     }
 }
 
@@ -112,22 +98,25 @@ fn capture_row(
     let limits = header.limits;
     let remaining = header.remaining;
     let account = Account::Remaining(remaining);
-    let attempted = Header {
+    let mut attempted = Header {
         attempts: header.attempts + 1,
         ..header
     };
+    let mut purse = Purse {
+        account,
+        meter: work,
+    };
     let kept = retain(
-        attempted,
+        &mut attempted,
         slots,
         postings,
         p,
         limits.founded_outputs,
         0,
         source,
-        account,
-        work,
+        &mut purse,
     );
-    captured(kept, work)
+    captured(kept, attempted, purse, work)
 }
 
 // The same of a row given as two lists.

@@ -8,13 +8,17 @@ use native.Mathlib.Omega.{arith}
 use lib.ListN.{length, set}
 use lib.Pow.{pow_mono}
 use lib.Seq.{sets}
-use borrow.Author.Tests.{eq-eqb, ne_eqb}
+use borrow.Author.Tests.{eq-eqb, ne_eqb, eqb-true}
+use Rattle.std.specs.Option.{option_eq}
+use mathlib.Core.Bool.{true, false, false≢true}
+use lib.Dec.{eqb}
 use Rattle.lists.specs.Lists.{distinct}
 use Rattle.lists.specs.Counts.{Each}
 use Rattle.lists.proofs.Counts.{same_or, each-head, each_tail, each_map}
 use Rattle.lists.proofs.Sorts.{distinct-one, distinct-same, distinct-other}
+use Rattle.words.specs.Bit.{max_word}
 use Rattle.words.specs.Literal.{atoms_wide, codes_wide, atom}
-use Rattle.std.specs.Prelude.{Result, Err}
+use Rattle.std.specs.Prelude.{Result, Err, Option, Some, None}
 use Rattle.meter.specs.declared.Meter.{Meter}
 use Rattle.meter.specs.declared.Stopped as meter
 use Rattle.meter.specs.Tick.{Tick, Ticked, Stopped}
@@ -56,6 +60,19 @@ later-all a (x ∷ xs) h =
     later-other a x xs (λ e. omega (arith, each-head (λ v. v < a) x xs h)) ∙ sym (distinct-later x xs)
 
 -- ---- the postings left of a side
+-- the atom met last; before the first, what no atom is
+abbrev pub last_met : Option ℕ → ℕ
+last_met None = max_word
+last_met (Some a) = a
+
+pub met-same : (o : Option ℕ) (a : ℕ) → option_eq eqb o (Some a) ≡ true → a ≡ last_met o
+met-same None a e = let z : ◌≡◌ {A = ℕ} 0 1 = cc in absurd (omega arith)
+met-same (Some b) a e = sym (eqb-true b a e)
+
+pub met-other : (o : Option ℕ) (a : ℕ) → a < max_word → option_eq eqb o (Some a) ≡ false → a ≡ last_met o → ⊥
+met-other None a l e q = omega arith
+met-other (Some b) a l e q = false≢true (sym e ∙ eq-eqb b a (sym q))
+
 module _ (p : ℕ) where
   -- `none` is past the atoms that have codes of w bits
   pub left-start : (w none : ℕ) (cs : List ℕ) → Each (λ c. c < codes_wide w) cs → atoms_wide w ≤ none

@@ -14,7 +14,6 @@ use lists::{fill_zero, sort};
 use meter::{Meter, Stopped};
 use model::{Header, MAX_ROWS, SLOT_WORDS};
 use slots::Side;
-use words::MAX_WORD;
 
 // Writes the postings of one side of the row at a position from a place on, one tick before each; the place after the last. Where the
 // meter stops it, those before stand.
@@ -31,18 +30,18 @@ fn post_side(
         (walk put (side_postings position (list_of slot.now side)) (filled_to at postings.old) meter.old) }
 {
     let mut next = at;
-    let mut last = MAX_WORD; // no atom: an Option is one test more for each literal
+    let mut last: Option<u64> = None;
     let mut cursor = slots::start();
     while let Some((code, past)) = slots::next(slot, side, cursor) {
         cursor = past;
         let atom = code / 2;
-        if atom == last {
+        if last == Some(atom) {
             continue;
         }
         meter.tick()?;
         postings[next] = atom * MAX_ROWS + position;
         next += 1;
-        last = atom;
+        last = Some(atom);
     }
     Ok(next)
 }

@@ -3,7 +3,6 @@ pub mod Settling
 pub mod Placing
 pub mod Ways
 pub mod Rooms
-pub mod Paying
 pub mod Publishing
 pub mod Admitting
 pub mod Rising

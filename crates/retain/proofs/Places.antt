@@ -2,7 +2,9 @@
 use mathlib.Core.Path.{◌≡◌, refl, sym, ap, ap₂, ◌∙◌}
 use mathlib.Core.Bool.{Bool, true, false, ◌||◌}
 use mathlib.Core.List.{List, [], ◌∷◌}
-use mathlib.Core.Option.{Option, none, some}
+use mathlib.Core.Option as maybe
+use mathlib.Core.Option.{none, some}
+use Rattle.std.specs.Prelude.{Option, Some, None}
 use Prim.Native.Nat.{ℕ, suc, ◌+◌, ◌-◌, ◌≤◌, ◌<◌}
 use native.Mathlib.Nat.{add-zero, zero-add, add-suc, suc-add}
 use native.Mathlib.Omega.{arith}
@@ -16,11 +18,11 @@ use Rattle.model.specs.Records.{Entry, founded_rows}
 use Rattle.model.specs.Retention.{Examined, any_replaced, place_of, protects, victim_among, victim}
 use Rattle.retain_compare.specs.Passes.{examined_by}
 use Rattle.retain.specs.declared.Room.{Room}
-use Rattle.retain.specs.declared.Room.TheVariants.{After, First, Victim, Protected}
+use Rattle.retain.specs.declared.Room.TheVariants.{After, First, Victim}
 use Rattle.retain.specs.Places.{room_of}
 
 -- ---- the first position that is marked
-abbrev sought : Bool → ℕ → Option ℕ
+abbrev sought : Bool → ℕ → maybe.Option ℕ
 sought true n = some n
 sought false n = none
 
@@ -68,32 +70,32 @@ module _ (ws : List ℕ) (es : List Entry) where
       go false h = refl
 
   -- ---- the room by its tests
-  abbrev tests : Bool → Bool → Option ℕ → Room
+  abbrev tests : Bool → Bool → maybe.Option ℕ → Option Room
   tests a b x =
-      elim a as (λ k. Room) [
-        | true ↦ First (place_of ks)
-        | false ↦ elim b as (λ k. Room) [
-          | true ↦ After
-          | false ↦ elim x as (λ k. Room) [ none ↦ Protected | some v ↦ Victim v ]
+      elim a as (λ k. Option Room) [
+        | true ↦ Some (First (place_of ks))
+        | false ↦ elim b as (λ k. Option Room) [
+          | true ↦ Some After
+          | false ↦ elim x as (λ k. Option Room) [ none ↦ None | some v ↦ Some (Victim v) ]
         ]
       ]
 
   module _ (l : LearningLimits) (rows : ℕ) (e : length es ≡ rows) where
-    tested : {a b : Bool} {x : Option ℕ} → any_replaced ks ≡ a → ltb (length es) l.tier_rows ≡ b → victim l es ≡ x
+    tested : {a b : Bool} {x : maybe.Option ℕ} → any_replaced ks ≡ a → ltb (length es) l.tier_rows ≡ b → victim l es ≡ x
         → tests a b x ≡ room_of l es ks
     unfolding room_of
     tested {a} {b} p q s = ap (tests a b) (sym s) ∙ ap₂ (λ (x y : Bool). tests x y (victim l es)) (sym p) (sym q)
 
-    pub room-first : (t : ℕ) → some t ≡ next_from rows ws 0 → First t ≡ room_of l es ks
-    room-first t q = let a = next-some rows t e q in ap First a.1 ∙ tested a.0 refl refl
+    pub room-first : (t : ℕ) → some t ≡ next_from rows ws 0 → Some (First t) ≡ room_of l es ks
+    room-first t q = let a = next-some rows t e q in ap (λ (n : ℕ). Some (First n)) a.1 ∙ tested a.0 refl refl
 
     module _ (q : none ≡ next_from rows ws 0) where
-      pub room_after : rows < l.tier_rows → After ≡ room_of l es ks
+      pub room_after : rows < l.tier_rows → Some After ≡ room_of l es ks
       room_after h = tested (next-none rows e q) (lt-ltb (length es) l.tier_rows (omega arith)) refl
 
       -- the tier is full: the victim, if there is one
       pub room-full : l.tier_rows ≤ rows → (founded : ℕ) → founded ≡ founded_rows es
-          → (x : Option ℕ) → x ≡ victim_among (leb founded l.founded_floor) es → tests false false x ≡ room_of l es ks
+          → (x : maybe.Option ℕ) → x ≡ victim_among (leb founded l.founded_floor) es → tests false false x ≡ room_of l es ks
       unfolding victim protects
       room-full h founded c x w =
           tested (next-none rows e q) (le-ltb (length es) l.tier_rows (omega arith))

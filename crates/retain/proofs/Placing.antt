@@ -23,7 +23,7 @@ use Rattle.tier.specs.Tier.{kept_by, closed_up}
 use Rattle.tier.proofs.Buffer.{put-slot}
 use Rattle.retain_keep.proofs.Placing.{set_all}
 use Rattle.retain.specs.declared.Room.{Room}
-use Rattle.retain.specs.declared.Room.TheVariants.{After, First, Victim, Protected}
+use Rattle.retain.specs.declared.Room.TheVariants.{After, First, Victim}
 use Rattle.retain.specs.Places.{placed_by, Fits, slot_put}
 
 -- ---- what holds of every entry, after a change
@@ -65,7 +65,6 @@ module _ (g : Entry → Bool) where
   all_placed After f es e a b = all_snoc es e a b
   all_placed (First t) f es e a b = all_closed f t (set es t e) (set_all g t e es b a)
   all_placed (Victim v) f es e a b = set_all g v e es b a
-  all_placed Protected f es e a b = a
 
 -- ---- how many there are
 kept-short : (f : ℕ → Bool) (i : ℕ) (es : List Entry) → length (kept_by f i es) ≤ length es
@@ -93,7 +92,6 @@ pub placed-fit : (r : Room) (f : ℕ → Bool) (es : List Entry) (e : Entry) (ti
 placed-fit After f es e tier h k = let a = length-append es (e ∷ []) in omega arith
 placed-fit (First t) f es e tier h k = let a = closed-short f t (set es t e) in let b = length-set es t e in omega arith
 placed-fit (Victim v) f es e tier h k = let b = length-set es v e in omega arith
-placed-fit Protected f es e tier h k = h
 
 -- ---- the slots of such entries
 module _ (rows : ℕ) (ws : List ℕ) (k : Held max_atoms rows ws) (e : Entry) (v : is_row max_atoms e.row ≡ true) where

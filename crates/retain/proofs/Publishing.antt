@@ -5,6 +5,7 @@ use mathlib.Core.List.{List, []}
 use Prim.Native.Nat.{ℕ, ◌≤◌}
 use native.Mathlib.Omega.{arith}
 use lib.ListN.{length}
+use Rattle.std.specs.Prelude.{Some}
 use Rattle.lists.specs.Lists.{pad, zeroed}
 use Rattle.lists.proofs.Pads.{pad-zeroed}
 use Rattle.words.specs.Literal.{code_bits}
@@ -79,7 +80,7 @@ module _ (h : Header) (slots postings : List ℕ) (a : Accepted h slots postings
 -- the place that was found for a proposal over the ledger's atoms
 pub placing-of : (h : Header) (slots postings p : List ℕ) (f : ℕ → Bool) (room : Room) → Accepted h slots postings → Proposed p
     → is_row h.limits.atoms (row_in p) ≡ true
-    → room ≡ room_of h.limits (entries_in h.rows slots) (examined_by f 0 (entries_in h.rows slots)) → Placing room h.rows slots p
+    → Some room ≡ room_of h.limits (entries_in h.rows slots) (examined_by f 0 (entries_in h.rows slots)) → Placing room h.rows slots p
 placing-of h slots postings p f room a o r e =
     let es = entries_in h.rows slots in
     record {

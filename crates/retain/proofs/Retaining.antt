@@ -2,9 +2,14 @@
 use mathlib.Core.Path.{◌≡◌, refl, sym, ap, ◌∙◌}
 use mathlib.Core.Bool.{Bool, true, false}
 use mathlib.Core.List.{List}
+use Rattle.std.specs.Prelude.{Option, Some, None, Result, Ok, Err}
 use Prim.Native.Nat.{ℕ, ◌+◌, ◌≤◌}
-use Rattle.meter.specs.declared.Meter.{Meter}
-use Rattle.meter.specs.declared.Account.{Account}
+use native.Mathlib.Omega.{arith}
+use Rattle.meter.specs.declared.Purse.{Purse}
+use Rattle.meter.specs.declared.Unpaid.{Unpaid}
+use Rattle.meter.specs.declared.Unpaid.TheVariants.{Declined, Stopped}
+use Rattle.meter.specs.Results.{unpaid_end}
+use Rattle.meter.proofs.Payments.{unpaid-more}
 use Rattle.meter.specs.Read.{Read}
 use Rattle.meter.specs.Read as read
 use Rattle.meter.specs.Meter.{and_then, pay}
@@ -13,22 +18,21 @@ use Rattle.model.specs.declared.Header.{Header}
 use Rattle.model.specs.declared.Source.{Source}
 use Rattle.model.specs.Records.{Row, Entry, Ledger, is_row, max_outputs}
 use Rattle.model.specs.Slots.{entries_in}
-use Rattle.model.specs.Retention.{Pass, passed, Placement, subsumed, protected, placing, evicting, Stops, Declines, Subsumes, first_pass}
+use Rattle.model.specs.Retention.{Pass, passed, Placement, subsumed, protected, placing, evicting, Subsumes, first_pass}
 use Rattle.model.specs.Retention.{placement_after, placement, place_reads, retain_reads, carry_out, retained, retain}
 use Rattle.model.specs.Refusals.{Lent, ledger_in}
 use Rattle.contents.specs.Lent.{lent}
 use Rattle.contents.specs.Accepted.{Accepted}
-use Rattle.retain_compare.specs.declared.Comparison.{Comparison}
-use Rattle.retain_compare.specs.declared.Compared.TheVariants as compared
 use Rattle.retain_compare.specs.Passes.{examined_by}
-use Rattle.retain_compare.specs.Turns.{comparison, both_passes, compare_reads}
+use Rattle.retain_compare.specs.Turns.{comparison, comparison_end, both_passes, compare_reads}
 use Rattle.retain_compare.proofs.Outcomes.{compares-replaces, compares-subsumed, compares-declined, compares-stopped}
-use Rattle.retain.specs.Ends.{End, end_of, carried, admit_end}
-use Rattle.retain.proofs.Admitting.{as-declined, as-stopped}
+use Rattle.retain.specs.declared.Kept.{Kept}
+use Rattle.retain.specs.declared.Kept.TheVariants.{Subsumed}
+use Rattle.retain.specs.Ends.{End, retain_end, end_of, carried, admit_end}
+use Rattle.retain.proofs.Admitting.{as-untaken}
 use Rattle.contents.proofs.Lending.{accepted-lent}
-use Rattle.retain.proofs.Rising.{both-placement_after, both-row}
+use Rattle.retain.proofs.Rising.{both-placement_after}
 
--- ---- no mark at the start
 -- ---- the definition, the two passes apart
 as-carried : (l : Ledger) (most hits : ℕ) (source : Source) (t : Row) (r : Read)
     → carried l t hits source (placement l.header.limits most t l.entries) r ≡ retained l most hits source t r
@@ -49,7 +53,7 @@ other_row l t u hits source (placing ks p) (read.Paid a m) = refl
 other_row l t u hits source (evicting v p) (read.Paid a m) = refl
 
 module _ (h : Header) (slots postings : List ℕ) (acc : Accepted h slots postings) (p : Row) (most hits : ℕ)
-    (source : Source) (a : Account) (m : Meter) where
+    (source : Source) (w : Purse) where
   abbrev s : Lent
   s = lent h slots postings
 
@@ -66,55 +70,59 @@ module _ (h : Header) (slots postings : List ℕ) (acc : Accepted h slots postin
   abbrev ended : Read → End
   ended r = end_of (carried (ledger_in s) p hits source v (and_then r (pay (place_reads es v))))
 
-  whole : ended (pay (compare_reads most p es) a m) ≡ end_of (retain (ledger_in s) most hits source p (read.Paid a m))
+  abbrev whole : End
+  whole = end_of (retain (ledger_in s) most hits source p (read.Paid w.account w.meter))
+
+  abbrev n : ℕ
+  n = compare_reads most p es
+
+  all : end_of (carried (ledger_in s) p hits source v (pay (n + place_reads es v) w.account w.meter)) ≡ whole
   unfolding retain retain_reads compare_reads ledger_in
-  whole =
-      ap (λ (r : Read). end_of (carried (ledger_in s) p hits source v r)) (sym (pay-add (compare_reads most p es) (place_reads es v) a m))
-      ∙ ap end_of (as-carried (ledger_in s) most hits source p (pay (compare_reads most p es + place_reads es v) a m))
+  all = ap end_of (as-carried (ledger_in s) most hits source p (pay (n + place_reads es v) w.account w.meter))
 
-  module _ {w : Comparison} (e : w ≡ comparison x (pay (compare_reads most p es) a m)) where
-    by_read : {r : Read} → pay (compare_reads most p es) a m ≡ r → ended r ≡ end_of (retain (ledger_in s) most hits source p (read.Paid a m))
-    by_read q = ap ended (sym q) ∙ whole
+  by_read : {r : Read} → r ≡ pay n w.account w.meter → ended r ≡ whole
+  by_read q =
+      ap ended q
+      ∙ ap (λ (r : Read). end_of (carried (ledger_in s) p hits source v r)) (sym (pay-add n (place_reads es v) w.account w.meter)) ∙ all
 
-    pub retain-declined : w.compared ≡ compared.Declined
-        → record { outcome = Declines; ledger = s; account = w.account; meter = w.meter }
-        ≡ end_of (retain (ledger_in s) most hits source p (read.Paid a m))
-    retain-declined y =
-        as-declined h slots postings acc (λ j. false) p hits source a m w.account w.meter
-        ∙ by_read (compares-declined x (pay (compare_reads most p es) a m) e y)
+  -- how the comparison ends, v beside the purse b after it
+  abbrev Compares : Result (Option ℕ) Unpaid → Purse → Type 0
+  Compares v b = comparison_end v b ≡ comparison x (pay n w.account w.meter)
 
-    pub retain-stopped : w.compared ≡ compared.Stopped
-        → record { outcome = Stops; ledger = s; account = w.account; meter = w.meter }
-        ≡ end_of (retain (ledger_in s) most hits source p (read.Paid a m))
-    retain-stopped y =
-        as-stopped h slots postings acc (λ j. false) p hits source a m w.account w.meter
-        ∙ by_read (compares-stopped x (pay (compare_reads most p es) a m) e y)
+  unpaid-after : (u : Unpaid) (b : Purse) → Compares (Err u) b → unpaid_end u b ≡ pay n w.account w.meter
+  unpaid-after Declined b q = sym (compares-declined x (pay n w.account w.meter) q refl)
+  unpaid-after Stopped b q = sym (compares-stopped x (pay n w.account w.meter) q refl)
 
-    -- a row subsumes it
-    pub retain-subsumed : (n : ℕ) → w.compared ≡ compared.Subsumed n
-        → record { outcome = Subsumes n; ledger = s; account = w.account; meter = w.meter }
-        ≡ end_of (retain (ledger_in s) most hits source p (read.Paid a m))
-    unfolding carry_out place_reads placement placement_after
-    retain-subsumed n y =
-        let k = compares-subsumed x (pay (compare_reads most p es) a m) e y in
-        let f : v ≡ subsumed n = ap (placement_after h.limits es) k.0 in
-        ap {B = End} (λ (z : Lent). record { outcome = Subsumes n; ledger = z; account = w.account; meter = w.meter })
-        (accepted-lent h slots postings acc)
-        ∙ ap (λ (r : Read). end_of (carried (ledger_in s) p hits source (subsumed n) r)) (sym (pay-none w.account w.meter))
-        ∙ ap (λ (u : Placement). end_of (carried (ledger_in s) p hits source u (pay (place_reads es u) w.account w.meter))) (sym f)
-        ∙ by_read k.1
+  pub retain-unpaid : (r : Result Kept Unpaid) (b : Purse) {u : Unpaid} → r ≡ Err u → Compares (Err u) b
+      → retain_end r h slots postings b ≡ whole
+  retain-unpaid r b {u} d q =
+      let more : n ≤ n + place_reads es v = omega arith in
+      rw d (as-untaken h slots postings acc (λ j. false) p hits source w v u b
+      ∙ ap (λ (y : Read). end_of (carried (ledger_in s) p hits source v y))
+      (unpaid-more n (n + place_reads es v) w.account w.meter u b more (unpaid-after u b q)) ∙ all)
 
-    -- none does
-    module _ (f : ℕ → Bool) (q : Row) (b : both_passes x ≡ passed (examined_by f 0 es) q) where
-      pub retain-row : most ≤ max_outputs → is_row h.limits.atoms p ≡ true → is_row h.limits.atoms q ≡ true
-      retain-row l r = both-row h most p es l r acc.entries b
+  -- a row subsumes it
+  pub retain-subsumed : {found : Option ℕ} (b : Purse) → Compares (Ok found) b → {at : ℕ} → found ≡ Some at
+      → retain_end (Ok (Subsumed at)) h slots postings b ≡ whole
+  unfolding carry_out place_reads placement placement_after
+  retain-subsumed {found} b q {at} y =
+      let k = compares-subsumed x (pay n w.account w.meter) (ap (λ (o : Option ℕ). comparison_end (Ok o) b) (sym y) ∙ q) refl in
+      let f : v ≡ subsumed at = ap (placement_after h.limits es) k.0 in
+      ap {B = End} (λ (z : Lent). record { outcome = Subsumes at; ledger = z; account = b.account; meter = b.meter })
+      (accepted-lent h slots postings acc)
+      ∙ ap (λ (r : Read). end_of (carried (ledger_in s) p hits source (subsumed at) r)) (sym (pay-none b.account b.meter))
+      ∙ ap (λ (u : Placement). end_of (carried (ledger_in s) p hits source u (pay (place_reads es u) b.account b.meter))) (sym f)
+      ∙ by_read (sym k.1)
 
-      pub retain-admits : w.compared ≡ compared.Replaces → {z : End} → z ≡ admit_end s f q hits source w.account w.meter
-          → z ≡ end_of (retain (ledger_in s) most hits source p (read.Paid a m))
-      unfolding placement ledger_in
-      retain-admits y g =
-          g
-          ∙ ap (λ (u : Placement). end_of (carried (ledger_in s) q hits source u (pay (place_reads es u) w.account w.meter)))
-          (both-placement_after h.limits es x b)
-          ∙ other_row (ledger_in s) q p hits source v (pay (place_reads es v) w.account w.meter)
-          ∙ by_read (compares-replaces x (pay (compare_reads most p es) a m) e y)
+  -- none does
+  pub retain-admits : {found : Option ℕ} (b : Purse) → Compares (Ok found) b → found ≡ None
+      → (f : ℕ → Bool) (q : Row) → both_passes x ≡ passed (examined_by f 0 es) q
+      → {z : End} → z ≡ admit_end s f q hits source b.account b.meter → z ≡ whole
+  unfolding placement ledger_in
+  retain-admits {found} b c y f q d g =
+      let k = compares-replaces x (pay n w.account w.meter) (ap (λ (o : Option ℕ). comparison_end (Ok o) b) (sym y) ∙ c) refl in
+      g
+      ∙ ap (λ (u : Placement). end_of (carried (ledger_in s) q hits source u (pay (place_reads es u) b.account b.meter)))
+      (both-placement_after h.limits es x d)
+      ∙ other_row (ledger_in s) q p hits source v (pay (place_reads es v) b.account b.meter)
+      ∙ by_read (sym k)

@@ -2,7 +2,9 @@
 use mathlib.Core.Path.{◌≡◌, refl, sym, ap, ◌∙◌, subst}
 use mathlib.Core.Bool.{Bool, true, false, ◌||◌, true≢false, false≢true}
 use mathlib.Core.List.{List, [], ◌∷◌, ◌++◌}
-use mathlib.Core.Option.{Option, none, some}
+use mathlib.Core.Option as maybe
+use mathlib.Core.Option.{none, some}
+use Rattle.std.specs.Prelude.{Option, Some, None}
 use Prim.Native.Nat.{ℕ, suc, ◌+◌, ◌<◌}
 use native.Mathlib.Nat.{add-zero, zero-add, add-suc, suc-add}
 use native.Mathlib.Numerals.{add-one}
@@ -20,25 +22,25 @@ use Rattle.model.proofs.Entries.{victim-held}
 use Rattle.tier.specs.Tier.{kept_by, closed_up}
 use Rattle.retain_compare.specs.Passes.{examined_by}
 use Rattle.retain.specs.declared.Room.{Room}
-use Rattle.retain.specs.declared.Room.TheVariants.{After, First, Victim, Protected}
-use Rattle.retain.specs.Places.{room_of, verdict_of, room_reads, placed_by, Fits}
+use Rattle.retain.specs.declared.Room.TheVariants.{After, First, Victim}
+use Rattle.retain.specs.Places.{room_of, verdict_of, verdict_or, room_reads, placed_by, Fits}
 
 -- ---- the place decides the verdict
 pub placement_by-room : (l : LearningLimits) (es : List Entry) (ks : List Examined) (p : Row)
-    → placement_by l es ks p ≡ verdict_of (room_of l es ks) ks p
+    → placement_by l es ks p ≡ verdict_or (room_of l es ks) ks p
 unfolding placement_by room_of
 placement_by-room l es ks p = go (any_replaced ks) (ltb (length es) l.tier_rows) (victim l es)
   where
-    go : (a b : Bool) (x : Option ℕ)
+    go : (a b : Bool) (x : maybe.Option ℕ)
         → (elim (a || b) as (λ k. Placement) [
           | true ↦ placing ks p
           | false ↦ elim x as (λ k. Placement) [ none ↦ protected | some v ↦ evicting v p ]
         ])
-        ≡ verdict_of (elim a as (λ k. Room) [
-          | true ↦ First (place_of ks)
-          | false ↦ elim b as (λ k. Room) [
-            | true ↦ After
-            | false ↦ elim x as (λ k. Room) [ none ↦ Protected | some v ↦ Victim v ]
+        ≡ verdict_or (elim a as (λ k. Option Room) [
+          | true ↦ Some (First (place_of ks))
+          | false ↦ elim b as (λ k. Option Room) [
+            | true ↦ Some After
+            | false ↦ elim x as (λ k. Option Room) [ none ↦ None | some v ↦ Some (Victim v) ]
           ]
         ]) ks p
     go true b x = refl
@@ -51,19 +53,22 @@ abbrev pub Told : LearningLimits → List Entry → List Examined → Room → T
 Told l es ks After = (any_replaced ks ≡ false) × (length es < l.tier_rows)
 Told l es ks (First t) = (any_replaced ks ≡ true) × (t ≡ place_of ks)
 Told l es ks (Victim v) = victim l es ≡ some v
-Told l es ks Protected = Unit {0}
 
-pub room-told : (l : LearningLimits) (es : List Entry) (ks : List Examined) {r : Room} → r ≡ room_of l es ks → Told l es ks r
+abbrev ToldOr : LearningLimits → List Entry → List Examined → Option Room → Type 0
+ToldOr l es ks None = Unit {0}
+ToldOr l es ks (Some r) = Told l es ks r
+
+pub room-told : (l : LearningLimits) (es : List Entry) (ks : List Examined) {r : Room} → Some r ≡ room_of l es ks → Told l es ks r
 unfolding room_of
 room-told l es ks {r} e =
-    subst (Told l es ks) (sym e) (go (any_replaced ks) (ltb (length es) l.tier_rows) (victim l es) refl refl refl)
+    subst (ToldOr l es ks) (sym e) (go (any_replaced ks) (ltb (length es) l.tier_rows) (victim l es) refl refl refl)
   where
-    go : (a b : Bool) (x : Option ℕ) → any_replaced ks ≡ a → ltb (length es) l.tier_rows ≡ b → victim l es ≡ x
-        → Told l es ks (elim a as (λ k. Room) [
-          | true ↦ First (place_of ks)
-          | false ↦ elim b as (λ k. Room) [
-            | true ↦ After
-            | false ↦ elim x as (λ k. Room) [ none ↦ Protected | some v ↦ Victim v ]
+    go : (a b : Bool) (x : maybe.Option ℕ) → any_replaced ks ≡ a → ltb (length es) l.tier_rows ≡ b → victim l es ≡ x
+        → ToldOr l es ks (elim a as (λ k. Option Room) [
+          | true ↦ Some (First (place_of ks))
+          | false ↦ elim b as (λ k. Option Room) [
+            | true ↦ Some After
+            | false ↦ elim x as (λ k. Option Room) [ none ↦ None | some v ↦ Some (Victim v) ]
           ]
         ])
     go true b x p q r = (p, refl)
@@ -88,7 +93,6 @@ pub room_fits : (l : LearningLimits) (f : ℕ → Bool) (es : List Entry) (r : R
 room_fits l f es After t = t.1
 room_fits l f es (First t) k = subst (λ (n : ℕ). n < length es) (sym k.1) (first-inside f 0 es k.0)
 room_fits l f es (Victim v) k = victim-held l es v k
-room_fits l f es Protected t = tt
 
 -- ---- the rows after it
 kept_by_lem : (f : ℕ → Bool) (i : ℕ) (es : List Entry) → kept (examined_by f i es) ≡ kept_by f i es
@@ -163,10 +167,9 @@ module _ (f : ℕ → Bool) (es : List Entry) (e : Entry) where
       ∙ ap (λ (n : ℕ). take (suc t) (set es t e) ++ kept_by f n (drop (suc t) (set es t e))) (zero-add (suc t))
       ∙ ap (λ (n : ℕ). take n (set es t e) ++ kept_by f n (drop n (set es t e))) (sym (add-one t))
 
-pub place-reads : (l : LearningLimits) (es : List Entry) (ks : List Examined) (p : Row) (r : Room) → (r ≡ Protected → ⊥) → Told l es ks r
+pub place-reads : (l : LearningLimits) (es : List Entry) (ks : List Examined) (p : Row) (r : Room) → Told l es ks r
     → place_reads es (verdict_of r ks p) ≡ prepare_reads p + room_reads r (length es)
 unfolding place_reads
-place-reads l es ks p After n t = ap (λ (b : Bool). prepare_reads p + (elim b as (λ k. ℕ) [ true ↦ length es | false ↦ 0 ])) t.0
-place-reads l es ks p (First i) n t = ap (λ (b : Bool). prepare_reads p + (elim b as (λ k. ℕ) [ true ↦ length es | false ↦ 0 ])) t.0
-place-reads l es ks p (Victim v) n t = refl
-place-reads l es ks p Protected n t = absurd (n refl)
+place-reads l es _ p After t = ap (λ (b : Bool). prepare_reads p + (elim b as (λ k. ℕ) [ true ↦ length es | false ↦ 0 ])) t.0
+place-reads l es _ p (First i) t = ap (λ (b : Bool). prepare_reads p + (elim b as (λ k. ℕ) [ true ↦ length es | false ↦ 0 ])) t.0
+place-reads l es _ p (Victim v) t = refl

@@ -17,7 +17,7 @@ use Rattle.tier.specs.Tier.{closed_up}
 use Rattle.model.proofs.Slots.{entries-length}
 use Rattle.row_write.specs.Forms.{new_entry}
 use Rattle.retain.specs.declared.Room.{Room}
-use Rattle.retain.specs.declared.Room.TheVariants.{After, First, Victim, Protected}
+use Rattle.retain.specs.declared.Room.TheVariants.{After, First, Victim}
 use Rattle.retain.specs.Places.{placed_by, Fits, Placing, slot_put}
 use Rattle.retain.proofs.Placing.{all_placed, put-held, put-after}
 
@@ -66,9 +66,6 @@ module _ (room : Room) (rows : ℕ) (slots p : List ℕ) (k : Placing room rows 
     pub place-victim : (v : ℕ) (after : List ℕ) → room ≡ Victim v → after ≡ slot_put v e slots → Placed room after rows
     place-victim v after q h =
         as-placed after rows q (h ∙ put-held rows slots k.held e k.row v (fits-as q), sym (length-set es v e ∙ count))
-
-    pub place_none : room ≡ Protected → Placed room slots rows
-    place_none q = as-placed slots rows q (sym k.held.same, sym count)
 
     -- the first replaced row is overwritten, then the later ones close up
     module _ (t : ℕ) (q : room ≡ First t) (mid : List ℕ) (h : mid ≡ slot_put t e slots) where

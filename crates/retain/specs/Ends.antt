@@ -1,20 +1,23 @@
 -- 01, module 5, Retention: how it ends, from what the code gives back and leaves in the lent slices. Assumes nothing.
-use Rattle.std.specs.Prelude.{Bool, List, ℕ}
+use Rattle.std.specs.Prelude.{Bool, List, ℕ, Result, Ok, Err}
 use Rattle.meter.specs.declared.Meter.{Meter}
 use Rattle.meter.specs.declared.Account.{Account}
+use Rattle.meter.specs.declared.Purse.{Purse}
+use Rattle.meter.specs.declared.Unpaid.{Unpaid}
+use Rattle.meter.specs.declared.Unpaid.TheVariants.{Declined, Stopped}
 use Rattle.meter.specs.Read.{Read}
 use Rattle.meter.specs.Read as read
 use Rattle.meter.specs.Meter.{pay}
+use Rattle.model.specs.declared.Header.{Header}
 use Rattle.model.specs.declared.Source.{Source}
 use Rattle.model.specs.Records.{Row, Ledger}
-use Rattle.model.specs.Retention.{Placement, Outcome, Stops, Declines, Subsumes, Adds, Retention as Kept, untaken, carry_out, placement_by}
+use Rattle.model.specs.Retention.{Placement, Outcome, Stops, Declines, Subsumes, Adds, Retention, untaken, carry_out, placement_by}
 use Rattle.model.specs.Retention.{place_reads}
 use Rattle.model.specs.Refusals.{Lent, ledger_in, lent_of}
 use Rattle.contents.specs.Lent.{lent}
 use Rattle.retain_compare.specs.Passes.{examined_by}
-use Rattle.retain.specs.declared.Retained.{Retained}
-use Rattle.retain.specs.declared.Retained.TheVariants.{Stopped, Declined, Subsumed, Added}
-use Rattle.retain.specs.declared.Retention.{Retention}
+use Rattle.retain.specs.declared.Kept.{Kept}
+use Rattle.retain.specs.declared.Kept.TheVariants.{Subsumed, Added}
 
 -- the answer, the ledger as it is lent, the account and the meter left
 pub record End : Type 0 where
@@ -23,22 +26,22 @@ pub record End : Type 0 where
   pub account : Account
   pub meter : Meter
 
-abbrev pub outcome_of : Retained → Outcome
-outcome_of Stopped = Stops
-outcome_of Declined = Declines
-outcome_of (Subsumed p) = Subsumes p
-outcome_of (Added p) = Adds p
+abbrev pub outcome_of : Result Kept Unpaid → Outcome
+outcome_of (Ok (Subsumed p)) = Subsumes p
+outcome_of (Ok (Added p)) = Adds p
+outcome_of (Err Declined) = Declines
+outcome_of (Err Stopped) = Stops
 
 -- of the code, and of the definition
-abbrev pub retain_end : Retention → List ℕ → List ℕ → End
-retain_end r slots postings = record
-    { outcome = outcome_of r.answer; ledger = lent r.header slots postings; account = r.account; meter = r.meter }
+abbrev pub retain_end : Result Kept Unpaid → Header → List ℕ → List ℕ → Purse → End
+retain_end r h slots postings p = record
+    { outcome = outcome_of r; ledger = lent h slots postings; account = p.account; meter = p.meter }
 
-abbrev pub end_of : Kept → End
+abbrev pub end_of : Retention → End
 end_of d = record { outcome = d.outcome; ledger = lent_of d.ledger; account = d.account; meter = d.meter }
 
 -- a verdict, once its reads are paid or not
-abbrev pub carried : Ledger → Row → ℕ → Source → Placement → Read → Kept
+abbrev pub carried : Ledger → Row → ℕ → Source → Placement → Read → Retention
 carried l t hits source v (read.Paid a m) = carry_out l t hits source a m v
 carried l t hits source v (read.Declined a m) = untaken Declines l a m
 carried l t hits source v (read.Stopped a m) = untaken Stops l a m

@@ -2,7 +2,7 @@
 -- none if rows <= founded_floor: Declined'; with 02, Eight, none if the floor protects the Founded rows and there is no Tip.
 -- 'A new row is written into its own slot alone; with replaced rows, the first is overwritten and the later ones close up.' Assumes
 -- nothing.
-use Rattle.std.specs.Prelude.{Bool, true, false, List, [], ◌∷◌, ◌++◌, ◌≡◌, ℕ, ◌+◌, ◌*◌, ◌<◌, ltb, length, set, take, drop}
+use Rattle.std.specs.Prelude.{Bool, true, false, Option, Some, None, List, [], ◌∷◌, ◌++◌, ◌≡◌, ℕ, ◌+◌, ◌*◌, ◌<◌, ltb, length, set, take, drop}
 use Rattle.std.proofs.Math.Option.{none, some}
 use Rattle.words.specs.Region.{max_atoms}
 use Rattle.model.specs.declared.LearningLimits.{LearningLimits}
@@ -13,16 +13,16 @@ use Rattle.slots.specs.Layout.{tier_of, Held}
 use Rattle.tier.specs.Tier.{closed_up}
 use Rattle.row_propose.specs.Proposed.{Proposed}
 use Rattle.retain.specs.declared.Room.{Room}
-use Rattle.retain.specs.declared.Room.TheVariants.{After, First, Victim, Protected}
+use Rattle.retain.specs.declared.Room.TheVariants.{After, First, Victim}
 
--- where a proposal goes that no row subsumes
-unfoldable pub room_of : LearningLimits → List Entry → List Examined → Room
+-- where a proposal goes that no row subsumes; None where the floor protects the rows
+unfoldable pub room_of : LearningLimits → List Entry → List Examined → Option Room
 room_of l es ks =
     elim (any_replaced ks) [
-      | true ↦ First (place_of ks)
+      | true ↦ Some (First (place_of ks))
       | false ↦ elim (ltb (length es) l.tier_rows) [
-        | true ↦ After
-        | false ↦ elim (victim l es) [ none ↦ Protected | some v ↦ Victim v ]
+        | true ↦ Some After
+        | false ↦ elim (victim l es) [ none ↦ None | some v ↦ Some (Victim v) ]
       ]
     ]
 
@@ -31,41 +31,39 @@ abbrev pub verdict_of : Room → List Examined → Row → Placement
 verdict_of After ks p = placing ks p
 verdict_of (First t) ks p = placing ks p
 verdict_of (Victim v) ks p = evicting v p
-verdict_of Protected ks p = protected
+
+abbrev pub verdict_or : Option Room → List Examined → Row → Placement
+verdict_or None ks p = protected
+verdict_or (Some r) ks p = verdict_of r ks p
 
 -- the reads before the first word is written: one a row where one is replaced or evicted
 abbrev pub room_reads : Room → ℕ → ℕ
 room_reads After rows = 0
 room_reads (First t) rows = rows
 room_reads (Victim v) rows = rows
-room_reads Protected rows = 0
 
 -- the rows after it, the marks of the replaced ones given by position
 abbrev pub placed_by : Room → (ℕ → Bool) → List Entry → Entry → List Entry
 placed_by After f es e = es ++ (e ∷ [])
 placed_by (First t) f es e = closed_up f t (set es t e)
 placed_by (Victim v) f es e = set es v e
-placed_by Protected f es e = es
 
 -- the position of the new row, and the count of evictions
 abbrev pub position_of : Room → ℕ → ℕ
 position_of After rows = rows
 position_of (First t) rows = t
 position_of (Victim v) rows = v
-position_of Protected rows = rows
 
 abbrev pub evicted_by : Room → ℕ → ℕ
 evicted_by After n = n
 evicted_by (First t) n = n
 evicted_by (Victim v) n = saturating_add n 1
-evicted_by Protected n = n
 
 -- there is such a place in a tier of so many rows
 abbrev pub Fits : Room → ℕ → ℕ → Type 0
 Fits After rows tier = rows < tier
 Fits (First t) rows tier = t < rows
 Fits (Victim v) rows tier = v < rows
-Fits Protected rows tier = Unit {0}
 
 -- what is asked before a row is placed
 pub record Placing (room : Room) (rows : ℕ) (slots p : List ℕ) : Type 0 where

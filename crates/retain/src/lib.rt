@@ -1,11 +1,12 @@
 // A row retained by a tier: its place, the rows that it replaces or evicts, and the ledger settled after it.
 #![tactic(auto)]
 
-ghost use Rattle.std.specs.Prelude.{◌≡◌, true, ℕ, ◌*◌, ◌+◌, ◌≤◌, ◌<◌, length, take, drop};
+ghost use Rattle.std.specs.Prelude.{◌≡◌, true, ℕ, ◌*◌, ◌+◌, ◌≤◌, ◌<◌, length, IfOk};
 ghost use Rattle.lists.specs.Lists.{zeroed};
 ghost use Rattle.words.specs.Region.{has, max_atoms};
 ghost use Rattle.model.specs.Slots.{slots_of, row_in, entries_in};
 ghost use Rattle.meter.specs.Meter.{pay};
+ghost use Rattle.meter.specs.Results.{read_end};
 ghost use Rattle.meter.specs.Read.{Paid};
 ghost use Rattle.model.specs.Rows.{prepare_reads};
 ghost use Rattle.model.specs.Records.{is_row, max_outputs, slot_words, posting_words, founded_rows};
@@ -21,20 +22,18 @@ ghost use Rattle.retain.specs.Places.{room_of, room_reads, placed_by, position_o
 ghost use Rattle.retain.specs.Ends.{retain_end, end_of, admit_end};
 
 use lists::fill_zero;
-use meter::{Account, Meter, Read, Verdict};
+use meter::{Purse, Unpaid};
 use model::{Header, LearningLimits, MAX_ROWS, SLOT_WORDS, Source};
-use retain_compare::{Compared, compare};
+use retain_compare::compare;
 use row_write::{Form, prepare, write_row};
 use words::{Found, WORD_BITS};
 
-// Where a proposal goes that no row subsumes: after all rows, into the first place that it replaces, into a victim's place, or nowhere,
-// because the floor protects the rows.
+// Where a proposal goes that no row subsumes: after all rows, into the first place that it replaces, or into a victim's place.
 #[derive(Clone, Copy)]
 pub enum Room {
     After,
     First(usize),
     Victim(usize),
-    Protected,
 }
 
 // The place for a proposal: that of the first row marked; else after all rows while the tier is not full; else the victim's, or none where
@@ -45,7 +44,7 @@ fn find_room(
     slots: &[u64],
     rows: usize,
     replaced: &[u64],
-) -> Room
+) -> Option<Room>
     requires fact_1 { Held max_atoms rows slots.now }
     requires fact_2 { founded ≡ founded_rows (entries_in rows slots.now) }
     ensures { result
@@ -53,16 +52,13 @@ fn find_room(
         (examined_by (has replaced.now) 0 (entries_in rows slots.now)) }
 {
     match words::next_from(rows as u64, replaced, 0) {
-        Found::At(first) => Room::First(first as usize),
+        Found::At(first) => Some(Room::First(first as usize)),
         Found::Nothing => {
             if (rows as u64) < limits.tier_rows {
-                return Room::After;
+                return Some(Room::After);
             }
-            let victim = tier::victim(slots, rows, founded <= limits.founded_floor);
-            match victim {
-                Some(at) => Room::Victim(at),
-                None => Room::Protected,
-            }
+            let victim = tier::victim(slots, rows, founded <= limits.founded_floor)?;
+            Some(Room::Victim(victim))
         }
     }
 }
@@ -145,7 +141,7 @@ fn write_at(
 
 // The proposal's row at its place: after all rows; over the first row that it replaces, the later ones that stay closed up;
 // or over the victim.
-// Gives how many rows there are then; where no place is, nothing changes.
+// Gives how many rows there are then.
 fn place(
     slots: &mut [u64],
     rows: usize,
@@ -180,7 +176,6 @@ fn place(
             write_at(slots, victim, p, form, hits, born, source);
             rows
         }
-        Room::Protected => rows,
     }
 }
 
@@ -190,9 +185,7 @@ fn room_reads(room: Room, rows: u64) -> u64
 {
     match room {
         Room::After => 0,
-        Room::First(_) => rows,
-        Room::Victim(_) => rows,
-        Room::Protected => 0,
+        Room::First(_) | Room::Victim(_) => rows,
     }
 }
 
@@ -204,7 +197,6 @@ fn position(room: Room, rows: u64) -> u64
         Room::After => rows,
         Room::First(first) => first as u64,
         Room::Victim(victim) => victim as u64,
-        Room::Protected => rows,
     }
 }
 
@@ -213,68 +205,28 @@ fn evictions(room: Room, evicted: u64) -> u64
     ensures { result ≡ evicted_by room evicted }
 {
     match room {
-        Room::After => evicted,
-        Room::First(_) => evicted,
+        Room::After | Room::First(_) => evicted,
         Room::Victim(_) => model::saturating_add(evicted, 1),
-        Room::Protected => evicted,
     }
 }
 
-// The form of a row, and how the reads before it is placed end.
-#[derive(Clone, Copy)]
-pub struct PaidForm {
-    pub read: Read,
-    pub form: Form,
-}
-
-// The reads of a proposal that comes to such a place: those of `prepare`, then those of the place.
-fn pay_place(room: Room, rows: u64, p: &[u64], account: Account, work: Meter) -> PaidForm
+// The form of a proposal that comes to such a place, once its reads are paid: those of `prepare`, then those of the place.
+fn pay_place(room: Room, rows: u64, p: &[u64], purse: &mut Purse) -> Result<Form, Unpaid>
     requires { Proposed p.now }
-    ensures { (result.read ≡ pay (prepare_reads (row_in p.now) + room_reads room rows) account work)
-        × (result.form ≡ form_of (row_in p.now)) }
+    ensures reads { read_end result purse.new
+        ≡ pay (prepare_reads (row_in p.now) + room_reads room rows) purse.old.account purse.old.meter }
+    ensures form { IfOk result (λ form. form ≡ form_of (row_in p.now)) }
 {
-    let prepared = prepare(p, account, work);
-    let form = prepared.form;
-    let judged = prepared.judged;
-    let verdict = judged.verdict;
-    let account = judged.account;
-    let meter = judged.meter;
-    match verdict {
-        Verdict::Yes => {
-            let read = account.pay_all(room_reads(room, rows), meter);
-            PaidForm { read, form }
-        }
-        Verdict::No => {
-            let read = Read::Paid(account, meter);
-            PaidForm { read, form }
-        }
-        Verdict::Declined => {
-            let read = Read::Declined(account, meter);
-            PaidForm { read, form }
-        }
-        Verdict::Stopped => {
-            let read = Read::Stopped(account, meter);
-            PaidForm { read, form }
-        }
-    }
+    let form = prepare(p, purse)?;
+    purse.pay_all(room_reads(room, rows))?;
+    Ok(form)
 }
 
-// What a retention comes to: a read not paid or the rows protected, a row at a position that subsumes the proposal, or its own position.
-#[derive(Clone, Copy)]
-pub enum Retained {
-    Stopped,
-    Declined,
+// What a retention comes to: a row at a position subsumes the proposal, or the proposal has its own position.
+#[derive(Clone, Copy, Debug, PartialEq, Eq)]
+pub enum Kept {
     Subsumed(u64),
     Added(u64),
-}
-
-// A retention, with the header, the account and the meter after it.
-#[derive(Clone, Copy)]
-pub struct Retention {
-    pub answer: Retained,
-    pub header: Header,
-    pub account: Account,
-    pub meter: Meter,
 }
 
 // The proposal's row in its place, and the ledger settled: the header after it.
@@ -316,22 +268,21 @@ fn add(
 // A proposal that no row subsumes comes to its place: Added and its position. Declined, and nothing changes, where there is none;
 // Declined or Stopped where a read before the first word is written is not paid.
 fn admit(
-    header: Header,
+    header: &mut Header,
     slots: &mut [u64],
     postings: &mut [u64],
     replaced: &[u64],
     p: &[u64],
     hits: u64,
     source: Source,
-    account: Account,
-    work: Meter,
-) -> Retention
-    requires fact_1 { Accepted header slots.old postings.old }
+    purse: &mut Purse,
+) -> Result<Kept, Unpaid>
+    requires fact_1 { Accepted header.old slots.old postings.old }
     requires fact_2 { Proposed p.now }
-    requires fact_3 { is_row header.limits.atoms (row_in p.now) ≡ true }
-    ensures { retain_end result slots.new postings.new
-        ≡ admit_end (lent header slots.old postings.old) (has replaced.now) (row_in p.now) hits
-        source account work }
+    requires fact_3 { is_row header.old.limits.atoms (row_in p.now) ≡ true }
+    ensures { retain_end result header.new slots.new postings.new purse.new
+        ≡ admit_end (lent header.old slots.old postings.old) (has replaced.now) (row_in p.now) hits
+        source purse.old.account purse.old.meter }
 {
     let room = find_room(
         header.limits,
@@ -340,101 +291,43 @@ fn admit(
         header.rows as usize,
         replaced,
     );
-    if let Room::Protected = room {
-        return Retention {
-            answer: Retained::Declined,
-            header,
-            account,
-            meter: work,
-        };
-    }
-    let fee = pay_place(room, header.rows, p, account, work);
-    let form = fee.form;
-    let read = fee.read;
-    match read {
-        Read::Paid(account, meter) => {
-            let at = position(room, header.rows);
-            let after = add(
-                header, slots, postings, room, replaced, p, form, hits, source,
-            );
-            Retention {
-                answer: Retained::Added(at),
-                header: after,
-                account,
-                meter,
-            }
-        }
-        Read::Declined(account, meter) => Retention {
-            answer: Retained::Declined,
-            header,
-            account,
-            meter,
-        },
-        Read::Stopped(account, meter) => Retention {
-            answer: Retained::Stopped,
-            header,
-            account,
-            meter,
-        },
-    }
+    let Some(room) = room else {
+        return Err(Unpaid::Declined);
+    };
+    let form = pay_place(room, header.rows, p, purse)?;
+    let at = position(room, header.rows);
+    let after = add(
+        *header, slots, postings, room, replaced, p, form, hits, source,
+    );
+    *header = after;
+    Ok(Kept::Added(at))
 }
 
 // A row retained by an accepted ledger, as the definition's `retain`: Subsumed and the position of a row that subsumes the proposal p;
 // Added and its position, with the outputs of the rows that join it, once all reads are paid; Declined where the rows are protected.
-// Where a read is not paid, Declined or Stopped, and no lent word changes. p is scratch afterwards.
+// Where a read is not paid, Declined or Stopped, and neither the header nor a lent word changes. p is scratch afterwards.
 pub fn retain(
-    header: Header,
+    header: &mut Header,
     slots: &mut [u64],
     postings: &mut [u64],
     p: &mut [u64],
     most: u64,
     hits: u64,
     source: Source,
-    account: Account,
-    work: Meter,
-) -> Retention
-    requires fact_1 { Accepted header slots.old postings.old }
+    purse: &mut Purse,
+) -> Result<Kept, Unpaid>
+    requires fact_1 { Accepted header.old slots.old postings.old }
     requires fact_2 { Proposed p.old }
-    requires fact_3 { is_row header.limits.atoms (row_in p.old) ≡ true }
+    requires fact_3 { is_row header.old.limits.atoms (row_in p.old) ≡ true }
     requires fact_4 { most ≤ max_outputs }
-    ensures { retain_end result slots.new postings.new
-        ≡ end_of (retain_of (ledger_in (lent header slots.old postings.old)) most hits source
-        (row_in p.old) (Paid account work)) }
+    ensures { retain_end result header.new slots.new postings.new purse.new
+        ≡ end_of (retain_of (ledger_in (lent header.old slots.old postings.old)) most hits source
+        (row_in p.old) (Paid purse.old.account purse.old.meter)) }
 {
     let mut replaced = [0u64; (MAX_ROWS / WORD_BITS) as usize];
-    let beside = compare(
-        slots,
-        header.rows as usize,
-        p,
-        most,
-        &mut replaced,
-        account,
-        work,
-    );
-    let compared = beside.compared;
-    let account = beside.account;
-    let meter = beside.meter;
-    match compared {
-        Compared::Replaces => admit(
-            header, slots, postings, &replaced, p, hits, source, account, meter,
-        ),
-        Compared::Subsumed(at) => Retention {
-            answer: Retained::Subsumed(at),
-            header,
-            account,
-            meter,
-        },
-        Compared::Declined => Retention {
-            answer: Retained::Declined,
-            header,
-            account,
-            meter,
-        },
-        Compared::Stopped => Retention {
-            answer: Retained::Stopped,
-            header,
-            account,
-            meter,
-        },
+    let found = compare(slots, header.rows as usize, p, most, &mut replaced, purse)?;
+    if let Some(at) = found {
+        return Ok(Kept::Subsumed(at));
     }
+    admit(header, slots, postings, &replaced, p, hits, source, purse)
 }

@@ -13,12 +13,14 @@ use Rattle.lists.specs.Lists.{below}
 use Rattle.words.specs.Region.{has, max_atoms}
 use Rattle.meter.specs.declared.Meter.{Meter}
 use Rattle.meter.specs.declared.Account.{Account}
-use Rattle.meter.specs.Judged.{Judged}
-use Rattle.meter.specs.Verdict.{Verdict}
-use Rattle.meter.specs.Verdict as verdict
+use Rattle.std.specs.Prelude.{Ok, Err, Some}
+use Rattle.meter.specs.declared.Purse.{Purse}
+use Rattle.meter.specs.declared.Unpaid.{Unpaid}
 use Rattle.meter.specs.Read.{Read}
 use Rattle.meter.specs.Read as read
 use Rattle.meter.specs.Meter.{and_then, pay}
+use Rattle.meter.specs.Results.{judged_end}
+use Rattle.meter.proofs.Payments.{unpaid-more, answered, unanswered}
 use Rattle.meter.proofs.Laws.{pay-add, pay-none}
 use Rattle.model.specs.Records.{Row, Entry, max_outputs}
 use Rattle.model.specs.Rows.{subsumes}
@@ -28,16 +30,15 @@ use Rattle.model.specs.Retention.{Examined, Pass, found, passed, noted, first_pa
 use Rattle.slots.proofs.Storing.{row-proposal}
 use Rattle.row_propose.specs.Proposed.{Proposed}
 use Rattle.slots.proofs.Holding.{no-entry}
-use Rattle.retain_compare.specs.declared.Comparison.{Comparison}
-use Rattle.retain_compare.specs.declared.Compared.{Compared as Ended}
-use Rattle.retain_compare.specs.declared.Compared.TheVariants as compared
+use Rattle.retain_compare.specs.Compared.{Comparison}
+use Rattle.retain_compare.specs.Compared as compared
 use Rattle.retain_compare.specs.Passes.{examined_by, resumed, row_reads, proposal_after}
-use Rattle.retain_compare.specs.Turns.{marked_if, WhereNo, comparison, WhereReplaces}
-use Rattle.retain_compare.proofs.Answers.{told-yes, told-no, told-declined, told-stopped}
+use Rattle.retain_compare.specs.Turns.{marked_if, comparison, comparison_end}
 use Rattle.retain_compare.proofs.Marking.{marked-length, marked-here, marked_other}
 use Rattle.retain_compare.proofs.Passing.{resumed-snoc, resumed-passed, resumed-found, examined-ext, examined-append}
 use Rattle.retain_compare.proofs.Passing.{examined-length, first_found, first_on, reads-found, reads_on}
-use Rattle.retain_compare.proofs.Joining.{Joins, Beside}
+use Rattle.retain_compare.proofs.Joining.{Joins, beside}
+use Rattle.retain_compare.proofs.Outcomes.{unpaid-compares}
 use Rattle.retain_compare.proofs.Rising.{proposed-after}
 
 -- ---- at the end
@@ -68,34 +69,12 @@ one_more f g i es b x l h e =
     (examined-ext g f (take i es) (λ j k. h j (omega arith))) (ap g z ∙ e)
     ∙ resumed-snoc (examined_by f 0 (take i es)) (record { replaced = b; entry = e₀ }) x
 
--- a read that is not paid ends every pass alike
-declined-is : (x : Pass) (a : Account) (m : Meter)
-    → record { compared = compared.Declined; account = a; meter = m } ≡ comparison x (read.Declined a m)
-declined-is (found n) a m = refl
-declined-is (passed ks p) a m = refl
-
-stopped-is : (x : Pass) (a : Account) (m : Meter)
-    → record { compared = compared.Stopped; account = a; meter = m } ≡ comparison x (read.Stopped a m)
-stopped-is (found n) a m = refl
-stopped-is (passed ks p) a m = refl
-
 module _ (most : ℕ) (p₀ : Row) (es : List Entry) (old : List ℕ) (a₀ : Account) (m₀ : Meter) where
   abbrev whole : Pass
   whole = first_pass most p₀ es
 
   abbrev cost : Read
   cost = pay (first_reads most p₀ es) a₀ m₀
-
-  -- what the whole pass ends with
-  abbrev Told : List ℕ → List ℕ → Ended → Type 0
-  Told words marks c = WhereReplaces c ((whole ≡ passed (examined_by (has marks) 0 es) (row_in words)) × Proposed words)
-
-  abbrev pub Compares : Comparison → List ℕ → List ℕ → Type 0
-  Compares v words marks = (v ≡ comparison whole cost) × Told words marks v.compared
-
-  finish : (words marks : List ℕ) {q : Read} {u w : Comparison} → w ≡ u → cost ≡ q → u ≡ comparison whole q → Told words marks u.compared
-      → Compares w words marks
-  finish words marks k e f t = (k ∙ f ∙ sym (ap (comparison whole) e), subst (λ (z : Comparison). Told words marks z.compared) (sym k) t)
 
   -- position i is reached
   pub record Advance (words marks : List ℕ) (a : Account) (m : Meter) (i : ℕ) : Type 0 where
@@ -140,95 +119,85 @@ module _ (most : ℕ) (p₀ : Row) (es : List Entry) (old : List ℕ) (a₀ : Ac
       reads_here : pay (first_reads most p (entry ∷ rest)) a m ≡ cost
       reads_here = ap (λ (xs : List Entry). pay (first_reads most p xs) a m) (sym (drop-cons es i no-entry l)) ∙ s.reads
 
-      module _ (v : Judged) (words' after : List ℕ) (h : Beside most r p a m marks i v words' after) where
-        abbrev answer : Read
-        answer = pay (row_reads most r p) a m
+      -- the row subsumes the proposal
+      pub advance-found : (u : Purse) → judged_end (Ok true) u ≡ beside most r p a m → comparison_end (Ok (Some i)) u ≡ comparison whole cost
+      advance-found u h =
+          let b = answered (subsumes r p) true (row_reads most r p) a m u h in
+          let f : whole ≡ found i
+          = sym pass-here ∙ ap (resumed done) (first_found most p entry rest (sym b.0)) ∙ resumed-found done 0
+          ∙ ap found (add-zero (length done) ∙ examined-length (has marks) 0 (take i es) ∙ length-take-le i es (omega arith)) in
+          let q : cost ≡ read.Paid u.account u.meter = sym reads_here
+          ∙ ap (λ (n : ℕ). pay n a m) (reads-found most p entry rest (sym b.0)) ∙ sym b.1 in
+          sym (ap₂ comparison f q)
 
-        -- the row subsumes the proposal
-        pub advance-found : v.verdict ≡ verdict.Yes → (w : Comparison)
-            → w ≡ record { compared = compared.Subsumed i; account = v.account; meter = v.meter } → (x y : List ℕ) → Compares w x y
-        advance-found e w k x y =
-            let b = told-yes (subsumes r p) answer h.0 e in
-            let f : whole ≡ found i
-            = sym pass-here ∙ ap (resumed done) (first_found most p entry rest b.0) ∙ resumed-found done 0
-            ∙ ap found (add-zero (length done) ∙ examined-length (has marks) 0 (take i es) ∙ length-take-le i es (omega arith)) in
-            let q : cost ≡ read.Paid v.account v.meter = sym reads_here
-            ∙ ap (λ (n : ℕ). pay n a m) (reads-found most p entry rest b.0) ∙ b.1 in
-            finish x y k q (sym (ap (λ (z : Pass). comparison z (read.Paid v.account v.meter)) f)) tt
+      -- a read of this position is not paid: the later ones are not asked
+      abbrev later : ℕ
+      later = elim (subsumes r p) [ true ↦ 0 | false ↦ first_reads most (proposal_after most r p) rest ]
 
-        -- a read of this position is not paid: the later ones are not asked
-        abbrev later : ℕ
-        later = elim (subsumes r p) [ true ↦ 0 | false ↦ first_reads most (proposal_after most r p) rest ]
+      reads-split : first_reads most p (entry ∷ rest) ≡ row_reads most r p + later
+      reads-split = go (subsumes r p) refl
+        where
+          go : (b : Bool) → subsumes r p ≡ b
+              → first_reads most p (entry ∷ rest)
+              ≡ row_reads most r p + (elim b as (λ k. ℕ) [ true ↦ 0 | false ↦ first_reads most (proposal_after most r p) rest ])
+          go true e = reads-found most p entry rest e ∙ sym (add-zero (row_reads most r p))
+          go false e = reads_on most p entry rest e
 
-        reads-split : first_reads most p (entry ∷ rest) ≡ row_reads most r p + later
-        reads-split = go (subsumes r p) refl
-          where
-            go : (b : Bool) → subsumes r p ≡ b
-                → first_reads most p (entry ∷ rest)
-                ≡ row_reads most r p + (elim b as (λ k. ℕ) [ true ↦ 0 | false ↦ first_reads most (proposal_after most r p) rest ])
-            go true e = reads-found most p entry rest e ∙ sym (add-zero (row_reads most r p))
-            go false e = reads_on most p entry rest e
+      pub advance-unpaid : (e : Unpaid) (u : Purse) → judged_end (Err e) u ≡ beside most r p a m
+          → comparison_end (Err e) u ≡ comparison whole cost
+      advance-unpaid e u h =
+          unpaid-compares whole cost e u
+          (unpaid-more (row_reads most r p) (row_reads most r p + later) a m e u (omega arith)
+          (unanswered (subsumes r p) (row_reads most r p) a m e u h)
+          ∙ ap (λ (n : ℕ). pay n a m) (sym reads-split) ∙ reads_here)
 
-        unpaid : cost ≡ and_then answer (pay later)
-        unpaid = sym reads_here ∙ ap (λ (n : ℕ). pay n a m) reads-split ∙ pay-add (row_reads most r p) later a m
+      -- the pass goes on
+      pub advance-turn : (words' after : List ℕ) (v : Purse) → judged_end (Ok false) v ≡ beside most r p a m
+          → Joins most r p marks i words' after
+          → most ≤ max_outputs → below (2 * max_atoms) r.outputs ≡ true → i / 64 < length marks
+          → Advance words' after v.account v.meter (i + 1)
+      advance-turn words' after v h j small u w =
+          let b = answered (subsumes r p) false (row_reads most r p) a m v h in
+          let q : row_in words' ≡ proposal_after most r p = ap row_in j.0 ∙ row-proposal (proposal_after most r p) in
+          record {
+            far = omega arith;
+            proposed = subst Proposed (sym j.0) (proposed-after most r words small u s.proposed);
+            same = ap length j.1 ∙ marked-length (joins most r p) marks i ∙ s.same;
+            ahead = λ k n. subst (λ (x : List ℕ). has x k ≡ false) (sym j.1) (open' k n);
+            pass = ap₂ (λ (x : Row) (n : ℕ). resumed (examined_by (has after) 0 (take (i + 1) es)) (first_pass most x (drop n es))) q
+                (add-one i)
+                ∙ one_more (has marks) (has after) i es (joins most r p) (first_pass most (proposal_after most r p) rest) l
+                (λ k n. subst (λ (x : List ℕ). has x k ≡ has marks k) (sym j.1) (kept k n))
+                (ap (λ (x : List ℕ). has x i) j.1 ∙ here)
+                ∙ ap (resumed done) (sym (first_on most p entry rest (sym b.0)))
+                ∙ pass-here;
+            reads = ap₂ (λ (x : Row) (n : ℕ). pay (first_reads most x (drop n es)) v.account v.meter) q (add-one i)
+                ∙ sym (ap (λ (z : Read). and_then z (pay (first_reads most (proposal_after most r p) rest))) (sym b.1))
+                ∙ sym (pay-add (row_reads most r p) (first_reads most (proposal_after most r p) rest) a m)
+                ∙ ap (λ (n : ℕ). pay n a m) (sym (reads_on most p entry rest (sym b.0)))
+                ∙ reads_here;
+          }
+        where
+          kept : (k : ℕ) → k < i → has (marked_if (joins most r p) marks i) k ≡ has marks k
+          kept k n = let d : (k ≡ i → ⊥) = λ q. omega arith in marked_other marks i w (joins most r p) k d
 
-        pub advance-declined : v.verdict ≡ verdict.Declined → (w : Comparison)
-            → w ≡ record { compared = compared.Declined; account = v.account; meter = v.meter } → (x y : List ℕ) → Compares w x y
-        advance-declined e w k x y =
-            finish x y k (unpaid ∙ ap (λ (z : Read). and_then z (pay later)) (told-declined (subsumes r p) answer h.0 e))
-            (declined-is whole v.account v.meter) tt
+          open' : (k : ℕ) → i + 1 ≤ k → has (marked_if (joins most r p) marks i) k ≡ false
+          open' k n =
+              let d : (k ≡ i → ⊥) = λ q. omega arith in
+              let g : i ≤ k = omega arith in
+              marked_other marks i w (joins most r p) k d ∙ s.ahead k g
 
-        pub advance-stopped : v.verdict ≡ verdict.Stopped → (w : Comparison)
-            → w ≡ record { compared = compared.Stopped; account = v.account; meter = v.meter } → (x y : List ℕ) → Compares w x y
-        advance-stopped e w k x y =
-            finish x y k (unpaid ∙ ap (λ (z : Read). and_then z (pay later)) (told-stopped (subsumes r p) answer h.0 e))
-            (stopped-is whole v.account v.meter) tt
+          here : has (marked_if (joins most r p) marks i) i ≡ joins most r p
+          here = marked-here marks i w (joins most r p) ∙ ap (λ (x : Bool). x || joins most r p) (s.ahead i (omega arith))
 
-        -- the pass goes on
-        pub advance-turn : most ≤ max_outputs → below (2 * max_atoms) r.outputs ≡ true → i / 64 < length marks → v.verdict ≡ verdict.No
-            → Advance words' after v.account v.meter (i + 1)
-        advance-turn small u w e =
-            let b = told-no (subsumes r p) answer h.0 e in
-            let j : Joins most r p a m marks i words' after =
-            subst (λ (x : Verdict). WhereNo x (Joins most r p a m marks i words' after)) e h.1 in
-            let q : row_in words' ≡ proposal_after most r p = ap row_in j.0 ∙ row-proposal (proposal_after most r p) in
-            record {
-              far = omega arith;
-              proposed = subst Proposed (sym j.0) (proposed-after most r words small u s.proposed);
-              same = ap length j.1 ∙ marked-length (joins most r p) marks i ∙ s.same;
-              ahead = λ k n. subst (λ (x : List ℕ). has x k ≡ false) (sym j.1) (open' k n);
-              pass = ap₂ (λ (x : Row) (n : ℕ). resumed (examined_by (has after) 0 (take (i + 1) es)) (first_pass most x (drop n es))) q
-                  (add-one i)
-                  ∙ one_more (has marks) (has after) i es (joins most r p) (first_pass most (proposal_after most r p) rest) l
-                  (λ k n. subst (λ (x : List ℕ). has x k ≡ has marks k) (sym j.1) (kept k n))
-                  (ap (λ (x : List ℕ). has x i) j.1 ∙ here)
-                  ∙ ap (resumed done) (sym (first_on most p entry rest b.0))
-                  ∙ pass-here;
-              reads = ap₂ (λ (x : Row) (n : ℕ). pay (first_reads most x (drop n es)) v.account v.meter) q (add-one i)
-                  ∙ sym (ap (λ (z : Read). and_then z (pay (first_reads most (proposal_after most r p) rest))) b.1)
-                  ∙ sym (pay-add (row_reads most r p) (first_reads most (proposal_after most r p) rest) a m)
-                  ∙ ap (λ (n : ℕ). pay n a m) (sym (reads_on most p entry rest b.0))
-                  ∙ reads_here;
-            }
-          where
-            kept : (k : ℕ) → k < i → has (marked_if (joins most r p) marks i) k ≡ has marks k
-            kept k n = let d : (k ≡ i → ⊥) = λ q. omega arith in marked_other marks i w (joins most r p) k d
+    module _ (l : length es ≤ i) where
+      pub advance_end : whole ≡ passed (examined_by (has marks) 0 es) p
+      advance_end =
+          let t : take i es ≡ es = take_all i es l in
+          sym s.pass ∙ ap₂ (λ (xs : List Entry) (x : Pass). resumed (examined_by (has marks) 0 xs) x) t (end-pass most p i es l)
+          ∙ resumed-passed (examined_by (has marks) 0 es) p
 
-            open' : (k : ℕ) → i + 1 ≤ k → has (marked_if (joins most r p) marks i) k ≡ false
-            open' k n =
-                let d : (k ≡ i → ⊥) = λ q. omega arith in
-                let g : i ≤ k = omega arith in
-                marked_other marks i w (joins most r p) k d ∙ s.ahead k g
-
-            here : has (marked_if (joins most r p) marks i) i ≡ joins most r p
-            here = marked-here marks i w (joins most r p) ∙ ap (λ (x : Bool). x || joins most r p) (s.ahead i (omega arith))
-
-    pub advance-end : length es ≤ i → (w : Comparison) → w ≡ record { compared = compared.Replaces; account = a; meter = m }
-        → Compares w words marks
-    advance-end l w k =
-        let t : take i es ≡ es = take_all i es l in
-        let f : whole ≡ passed (examined_by (has marks) 0 es) p
-        = sym s.pass ∙ ap₂ (λ (xs : List Entry) (x : Pass). resumed (examined_by (has marks) 0 xs) x) t (end-pass most p i es l)
-        ∙ resumed-passed (examined_by (has marks) 0 es) p in
-        let q : cost ≡ read.Paid a m = sym s.reads ∙ ap (λ (n : ℕ). pay n a m) (end_reads most p i es l) ∙ pay-none a m in
-        finish words marks k q (sym (ap (λ (z : Pass). comparison z (read.Paid a m)) f)) (f, s.proposed)
+      pub advance-paid : record { compared = compared.Replaces; account = a; meter = m } ≡ comparison whole cost
+      advance-paid =
+          let q : cost ≡ read.Paid a m = sym s.reads ∙ ap (λ (n : ℕ). pay n a m) (end_reads most p i es l) ∙ pay-none a m in
+          sym (ap₂ comparison advance_end q)

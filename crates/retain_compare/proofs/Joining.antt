@@ -1,51 +1,32 @@
 -- 01, module 5: 'subsumption and union position by position'. One position of the first pass by the ways that it ends. Assumes nothing.
-use mathlib.Core.Path.{◌≡◌, refl, sym, ap, ◌∙◌, subst}
+use mathlib.Core.Path.{◌≡◌, refl, sym, ap, ◌∙◌}
 use mathlib.Core.Bool.{Bool, true, false}
 use mathlib.Core.List.{List}
 use Prim.Native.Nat.{ℕ, suc, ◌+◌}
 use native.Mathlib.Nat.{add-zero}
 use native.Mathlib.Omega.{arith}
 use Rattle.words.specs.Region.{mark}
+use Rattle.std.specs.Prelude.{Result, Ok, Err}
 use Rattle.meter.specs.declared.Meter.{Meter}
 use Rattle.meter.specs.declared.Account.{Account}
+use Rattle.meter.specs.declared.Purse.{Purse}
+use Rattle.meter.specs.declared.Unpaid.{Unpaid}
+use Rattle.meter.specs.declared.Unpaid.TheVariants as unpaid
 use Rattle.meter.specs.Judged.{Judged}
 use Rattle.meter.specs.Verdict.{Verdict}
 use Rattle.meter.specs.Verdict as verdict
 use Rattle.meter.specs.Read.{Read}
 use Rattle.meter.specs.Read as read
 use Rattle.meter.specs.Meter.{and_then, pay_one, pay, judged}
+use Rattle.meter.specs.Results.{unpaid_end, judged_end, verdict_of}
 use Rattle.meter.proofs.Laws.{pay-add}
+use Rattle.meter.proofs.Payments.{ask-one, ask-ended, paid-one, answered}
 use Rattle.model.specs.Records.{Row}
 use Rattle.model.specs.Rows.{subsumes, subsumes_reads}
 use Rattle.model.specs.Union.{joins, join_reads, grown}
 use Rattle.slots.specs.Layout.{proposal}
-use Rattle.meter.specs.declared.Payment.TheVariants.{Paid, Ended}
-use Rattle.meter.specs.Payment.{payment_of}
-use Rattle.meter.proofs.Payments.{ask-ended, ask-paid}
 use Rattle.retain_compare.specs.Passes.{row_reads, proposal_after}
-use Rattle.retain_compare.specs.Turns.{marked_if, WhereNo}
-use Rattle.retain_compare.proofs.Answers.{told-yes, told-no, told-declined, told-stopped, same-declined, same-stopped, answer-paid}
-
--- ---- what is told where a question says No
-pub no_all : (v : Verdict) {P : Type 0} → P → WhereNo v P
-no_all verdict.Yes p = tt
-no_all verdict.No p = p
-no_all verdict.Declined p = tt
-no_all verdict.Stopped p = tt
-
-pub no_other : (v : Verdict) (P : Type 0) → (v ≡ verdict.No → ⊥) → WhereNo v P
-no_other verdict.No P t = absurd (t refl)
-no_other verdict.Yes P t = tt
-no_other verdict.Declined P t = tt
-no_other verdict.Stopped P t = tt
-
-no-ended : (a : Account) (m : Meter) (P : Type 0) {j : Judged} → Ended j ≡ payment_of (pay_one a m) → WhereNo j.verdict P
-no-ended a m P {j} e = go (pay_one a m) e
-  where
-    go : (r : Read) → Ended j ≡ payment_of r → WhereNo j.verdict P
-    go (read.Paid p q) e = let z : ◌≡◌ {A = ℕ} 0 1 = cc in absurd (omega arith)
-    go (read.Declined p q) e = let f : j.verdict ≡ verdict.Declined = cc in subst (λ (v : Verdict). WhereNo v P) (sym f) tt
-    go (read.Stopped p q) e = let f : j.verdict ≡ verdict.Stopped = cc in subst (λ (v : Verdict). WhereNo v P) (sym f) tt
+use Rattle.retain_compare.specs.Turns.{marked_if}
 
 -- ---- a second question is asked where the first says No, and says No too
 abbrev on_no : Verdict → Judged → Judged → Judged
@@ -54,11 +35,10 @@ on_no verdict.No i j = j
 on_no verdict.Declined i j = i
 on_no verdict.Stopped i j = i
 
-not-no : (v : Verdict) (i j : Judged) → (v ≡ verdict.No → ⊥) → i ≡ on_no v i j
-not-no verdict.No i j t = absurd (t refl)
-not-no verdict.Yes i j t = refl
-not-no verdict.Declined i j t = refl
-not-no verdict.Stopped i j t = refl
+-- nor where the first is not answered
+unpaid-alone : (e : Unpaid) (i j : Judged) → i ≡ on_no (verdict_of (Err e)) i j
+unpaid-alone unpaid.Declined i j = refl
+unpaid-alone unpaid.Stopped i j = refl
 
 ask-other : (b : Bool) (n k : ℕ) (a : Account) (m : Meter)
     → let i : Judged = judged b (pay n a m) in
@@ -77,14 +57,10 @@ ask-other false n k a m = go (pay n a m) ∙ sym (ap (judged false) (pay-add n k
     go (read.Declined p q) = refl
     go (read.Stopped p q) = refl
 
-module _ (most : ℕ) (r p : Row) (a : Account) (m : Meter) (marks : List ℕ) (i : ℕ) where
-  -- the proposal and the marks after this position
+-- ---- the proposal and the marks after one position
+module _ (most : ℕ) (r p : Row) (marks : List ℕ) (i : ℕ) where
   abbrev pub Joins : List ℕ → List ℕ → Type 0
   Joins words after = (words ≡ proposal (proposal_after most r p)) × (after ≡ marked_if (joins most r p) marks i)
-
-  -- ---- the union
-  abbrev pub Joined : Judged → List ℕ → List ℕ → Type 0
-  Joined v words after = (v ≡ judged false (pay (join_reads most r p) a m)) × WhereNo v.verdict (Joins words after)
 
   joins-as : {b : Bool} (words after : List ℕ) → joins most r p ≡ b
       → words ≡ proposal (elim b as (λ k. Row) [ true ↦ grown r p | false ↦ p ]) → after ≡ marked_if b marks i → Joins words after
@@ -94,66 +70,55 @@ module _ (most : ℕ) (r p : Row) (a : Account) (m : Meter) (marks : List ℕ) (
     s ∙ ap (λ (b : Bool). marked_if b marks i) (sym e),
   )
 
-  module _ {j : Judged} (e : j ≡ judged (joins most r p) (pay (join_reads most r p) a m)) (words after : List ℕ) where
-    pub join-yes : {v : Judged} → j.verdict ≡ verdict.Yes → words ≡ proposal (grown r p) → after ≡ mark marks i
-        → v ≡ judged false (pay 0 j.account j.meter) → Joined v words after
-    join-yes {v} y q s w =
-        let b = told-yes (joins most r p) (pay (join_reads most r p) a m) e y in
-        (w ∙ answer-paid false b.1, no_all v.verdict (joins-as words after b.0 q s))
+  pub joins-both : {words after : List ℕ} → joins most r p ≡ true → words ≡ proposal (grown r p) → after ≡ mark marks i → Joins words after
+  joins-both {words} {after} e q s = joins-as words after e q s
 
-    pub join-no : j.verdict ≡ verdict.No → words ≡ proposal p → after ≡ marks → Joined j words after
-    join-no y q s =
-        let b = told-no (joins most r p) (pay (join_reads most r p) a m) e y in
-        (e ∙ ap (λ (c : Bool). judged c (pay (join_reads most r p) a m)) b.0, no_all j.verdict (joins-as words after b.0 q s))
+  pub joins-alone : {words : List ℕ} → joins most r p ≡ false → words ≡ proposal p → Joins words marks
+  joins-alone {words} e q = joins-as words marks e q refl
 
-    pub join-declined : j.verdict ≡ verdict.Declined → Joined j words after
-    join-declined y = (
-      e ∙ same-declined (joins most r p) false (told-declined (joins most r p) (pay (join_reads most r p) a m) e y),
-      subst (λ (v : Verdict). WhereNo v (Joins words after)) (sym y) tt,
-    )
+-- ---- the reads of one position: one, then those of the two questions
+module _ (most : ℕ) (r p : Row) (a : Account) (m : Meter) where
+  abbrev pub beside : Judged
+  beside = judged (subsumes r p) (pay (row_reads most r p) a m)
 
-    pub join-stopped : j.verdict ≡ verdict.Stopped → Joined j words after
-    join-stopped y = (
-      e ∙ same-stopped (joins most r p) false (told-stopped (joins most r p) (pay (join_reads most r p) a m) e y),
-      subst (λ (v : Verdict). WhereNo v (Joins words after)) (sym y) tt,
-    )
-
-  -- ---- the whole position
-  abbrev pub Beside : Judged → List ℕ → List ℕ → Type 0
-  Beside v words after = (v ≡ judged (subsumes r p) (pay (row_reads most r p) a m)) × WhereNo v.verdict (Joins words after)
-
-  pub beside-ended : (words after : List ℕ) {j : Judged} → Ended j ≡ payment_of (pay_one a m) → Beside j words after
+  pub beside-unpaid : (u : Purse) {s : Result Bool Unpaid} {e : Unpaid} → s ≡ Err e → unpaid_end e u ≡ pay_one a m → judged_end s u ≡ beside
   unfolding row_reads
-  beside-ended words after e =
-      (ask-ended (subsumes r p) (row_reads most r p) a m (omega arith) e, no-ended a m (Joins words after) e)
+  beside-unpaid u h f = ask-one (subsumes r p) (row_reads most r p) a m u h (omega arith) f
 
-module _ (most : ℕ) (r p : Row) (a : Account) (m : Meter) (marks : List ℕ) (i : ℕ) {c : Account} {k : Meter}
-    (q : Paid c k ≡ payment_of (pay_one a m)) where
-  -- the read is paid, then the question: what is left of the whole
-  whole : judged (subsumes r p) (pay (subsumes_reads r p + (elim (subsumes r p) [ true ↦ 0 | false ↦ join_reads most r p ])) c k)
-      ≡ judged (subsumes r p) (pay (row_reads most r p) a m)
-  unfolding row_reads
-  whole =
-      let z : ℕ = elim (subsumes r p) [ true ↦ 0 | false ↦ join_reads most r p ] in
-      let s : suc (subsumes_reads r p + z) ≡ suc (subsumes_reads r p) + z = omega arith in
-      ask-paid (subsumes r p) (subsumes_reads r p + z) a m q ∙ ap (λ (n : ℕ). judged (subsumes r p) (pay n a m)) s
+  module _ {c : Account} {k : Meter} (q : read.Paid c k ≡ pay_one a m) where
+    -- what is left of the whole
+    left : judged (subsumes r p) (pay (subsumes_reads r p + (elim (subsumes r p) [ true ↦ 0 | false ↦ join_reads most r p ])) c k) ≡ beside
+    unfolding row_reads
+    left =
+        let z : ℕ = elim (subsumes r p) [ true ↦ 0 | false ↦ join_reads most r p ] in
+        let s : suc (subsumes_reads r p + z) ≡ suc (subsumes_reads r p) + z = omega arith in
+        ap (judged (subsumes r p)) (paid-one (subsumes_reads r p + z) a m q) ∙ ap (λ (n : ℕ). judged (subsumes r p) (pay n a m)) s
 
-  module _ {j : Judged} (e : j ≡ judged (subsumes r p) (pay (subsumes_reads r p) c k)) where
-    both : on_no j.verdict j (judged false (pay (join_reads most r p) j.account j.meter))
-        ≡ judged (subsumes r p) (pay (row_reads most r p) a m)
-    both =
+    -- an answer i to the first question, then the second
+    both : (i : Judged) → i ≡ judged (subsumes r p) (pay (subsumes_reads r p) c k)
+        → on_no i.verdict i (judged false (pay (join_reads most r p) i.account i.meter)) ≡ beside
+    both i e =
         ap (λ (f : Judged). on_no f.verdict f (judged false (pay (join_reads most r p) f.account f.meter))) e
-        ∙ ask-other (subsumes r p) (subsumes_reads r p) (join_reads most r p) c k ∙ whole
+        ∙ ask-other (subsumes r p) (subsumes_reads r p) (join_reads most r p) c k ∙ left
 
-    pub beside-found : (words after : List ℕ) → (j.verdict ≡ verdict.No → ⊥)
-        → Beside most r p a m marks i j words after
-    beside-found words after t = (
-      not-no j.verdict j (judged false (pay (join_reads most r p) j.account j.meter)) t ∙ both,
-      no_other j.verdict (Joins most r p a m marks i words after) t,
-    )
+    pub beside-unasked : (u : Purse) {s : Result Bool Unpaid} {e : Unpaid} → s ≡ Err e
+        → judged_end (Err e) u ≡ judged (subsumes r p) (pay (subsumes_reads r p) c k) → judged_end s u ≡ beside
+    beside-unasked u {s} {e} h f = rw h (unpaid-alone e (judged_end (Err e) u) _ ∙ both (judged_end (Err e) u) f)
 
-    pub beside-joined : {v : Judged} (words after : List ℕ) → j.verdict ≡ verdict.No
-        → Joined most r p j.account j.meter marks i v words after
-        → Beside most r p a m marks i v words after
-    beside-joined words after y h =
-        (h.0 ∙ ap (λ (x : Verdict). on_no x j (judged false (pay (join_reads most r p) j.account j.meter))) (sym y) ∙ both, h.1)
+    module _ (u : Purse) {v : Bool} (f : judged_end (Ok v) u ≡ judged (subsumes r p) (pay (subsumes_reads r p) c k)) where
+      pub beside-found : v ≡ true → judged_end (Ok true) u ≡ beside
+      beside-found y = both (judged_end (Ok true) u) (rw y at f)
+
+      module _ (y : v ≡ false) where
+        pub beside-unjoined : (w : Purse) {s : Result Bool Unpaid} {e : Unpaid} → s ≡ Err e
+            → judged_end (Err e) w ≡ judged (joins most r p) (pay (join_reads most r p) u.account u.meter) → judged_end s w ≡ beside
+        beside-unjoined w h g =
+            ask-ended (joins most r p) false (join_reads most r p) (join_reads most r p) u.account u.meter w h (omega arith) g
+            ∙ both (judged_end (Ok false) u) (rw y at f)
+
+        pub beside-joined : (w : Purse) (b : Bool)
+            → judged_end (Ok b) w ≡ judged (joins most r p) (pay (join_reads most r p) u.account u.meter)
+            → judged_end (Ok false) w ≡ beside
+        beside-joined w b g =
+            ap (judged false) (answered (joins most r p) b (join_reads most r p) u.account u.meter w g).1
+            ∙ both (judged_end (Ok false) u) (rw y at f)

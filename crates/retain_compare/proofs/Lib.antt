@@ -1,11 +1,9 @@
 pub mod Passing
-pub mod Answers
 pub mod Holding
 pub mod Marking
-pub mod Sweeping
 pub mod Sweep
 pub mod Joining
 pub mod Rising
-pub mod Advance
 pub mod Outcomes
+pub mod Advance
 pub mod Both

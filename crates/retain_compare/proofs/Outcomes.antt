@@ -3,13 +3,17 @@ use mathlib.Core.Path.{◌≡◌, refl, sym, ap, ◌∙◌, subst}
 use Prim.Native.Nat.{ℕ}
 use Rattle.meter.specs.declared.Meter.{Meter}
 use Rattle.meter.specs.declared.Account.{Account}
+use Rattle.meter.specs.declared.Purse.{Purse}
+use Rattle.meter.specs.declared.Unpaid.{Unpaid}
+use Rattle.meter.specs.declared.Unpaid.TheVariants as unpaid
+use Rattle.meter.specs.Results.{unpaid_end}
+use Rattle.std.specs.Prelude.{Option, Result, Err}
 use Rattle.meter.specs.Read.{Read}
 use Rattle.meter.specs.Read as read
 use Rattle.model.specs.Retention.{Pass, found, passed}
-use Rattle.retain_compare.specs.declared.Comparison.{Comparison}
-use Rattle.retain_compare.specs.declared.Compared.{Compared}
-use Rattle.retain_compare.specs.declared.Compared.TheVariants as compared
-use Rattle.retain_compare.specs.Turns.{comparison}
+use Rattle.retain_compare.specs.Compared.{Compared, Comparison}
+use Rattle.retain_compare.specs.Compared as compared
+use Rattle.retain_compare.specs.Turns.{comparison, comparison_end, compared_of, WhereReplaces}
 
 abbrev read_of : Compared → Account → Meter → Read
 read_of compared.Replaces a m = read.Paid a m
@@ -50,3 +54,25 @@ module _ (x : Pass) (r : Read) {v : Comparison} (e : v ≡ comparison x r) where
 
   pub compares-stopped : v.compared ≡ compared.Stopped → r ≡ read.Stopped v.account v.meter
   compares-stopped y = went y
+
+-- ---- a comparison whose reads are not all paid
+pub compares-unpaid : (x : Pass) (r : Read) (e : Unpaid) (u : Purse) → comparison_end (Err e) u ≡ comparison x r → unpaid_end e u ≡ r
+compares-unpaid x r unpaid.Declined u q = sym (compares-declined x r q refl)
+compares-unpaid x r unpaid.Stopped u q = sym (compares-stopped x r q refl)
+
+pub unpaid-compares : (x : Pass) (r : Read) (e : Unpaid) (u : Purse) → unpaid_end e u ≡ r → comparison_end (Err e) u ≡ comparison x r
+unpaid-compares x r e u q = go x e ∙ ap (comparison x) q
+  where
+    go : (x : Pass) (e : Unpaid) → comparison_end (Err e) u ≡ comparison x (unpaid_end e u)
+    go (found n) unpaid.Declined = refl
+    go (passed ks p) unpaid.Declined = refl
+    go (found n) unpaid.Stopped = refl
+    go (passed ks p) unpaid.Stopped = refl
+
+-- nothing is told of it
+pub untold : (P : Type 0) {s : Result (Option ℕ) Unpaid} {e : Unpaid} → s ≡ Err e → WhereReplaces (compared_of s) P
+untold P {s} {e} h = rw h (go e)
+  where
+    go : (e : Unpaid) → WhereReplaces (compared_of (Err e)) P
+    go unpaid.Declined = tt
+    go unpaid.Stopped = tt

@@ -1,2 +1,3 @@
 pub mod Passes
+pub mod Compared
 pub mod Turns

@@ -1,8 +1,10 @@
 -- 01, module 5, Retention: 'position by position with the growing proposal, then a second pass for dominated rows'. One position of a pass,
 -- and how a comparison ends. Assumes nothing.
-use Rattle.std.specs.Prelude.{Bool, true, false, List, ℕ, suc, ◌+◌}
+use Rattle.std.specs.Prelude.{Bool, true, false, Option, Some, None, Result, Ok, Err, List, ℕ, suc, ◌+◌}
 use Rattle.words.specs.Region.{mark}
-use Rattle.meter.specs.Judged.{Judged}
+use Rattle.meter.specs.declared.Purse.{Purse}
+use Rattle.meter.specs.declared.Unpaid.{Unpaid}
+use Rattle.meter.specs.declared.Unpaid.TheVariants as unpaid
 use Rattle.meter.specs.Verdict.{Verdict}
 use Rattle.meter.specs.Verdict as verdict
 use Rattle.meter.specs.Read.{Read}
@@ -10,9 +12,8 @@ use Rattle.meter.specs.Read as read
 use Rattle.model.specs.Records.{Row, Entry}
 use Rattle.model.specs.Rows.{subsumes, subsumes_reads}
 use Rattle.model.specs.Retention.{Pass, found, passed, first_pass, first_reads, second_pass, later_reads}
-use Rattle.retain_compare.specs.declared.Compared.{Compared}
-use Rattle.retain_compare.specs.declared.Compared.TheVariants as compared
-use Rattle.retain_compare.specs.declared.Comparison.{Comparison}
+use Rattle.retain_compare.specs.Compared.{Compared, Comparison}
+use Rattle.retain_compare.specs.Compared as compared
 
 -- a position is marked where a test says so
 abbrev pub marked_if : Bool → List ℕ → ℕ → List ℕ
@@ -35,6 +36,16 @@ abbrev pub swept_marks : Bool → List ℕ → ℕ → Row → Row → List ℕ
 swept_marks true marks i p s = marks
 swept_marks false marks i p s = marked_if (subsumes p s) marks i
 
+-- ---- what a comparison's result and the purse after it say
+abbrev pub compared_of : Result (Option ℕ) Unpaid → Compared
+compared_of (Ok None) = compared.Replaces
+compared_of (Ok (Some n)) = compared.Subsumed n
+compared_of (Err unpaid.Declined) = compared.Declined
+compared_of (Err unpaid.Stopped) = compared.Stopped
+
+abbrev pub comparison_end : Result (Option ℕ) Unpaid → Purse → Comparison
+comparison_end r p = record { compared = compared_of r; account = p.account; meter = p.meter }
+
 -- ---- a whole pass, once its reads are paid or not
 abbrev pub comparison : Pass → Read → Comparison
 comparison (found n) (read.Paid a m) = record { compared = compared.Subsumed n; account = a; meter = m }
@@ -53,16 +64,6 @@ WhereReplaces compared.Stopped P = Unit {0}
 abbrev pub both_passes : Pass → Pass
 both_passes (found n) = found n
 both_passes (passed ks p) = passed (second_pass p ks) p
-
--- how a comparison ends by its second pass
-abbrev pub compared_as : Verdict → Compared
-compared_as verdict.Yes = compared.Replaces
-compared_as verdict.No = compared.Replaces
-compared_as verdict.Declined = compared.Declined
-compared_as verdict.Stopped = compared.Stopped
-
-abbrev pub ended_of : Judged → Comparison
-ended_of j = record { compared = compared_as j.verdict; account = j.account; meter = j.meter }
 
 -- the reads of both
 unfoldable pub compare_reads : ℕ → Row → List Entry → ℕ

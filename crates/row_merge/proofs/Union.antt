@@ -1,5 +1,5 @@
 -- The union of two ascending lists, step by step; one as long as its second list is that list. Assumes nothing.
-use mathlib.Core.Path.{◌≡◌, refl, ◌∙◌, ap, ap₂}
+use mathlib.Core.Path.{◌≡◌, refl, sym, ◌∙◌, ap, ap₂}
 use mathlib.Core.List.{List, [], ◌∷◌, ◌++◌, append_assoc}
 use Prim.Native.Nat.{ℕ, ◌+◌, ◌≤◌, ◌<◌, compare, Ordering}
 use native.Mathlib.Decide.{ℕ_discrete, dec_lt}
@@ -62,6 +62,26 @@ union-same (a ∷ xs) (b ∷ bs) e =
     ∙ ap₂ (λ (x : ℕ) (l : List ℕ). x ∷ l) q (union-same xs bs (let r = ap length (union-equal a b xs bs q) in omega arith)))
     (λ l. union-greater a b xs bs l
     ∙ ap (λ (t : List ℕ). b ∷ t) (union-same (a ∷ xs) bs (let r = ap length (union-greater a b xs bs l) in omega arith)))
+
+-- ---- the first literal of a union of what is left of two lists
+pub first-none : {l r : List ℕ} → [] ≡ l → [] ≡ r → [] ≡ union l r
+first-none f g = rw (← f, ← g) (sym (union-none []))
+
+pub first-right : {l r : List ℕ} (b : ℕ) (bs : List ℕ) → [] ≡ l → b ∷ bs ≡ r → b ∷ union l bs ≡ union l r
+first-right b bs f g = rw (← f, ← g, union-none, union-none) refl
+
+pub first_left : {l r : List ℕ} (a : ℕ) (xs : List ℕ) → a ∷ xs ≡ l → [] ≡ r → a ∷ union xs r ≡ union l r
+first_left a xs f g = rw (← f, ← g) (sym (union_left a xs))
+
+module _ {l r : List ℕ} {a b : ℕ} {xs bs : List ℕ} (f : a ∷ xs ≡ l) (g : b ∷ bs ≡ r) where
+  pub first-less : a < b → a ∷ union xs r ≡ union l r
+  first-less h = rw (← f, ← g) (sym (union-less a b xs bs h))
+
+  pub first-equal : a ≡ b → a ∷ union xs bs ≡ union l r
+  first-equal h = rw (← f, ← g) (sym (union-equal a b xs bs h))
+
+  pub first-greater : b < a → b ∷ union l bs ≡ union l r
+  first-greater h = rw (← f, ← g) (sym (union-greater a b xs bs h))
 
 -- ---- a list walked by position, and one written from the front
 pub take_more : (n x : ℕ) (xs ws : List ℕ) → n < length ws → take (n + 1) (set ws n x) ++ xs ≡ take n ws ++ (x ∷ xs)

@@ -5,8 +5,10 @@ use mathlib.Core.List.{List, [], ◌∷◌}
 use Prim.Native.Nat.{ℕ, suc, ◌+◌, ◌-◌, ◌*◌, ◌/◌, ◌≤◌, ◌<◌}
 use native.Mathlib.Omega.{arith}
 use lib.Dec.{eqb}
-use lib.ListN.{length, get_or, drop, drop_of_length-le}
+use lib.ListN.{length, get_or, take, drop, drop_of_length-le, length-drop}
 use borrow.Author.Tests.{eq-eqb, ne_eqb, eqb-true, eqb-false}
+use Rattle.std.proofs.lemmas.List.{take_rest}
+use Rattle.std.proofs.lemmas.Grind.{get_or_after_one}
 use Rattle.lists.specs.Lists.{below}
 use Rattle.lists.proofs.Concats.{drop-next}
 use Rattle.lists.proofs.Counts.{each_at}
@@ -60,16 +62,28 @@ group-under n cs i h l =
     let b : get_or cs i 0 < 2 * n = each_at (λ v. v < 2 * n) cs i (below_each (2 * n) cs h) l in
     omega arith
 
--- no code, and the first one
-pub count_none : (cs : List ℕ) → length cs ≡ 0 → 0 ≡ length (groups cs)
+-- no code, and the first one with the rest
+pub count_none : (cs : List ℕ) → length cs < 1 → 0 ≡ length (groups cs)
 unfolding groups
-count_none [] e = refl
-count_none (c ∷ cs) e = absurd (omega arith)
+count_none [] h = refl
+count_none (c ∷ cs) h = absurd (omega arith)
 
-pub count-start : (cs : List ℕ) → (length cs ≡ 0 → ⊥) → suc (new_words (get_or cs 0 0 / 2 / 64) (drop 1 cs)) ≡ length (groups cs)
+pub rest-is : (cs : List ℕ) → take (length cs - 1) (drop 1 cs) ≡ drop 1 cs
+rest-is cs = take_rest cs 1
+
+pub rest-under : (n : ℕ) (cs : List ℕ) (i : ℕ) → below (2 * n) cs ≡ true → i < length (take (length cs - 1) (drop 1 cs))
+    → get_or (take (length cs - 1) (drop 1 cs)) i 0 / 2 / 64 < (n + (word_bits - 1)) / word_bits
+rest-under n cs i h l =
+    let e : get_or (take (length cs - 1) (drop 1 cs)) i 0 ≡ get_or cs (1 + i) 0
+    = ap (λ (r : List ℕ). get_or r i 0) (rest-is cs) ∙ get_or_after_one cs i 0 in
+    let k : 1 + i < length cs = omega (arith, ap length (rest-is cs), length-drop 1 cs) in
+    omega (arith, e, group-under n cs (1 + i) h k)
+
+pub count-start : (cs : List ℕ) → 1 ≤ length cs
+    → suc (new_words (get_or cs 0 0 / 2 / 64) (take (length cs - 1) (drop 1 cs))) ≡ length (groups cs)
 unfolding word_of atom
-count-start [] f = absurd (f refl)
-count-start (c ∷ cs) f = new-groups c cs
+count-start [] h = absurd (omega arith)
+count-start (c ∷ cs) h = ap (λ (r : List ℕ). suc (new_words (c / 2 / 64) r)) (rest-is (c ∷ cs)) ∙ new-groups c cs
 
 -- a turn of the loop, which moves on to the word of the code at i
 module _ (cs : List ℕ) (i x : ℕ) (l : i < length cs) where

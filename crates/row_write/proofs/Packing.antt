@@ -8,7 +8,7 @@ use native.Mathlib.Omega.{arith}
 use lib.Bits.{bit_or}
 use lib.Dec.{eqb, ltb}
 use lib.ListN.{length, get_or, set, drop, replicate, length-append, length-set, length-replicate, replicate-append-replicate}
-use lib.Seq.{set_at, get_or-append-add, drop-cons, drop-length}
+use lib.Seq.{set_at, get_or-append-add, get_or-append_seam, drop-cons, drop-length}
 use borrow.Author.Tests.{lt-ltb, le-ltb}
 use Rattle.lists.specs.Lists.{concat, zeroed}
 use Rattle.words.specs.declared.Place.{Place}
@@ -194,6 +194,33 @@ pub record Packing (codes : List ℕ) (at i : ℕ) (out : List ℕ) : Type 0 whe
   pub inside : i ≤ length codes
   pub words : out ≡ replicate at 0 ++ packs (drop i codes)
   pub long : length out ≡ group_length * length (groups codes)
+
+-- the codes that are left are the first ones
+pub record First (codes rest : List ℕ) : Type 0 where
+  pub done : List ℕ
+  pub is : codes ≡ rest ++ done
+
+pub first-all : (codes : List ℕ) → First codes codes
+first-all codes = record { done = []; is = sym (append-nil codes) }
+
+-- the last of them is taken
+pub record Taken (codes rest : List ℕ) (code : ℕ) (less : List ℕ) : Type 0 where
+  pub some : 0 < length rest
+  pub count : length rest - 1 ≡ length less
+  pub code_is : get_or codes (length rest - 1) 0 ≡ code
+  pub first : First codes less
+
+pub taken-last : (codes rest less : List ℕ) (code : ℕ) → First codes rest → rest ≡ less ++ (code ∷ []) → Taken codes rest code less
+taken-last codes rest less code f e =
+    let n : length rest ≡ length less + 1 = ap length e ∙ length-append less (code ∷ []) in
+    let m : length rest - 1 ≡ length less = omega arith in
+    let t : codes ≡ less ++ (code ∷ f.done) = f.is ∙ ap (λ (xs : List ℕ). xs ++ f.done) e ∙ append_assoc less (code ∷ []) f.done in
+    record {
+      some = omega arith;
+      count = m;
+      code_is = ap₂ (λ (xs : List ℕ) (k : ℕ). get_or xs k 0) t m ∙ get_or-append_seam less code f.done 0;
+      first = record { done = code ∷ f.done; is = t };
+    }
 
 pub pack-start : (codes out : List ℕ) → length out ≡ group_length * length (groups codes) → out ≡ zeroed out
     → Packing codes (length out) (length codes) out

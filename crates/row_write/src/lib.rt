@@ -1,10 +1,11 @@
 // A row on its way into a slot: the form that it takes there, what that costs, and its words.
 #![tactic(auto)]
 
-ghost use Rattle.std.specs.Prelude.{◌≡◌, true, false, ◌+◌, ◌-◌, ◌*◌, ◌≤◌, length};
+ghost use Rattle.std.specs.Prelude.{◌≡◌, true, false, ◌+◌, ◌-◌, ◌*◌, ◌≤◌, length, IfOk};
 ghost use Rattle.lists.specs.Lists.{pad, zeroed, below};
 ghost use Rattle.words.specs.Region.{max_atoms};
-ghost use Rattle.meter.specs.Meter.{pay, judged};
+ghost use Rattle.meter.specs.Meter.{pay};
+ghost use Rattle.meter.specs.Results.{read_end};
 ghost use Rattle.model.specs.Records.{slot_words, max_conditions, max_outputs, body_at, group_length, body_words};
 ghost use Rattle.model.specs.Rows.{groups, packed, prepare_reads};
 ghost use Rattle.model.specs.Slots.{packs, row_in, body as body_of, slot_of};
@@ -13,7 +14,7 @@ ghost use Rattle.row_write.specs.Forms.{form_of, new_entry, head_of, reads_for};
 ghost use Rattle.row_write.specs.Packs.{begun, mask_at, entered};
 
 use lists::{copy, fill_zero};
-use meter::{Account, Judged, Meter, Read, Verdict};
+use meter::{Purse, Unpaid};
 use model::{
     BODY_AT, BORN_AT, CONDITION_GROUPS_AT, CONDITIONS_AT, DELIVERED_AT, GROUP_WORDS, HITS_AT,
     OUTPUTS_AT, SOURCE_AT, Source, TOTAL_GROUPS_AT, UNSHARED_AT, source_word,
@@ -27,35 +28,26 @@ pub struct Form {
     pub first: u64,
 }
 
-// The answer of `prepare`: Yes once its reads are paid, and the form.
-#[derive(Clone, Copy)]
-pub struct Prepared {
-    pub judged: Judged,
-    pub form: Form,
-}
-
 // The groups of codes of a proposal: as many as the codes, but for those of the same word as the code before.
 fn count_words(codes: &[u64]) -> usize
     requires { below (2 * max_atoms) codes.now ≡ true }
     ensures { result ≡ length (groups codes.now) }
 {
-    if codes.len() == 0 {
+    let [first, rest @ ..] = codes else {
         return 0;
-    }
+    };
     let mut count = codes.len();
     // The group of the last literal. A proposal's codes are below 2 * MAX_ATOMS, so it is at most MAX_ATOMS / WORD_BITS - 1, which is
     // 16,383: 16 bits hold it.
-    let mut previous = (codes[0] / 2 / WORD_BITS) as u16;
-    let mut i: usize = 1;
-    while i < codes.len() {
+    let mut previous = (*first / 2 / WORD_BITS) as u16;
+    for code in rest {
         // Compared as whole words, which is faster.
         let last = previous as u64;
-        let group = codes[i] / 2 / WORD_BITS;
+        let group = *code / 2 / WORD_BITS;
         if group == last {
             count -= 1;
         }
         previous = group as u16;
-        i += 1;
     }
     count
 }
@@ -90,39 +82,16 @@ fn reads_of(literals: u64, form: Form) -> u64
     2 * literals
 }
 
-// Yes where the reads are paid, else Declined or Stopped.
-fn judge(read: Read) -> Judged
-    ensures { result ≡ judged true read }
-{
-    match read {
-        Read::Paid(account, meter) => Judged {
-            verdict: Verdict::Yes,
-            account,
-            meter,
-        },
-        Read::Declined(account, meter) => Judged {
-            verdict: Verdict::Declined,
-            account,
-            meter,
-        },
-        Read::Stopped(account, meter) => Judged {
-            verdict: Verdict::Stopped,
-            account,
-            meter,
-        },
-    }
-}
-
-// The form of a proposal's row, always; and Yes if its reads are paid, each literal once and again to pack it, else Declined or Stopped.
-pub fn prepare(p: &[u64], account: Account, work: Meter) -> Prepared
+// The form of a proposal's row, once its reads are paid: each literal once, and again to pack it.
+pub fn prepare(p: &[u64], purse: &mut Purse) -> Result<Form, Unpaid>
     requires { Proposed p.now }
-    ensures { (result.judged ≡ judged true (pay (prepare_reads (row_in p.now)) account work))
-        × (result.form ≡ form_of (row_in p.now)) }
+    ensures reads { read_end result purse.new ≡ pay (prepare_reads (row_in p.now)) purse.old.account purse.old.meter }
+    ensures form { IfOk result (λ form. form ≡ form_of (row_in p.now)) }
 {
     let form = form_of(p);
     let reads = reads_of(p[CONDITIONS_AT] + p[OUTPUTS_AT], form);
-    let judged = judge(account.pay_all(reads, work));
-    Prepared { judged, form }
+    purse.pay_all(reads)?;
+    Ok(form)
 }
 
 // Where the bits of a code's sign stand in the group at `at`: present bits before absent bits.
@@ -169,12 +138,9 @@ fn pack(codes: &[u64], out: &mut [u64])
     ensures { out.new ≡ packs codes.now }
 {
     let mut at = out.len();
-    let mut i = codes.len();
-    while 0 < i {
-        i -= 1;
-        let code = codes[i];
-        at -= GROUP_WORDS * begins(out, at, code / 2 / 64);
-        enter(out, at, code);
+    for code in codes.iter().rev() {
+        at -= GROUP_WORDS * begins(out, at, *code / 2 / 64);
+        enter(out, at, *code);
     }
 }
 

@@ -7,7 +7,10 @@ use Prim.Native.Nat.{ℕ}
 use native.Mathlib.Omega.{arith}
 use lib.Dec.{eqb}
 use borrow.Author.Tests.{eq-eqb, ne_eqb, eqb-true}
+use Rattle.std.specs.Prelude.{Result, Ok, Err}
 use Rattle.meter.specs.declared.Meter.{Meter}
+use Rattle.meter.specs.declared.Unpaid.{Unpaid}
+use Rattle.meter.specs.declared.Unpaid.TheVariants.{Declined, Stopped}
 use Rattle.meter.specs.declared.Account.{Account}
 use Rattle.meter.specs.declared.Account.TheVariants.{Share}
 use Rattle.meter.specs.Meter.{made}
@@ -18,7 +21,7 @@ use Rattle.model.specs.Records.{saturating_add, with_account, with_seeded, with_
 use Rattle.model.specs.Slots.{entries_in}
 use Rattle.model.specs.Transfers.{Transfer, starting, seed_rows, mark_for, seeding, marked, seeded_tier, seeded_store, Delivery, deliver_rows}
 use Rattle.model.specs.Transfers.{delivering, delivered_tier, delivered_store}
-use Rattle.model.specs.Transfers as transfers
+use Rattle.model.specs.Transfers.{Progress, whole, declined, stopped}
 use Rattle.model.specs.Refusals.{Lent, refusal, accepts, ledger_in, lent_of}
 use Rattle.model.specs.Answers.{transfer_reply}
 use Rattle.model.specs.Operations.{TransferEnd, Transferred, transfer_refusal, untransferred, transfer_answer}
@@ -30,8 +33,6 @@ use Rattle.contents.specs.Accepted.{Accepted}
 use Rattle.contents.proofs.Accepting.{or_else, accepts-later, accept-refused, accept-passed, refused_by-some}
 use Rattle.retain_keep.specs.Stood.{Stood}
 use Rattle.retain_keep.proofs.Headers.{account-lent, mark-lent, seeded-lent, deliveries-lent}
-use Rattle.transfers.specs.declared.receiving.Progress.{Progress}
-use Rattle.transfers.specs.declared.receiving.Progress.TheVariants.{Whole, Declined, Stopped}
 use Rattle.transfers.specs.declared.receiving.TransferState.{TransferState}
 use Rattle.transfers.specs.Transfer.{progress_of, Carried}
 use Rattle.transfers.specs.Handing.{Delivered}
@@ -112,61 +113,69 @@ unfolding ledger_in
 stood-now t ts tp s = s
 
 -- ---- the result
-answer-is : (x : Progress) → answer_of x ≡ transfer_answer (progress_of x)
+answer-is : {A : Type 0} (r : Result A Unpaid) → answer_of r ≡ transfer_answer (progress_of r)
 unfolding transfer_answer
-answer-is Whole = refl
-answer-is Declined = refl
-answer-is Stopped = refl
+answer-is (Ok a) = refl
+answer-is (Err Declined) = refl
+answer-is (Err Stopped) = refl
 
-module _ (p : TransferState) (h : Header) (m : Meter) {a : TransferAnswer} {s k : ℕ} (ea : a ≡ answer_of p.progress)
-    (ek : k ≡ made m p.meter) where
-  pub seeded-is : {t u : Header} → u ≡ with_account p.header p.account → t ≡ marked_by p.progress h u
+-- a seeding that is not whole
+pub mark-stays : {A : Type 0} (r : Result A Unpaid) {e : Unpaid} (store h : Header) → r ≡ Err e → h ≡ marked_by (progress_of r) store h
+mark-stays {A} r {e} store h q = rw q (go e)
+  where
+    go : (e : Unpaid) → h ≡ marked_by (progress_of {A = A} (Err e)) store h
+    go Declined = refl
+    go Stopped = refl
+
+module _ {A : Type 0} (p : TransferState) (end : Result A Unpaid) (h : Header) (m : Meter) {a : TransferAnswer} {s k : ℕ}
+    (ea : a ≡ answer_of end) (ek : k ≡ made m p.purse.meter) where
+  pub seeded-is : {t u : Header} → u ≡ with_account p.header p.purse.account → t ≡ marked_by (progress_of end) h u
       → s ≡ saturating_add h.seeded p.added →
       ◌≡◌ {A = TransferResult} (record {
         answer = a;
         tier = t;
         store = set_seeded h s;
-        meter = p.meter;
+        meter = p.purse.meter;
         ticks = k;
-      }) (seeded_by p h m)
+      }) (seeded_by p end h m)
   seeded-is eu et es =
       ap₂ {C = TransferResult} (λ (x : TransferAnswer) (y : Header). record {
         answer = x;
         tier = y;
         store = set_seeded h s;
-        meter = p.meter;
+        meter = p.purse.meter;
         ticks = k;
-      }) ea (et ∙ ap (marked_by p.progress h) eu)
+      }) ea (et ∙ ap (marked_by (progress_of end) h) eu)
       ∙ ap₂ {C = TransferResult} (λ (x : Header) (y : ℕ). record {
-        answer = answer_of p.progress;
-        tier = marked_by p.progress h (with_account p.header p.account);
+        answer = answer_of end;
+        tier = marked_by (progress_of end) h (with_account p.header p.purse.account);
         store = x;
-        meter = p.meter;
+        meter = p.purse.meter;
         ticks = y;
       }) (seeded-in h p.added es) ek
 
-  pub delivered-is : {t : Header} → t ≡ with_account h p.account → s ≡ saturating_add p.header.deliveries p.added →
+  pub delivered-is : {t : Header} → t ≡ with_account h p.purse.account → s ≡ saturating_add p.header.deliveries p.added →
       ◌≡◌ {A = TransferResult} (record {
         answer = a;
         tier = t;
         store = set_deliveries p.header s;
-        meter = p.meter;
+        meter = p.purse.meter;
         ticks = k;
-      }) (delivered_by p h m)
+      }) (delivered_by p end h m)
   delivered-is et es =
       let u : Header = p.header in
       ap₂ {C = TransferResult} (λ (x : TransferAnswer) (y : Header). record {
         answer = x;
         tier = y;
         store = set_deliveries u s;
-        meter = p.meter;
+        meter = p.purse.meter;
         ticks = k;
       }) ea et
       ∙ ap₂ {C = TransferResult} (λ (x : Header) (y : ℕ). record {
-        answer = answer_of p.progress;
-        tier = with_account h p.account;
+        answer = answer_of end;
+        tier = with_account h p.purse.account;
         store = x;
-        meter = p.meter;
+        meter = p.purse.meter;
         ticks = y;
       }) (deliveries-in u p.added es) ek
 
@@ -186,8 +195,8 @@ module _ (t s : Header) (ts tp ss sp : List ℕ) (m : Meter) where
   abbrev done : ℕ → Transfer
   done k = seed_rows t.limits k (entries_in s.rows ss) (starting (ledger_in T) (Share t.sharing) m)
 
-  module _ (n c k : ℕ) (mark : k ≡ mark_for s.number t.mark) (p : TransferState) (ws ps : List ℕ)
-      (h : Carried n c p ws ps (done k)) where
+  module _ (n c k : ℕ) (mark : k ≡ mark_for s.number t.mark) {A : Type 0} (r : Result A Unpaid) (p : TransferState) (ws ps : List ℕ)
+      (h : Carried n c (progress_of r) p ws ps (done k)) where
     abbrev v : Transfer
     v = done k
 
@@ -197,20 +206,20 @@ module _ (t s : Header) (ts tp ss sp : List ℕ) (m : Meter) where
 
     tier-lent : (x : Progress) (a : Account) → lent (marked_by x s (with_account p.header a)) ws ps
         ≡ lent_of
-        (record { header = marked (progress_of x) (ledger_in S) (with_account v.receiver.header a); entries = v.receiver.entries })
+        (record { header = marked x (ledger_in S) (with_account v.receiver.header a); entries = v.receiver.entries })
     unfolding marked ledger_in
-    tier-lent Whole a =
+    tier-lent whole a =
         mark-lent (with_account p.header a) ws ps
         (record { header = with_account v.receiver.header a; entries = v.receiver.entries })
         (account-lent p.header ws ps v.receiver h.stood.same a) s.number s.born
-    tier-lent Declined a = account-lent p.header ws ps v.receiver h.stood.same a
-    tier-lent Stopped a = account-lent p.header ws ps v.receiver h.stood.same a
+    tier-lent declined a = account-lent p.header ws ps v.receiver h.stood.same a
+    tier-lent stopped a = account-lent p.header ws ps v.receiver h.stood.same a
 
-    tier-is : lent (marked_by p.progress s (with_account p.header p.account)) ws ps ≡ lent_of (seeded_tier (ledger_in S) v)
+    tier-is : lent (marked_by (progress_of r) s (with_account p.header p.purse.account)) ws ps ≡ lent_of (seeded_tier (ledger_in S) v)
     unfolding seeded_tier
     tier-is =
-        tier-lent p.progress p.account
-        ∙ ap₂ (λ (x : transfers.Progress) (a : Account). lent_of
+        tier-lent (progress_of r) p.purse.account
+        ∙ ap₂ (λ (x : Progress) (a : Account). lent_of
         (record { header = marked x (ledger_in S) (with_account v.receiver.header a); entries = v.receiver.entries })) h.progress
         h.account
 
@@ -221,17 +230,17 @@ module _ (t s : Header) (ts tp ss sp : List ℕ) (m : Meter) where
         ∙ ap (λ (i : ℕ). lent_of (record { header = with_seeded s i; entries = (ledger_in S).entries })) h.added
 
     end_is : S ≡ lent_of (ledger_in S)
-        → transfer_end (seeded_by p s m) ws ps ss sp ≡ (end_of (seeded_tier (ledger_in S) v) (seeded_store (ledger_in S) v) v m).seen
+        → transfer_end (seeded_by p r s m) ws ps ss sp ≡ (end_of (seeded_tier (ledger_in S) v) (seeded_store (ledger_in S) v) v m).seen
     unfolding end_of
     end_is e =
         ap₂ {C =
         TransferEnd}
         (λ (x y : Lent). record {
-          answer = transfer_reply (answer_of p.progress);
+          answer = transfer_reply (answer_of r);
           tier = x;
           store = y;
-          meter = p.meter;
-          ticks = made m p.meter;
+          meter = p.purse.meter;
+          ticks = made m p.purse.meter;
         }) tier-is (store_is e)
         ∙ ap₂ {C =
         TransferEnd}
@@ -242,16 +251,16 @@ module _ (t s : Header) (ts tp ss sp : List ℕ) (m : Meter) where
           meter = y;
           ticks = made m y;
         })
-        (answer-is p.progress ∙ ap transfer_answer h.progress) h.meter
+        (answer-is r ∙ ap transfer_answer h.progress) h.meter
 
     is-end : transfer_refusal T S ≡ none → seed T S m ≡ end_of (seeded_tier (ledger_in S) v) (seeded_store (ledger_in S) v) v m
     unfolding seed
     is-end e = rw (e, seed) (ap (λ (u : Transfer). end_of (seeded_tier (ledger_in S) u) (seeded_store (ledger_in S) u) u m) (sym the-seeding))
 
-    pub seed-done : transfer_refusal T S ≡ none → S ≡ lent_of (ledger_in S) → {r : TransferResult} → r ≡ seeded_by p s m
-        → transfer_end r ws ps ss sp ≡ (seed T S m).seen
+    pub seed-done : transfer_refusal T S ≡ none → S ≡ lent_of (ledger_in S) → {end : TransferResult} → end ≡ seeded_by p r s m
+        → transfer_end end ws ps ss sp ≡ (seed T S m).seen
     seed-done e l q =
-        ap (λ (r : TransferResult). transfer_end r ws ps ss sp) q ∙ end_is l ∙ sym (ap (λ (x : Transferred). x.seen) (is-end e))
+        ap (λ (y : TransferResult). transfer_end y ws ps ss sp) q ∙ end_is l ∙ sym (ap (λ (x : Transferred). x.seen) (is-end e))
 
   -- ---- Deliver
   pub deliver-refused : (n : ℕ) → transfer_refusal T S ≡ some n
@@ -263,7 +272,8 @@ module _ (t s : Header) (ts tp ss sp : List ℕ) (m : Meter) where
   abbrev over : Delivery
   over = deliver_rows t.limits (entries_in t.rows ts) (starting (ledger_in S) (Share t.sharing) m)
 
-  module _ (n c : ℕ) (p : TransferState) (xs ws ps : List ℕ) (h : Delivered n c p ws ps ts xs (entries_in t.rows ts) over)
+  module _ (n c : ℕ) {A : Type 0} (r : Result A Unpaid) (p : TransferState) (xs ws ps : List ℕ)
+      (h : Delivered n c (progress_of r) p ws ps ts xs (entries_in t.rows ts) over)
       (good : Stood t ts tp (record { header = t; entries = entries_in t.rows ts })) where
     abbrev w : Transfer
     w = over.1
@@ -272,10 +282,10 @@ module _ (t s : Header) (ts tp ss sp : List ℕ) (m : Meter) where
     unfolding delivering ledger_in
     the-delivery = refl
 
-    giver-is : lent (with_account t p.account) xs tp ≡ lent_of (delivered_tier (ledger_in T) over)
+    giver-is : lent (with_account t p.purse.account) xs tp ≡ lent_of (delivered_tier (ledger_in T) over)
     unfolding delivered_tier ledger_in
     giver-is =
-        account-lent t xs tp (record { header = t; entries = over.0 }) (h.keeps t tp t good).same p.account
+        account-lent t xs tp (record { header = t; entries = over.0 }) (h.keeps t tp t good).same p.purse.account
         ∙ ap (λ (a : Account). lent_of (record { header = with_account t a; entries = over.0 })) h.carried.account
 
     taker-is : lent (with_deliveries p.header p.added) ws ps ≡ lent_of (delivered_store over)
@@ -285,17 +295,17 @@ module _ (t s : Header) (ts tp ss sp : List ℕ) (m : Meter) where
         ∙ ap (λ (i : ℕ). lent_of (record { header = with_deliveries w.receiver.header i; entries = w.receiver.entries }))
         h.carried.added
 
-    over-is : transfer_end (delivered_by p t m) xs tp ws ps ≡ (end_of (delivered_tier (ledger_in T) over) (delivered_store over) w m).seen
+    over-is : transfer_end (delivered_by p r t m) xs tp ws ps ≡ (end_of (delivered_tier (ledger_in T) over) (delivered_store over) w m).seen
     unfolding end_of
     over-is =
         ap₂ {C =
         TransferEnd}
         (λ (x y : Lent). record {
-          answer = transfer_reply (answer_of p.progress);
+          answer = transfer_reply (answer_of r);
           tier = x;
           store = y;
-          meter = p.meter;
-          ticks = made m p.meter;
+          meter = p.purse.meter;
+          ticks = made m p.purse.meter;
         }) giver-is taker-is
         ∙ ap₂ {C =
         TransferEnd}
@@ -306,13 +316,13 @@ module _ (t s : Header) (ts tp ss sp : List ℕ) (m : Meter) where
           meter = y;
           ticks = made m y;
         })
-        (answer-is p.progress ∙ ap transfer_answer h.carried.progress) h.carried.meter
+        (answer-is r ∙ ap transfer_answer h.carried.progress) h.carried.meter
 
     is-over : transfer_refusal T S ≡ none → deliver T S m ≡ end_of (delivered_tier (ledger_in T) over) (delivered_store over) w m
     unfolding deliver
     is-over e = rw (e, deliver) (ap (λ (d : Delivery). end_of (delivered_tier (ledger_in T) d) (delivered_store d) d.1 m) (sym the-delivery))
 
-    pub deliver-done : transfer_refusal T S ≡ none → {r : TransferResult} → r ≡ delivered_by p t m
-        → transfer_end r xs tp ws ps ≡ (deliver T S m).seen
+    pub deliver-done : transfer_refusal T S ≡ none → {end : TransferResult} → end ≡ delivered_by p r t m
+        → transfer_end end xs tp ws ps ≡ (deliver T S m).seen
     deliver-done e q =
-        ap (λ (r : TransferResult). transfer_end r xs tp ws ps) q ∙ over-is ∙ sym (ap (λ (x : Transferred). x.seen) (is-over e))
+        ap (λ (y : TransferResult). transfer_end y xs tp ws ps) q ∙ over-is ∙ sym (ap (λ (x : Transferred). x.seen) (is-over e))

@@ -2,15 +2,17 @@
 use mathlib.Core.Path.{◌≡◌, sym, ap, ap₂, ◌∙◌, subst}
 use mathlib.Core.Bool.{true}
 use mathlib.Core.List.{List}
+use Rattle.std.specs.Prelude.{Result, Err}
 use Prim.Native.Nat.{ℕ, max, ◌≤◌}
 use native.Mathlib.Omega.{arith}
 use lib.ListN.{get_or}
 use Rattle.lists.proofs.Bools.{T_true}
 use Rattle.words.specs.Region.{max_atoms}
-use Rattle.meter.specs.declared.Meter.{Meter}
-use Rattle.meter.specs.declared.Account.{Account}
+use Rattle.meter.specs.declared.Purse.{Purse}
+use Rattle.meter.specs.declared.Unpaid.{Unpaid}
+use Rattle.meter.specs.declared.Unpaid.TheVariants.{Declined, Stopped}
 use Rattle.meter.specs.Read.{Read}
-use Rattle.meter.specs.Read as read
+use Rattle.meter.specs.Results.{unpaid_end}
 use Rattle.model.specs.declared.Header.{Header}
 use Rattle.model.specs.declared.Source.{Source}
 use Rattle.model.specs.Records.{Row, is_row, max_outputs, outputs_at}
@@ -24,27 +26,24 @@ use Rattle.contents.specs.Lent.{lent}
 use Rattle.contents.specs.Accepted.{Accepted}
 use Rattle.row_propose.proofs.Proposing.{proposed-over}
 use Rattle.contents.proofs.Lending.{accepted-lent}
-use Rattle.retain.specs.declared.Retained.TheVariants.{Declined, Stopped}
+use Rattle.retain.specs.declared.Kept.{Kept}
 use Rattle.retain.specs.Ends.{retain_end, end_of}
 use Rattle.transfers.specs.Receiving.{received_end, source_of}
 
 -- ---- a read is not paid: nothing changes
-module _ (h : Header) (slots postings : List ℕ) (a : Accepted h slots postings) (source : Source) (t : Row) (outputs hits : ℕ) where
-  pub end-declined : (b : Account) (m : Meter) {run : Read} → read.Declined b m ≡ run →
-      retain_end (record { answer = Declined; header = h; account = b; meter = m }) slots postings
-      ≡ received_end (lent h slots postings) source t outputs hits run
-  unfolding retain retained untaken
-  end-declined b m e =
-      ap (λ (x : Lent). record { outcome = Declines; ledger = x; account = b; meter = m }) (accepted-lent h slots postings a)
-      ∙ ap (received_end (lent h slots postings) source t outputs hits) e
-
-  pub end-stopped : (b : Account) (m : Meter) {run : Read} → read.Stopped b m ≡ run →
-      retain_end (record { answer = Stopped; header = h; account = b; meter = m }) slots postings
-      ≡ received_end (lent h slots postings) source t outputs hits run
-  unfolding retain retained untaken
-  end-stopped b m e =
-      ap (λ (x : Lent). record { outcome = Stops; ledger = x; account = b; meter = m }) (accepted-lent h slots postings a)
-      ∙ ap (received_end (lent h slots postings) source t outputs hits) e
+pub end-unpaid : (h : Header) (slots postings : List ℕ) (a : Accepted h slots postings) (source : Source) (t : Row) (outputs hits : ℕ)
+    (r : Result Kept Unpaid) (p : Purse) {e : Unpaid} {run : Read} → r ≡ Err e → unpaid_end e p ≡ run
+    → retain_end r h slots postings p ≡ received_end (lent h slots postings) source t outputs hits run
+unfolding retain retained untaken
+end-unpaid h slots postings a source t outputs hits r p {e} d f =
+    rw d (go e ∙ ap (received_end (lent h slots postings) source t outputs hits) f)
+  where
+    go : (e : Unpaid)
+        → retain_end (Err e) h slots postings p ≡ received_end (lent h slots postings) source t outputs hits (unpaid_end e p)
+    go Declined =
+        ap (λ (x : Lent). record { outcome = Declines; ledger = x; account = p.account; meter = p.meter }) (accepted-lent h slots postings a)
+    go Stopped =
+        ap (λ (x : Lent). record { outcome = Stops; ledger = x; account = p.account; meter = p.meter }) (accepted-lent h slots postings a)
 
 -- ---- the row of a slot as a proposal
 module _ (n : ℕ) (row : List ℕ) (s : Stored n row) (p : List ℕ) (q : p ≡ proposal (row_in row)) where

@@ -8,10 +8,12 @@ use lib.Dec.{eqb, ltb}
 use lib.ListN.{length, get_or, take, drop, length-append}
 use lib.Seq.{get_or-take, get_or-drop}
 use borrow.Author.Tests.{eq-eqb, ne_eqb, lt-ltb, le-ltb}
-use types.Run.{OneOf}
-use denote.Enum.Declared.{tag_of}
-use mathlib.Core.Logic.{inl, inr}
+use Rattle.std.specs.Prelude.{Result, Ok, Err}
 use Rattle.lists.specs.Lists.{adjust}
+use Rattle.meter.specs.declared.Meter.{Meter}
+use Rattle.meter.specs.declared.Purse.{Purse}
+use Rattle.meter.specs.declared.Unpaid.{Unpaid}
+use Rattle.meter.specs.declared.Unpaid.TheVariants.{Declined, Stopped}
 use Rattle.meter.specs.Tick.{Tick}
 use Rattle.meter.specs.Tick as tick
 use Rattle.meter.specs.Meter.{tick_of, pay}
@@ -19,24 +21,22 @@ use Rattle.model.specs.declared.LearningLimits.{LearningLimits}
 use Rattle.model.specs.declared.Header.{Header}
 use Rattle.model.specs.Records.{Entry, Ledger, saturating_add, literals, with_hits, with_delivered, max_rows, max_outputs}
 use Rattle.model.specs.Records.{conditions_at, hits_at, unshared_at, delivered_at, slot_words}
-use Rattle.model.specs.Records.{conditions_at, hits_at, unshared_at, delivered_at, slot_words}
 use Rattle.model.specs.Slots.{row_in, entry_in}
-use Rattle.model.specs.Transfers.{Transfer, Delivery, whole, stopped, ticked, receive, change_at, passes_over, deliver_rows}
+use Rattle.model.specs.Retention.{Retention}
+use Rattle.model.specs.Transfers.{Progress, whole, declined, stopped, Transfer, Delivery, ticked, receive, change_at, passes_over, deliver_rows}
 use Rattle.slots.specs.Layout.{Stored, Laid, slot_at}
 use Rattle.slots.proofs.Rows.{slot-code}
 use Rattle.contents.specs.Lent.{lent}
 use Rattle.tier.specs.Tier.{hits_added, shared_out}
 use Rattle.retain_keep.specs.Stood.{Stood}
 use Rattle.retain_keep.proofs.Standing.{stood-rows, stood-hits-added, stood-shared}
-use Rattle.retain.specs.declared.Retained.TheVariants as retention
-use Rattle.retain.specs.declared.Retention.{Retention}
+use Rattle.retain.specs.declared.Kept.{Kept}
+use Rattle.retain.specs.declared.Kept.TheVariants.{Subsumed, Added}
 use Rattle.retain.specs.Ends.{retain_end}
-use Rattle.transfers.specs.declared.receiving.Progress.TheVariants.{Whole, Declined, Stopped}
 use Rattle.transfers.specs.declared.receiving.TransferState.{TransferState}
 use Rattle.transfers.specs.Receiving.{received_end, source_of}
-use Rattle.transfers.specs.Transfer.{passed_by, ticked_as, ticked_by, Carried, Ready}
+use Rattle.transfers.specs.Transfer.{progress_of, Carried, Ready}
 use Rattle.transfers.specs.Handing.{handed, Keeps, Handed}
-use Rattle.transfers.specs.contracts.receiving.Progress.{the_type}
 use Rattle.transfers.proofs.Deliveries.{handed-stops, handed-declines, handed-subsumed, handed-added, deliver-halted, deliver-past}
 use Rattle.transfers.proofs.Deliveries.{deliver-handed}
 use Rattle.transfers.proofs.Carrying.{Received, carried-ticked, carried-up, carried-received}
@@ -96,157 +96,143 @@ keeps-shared i ws e done rest q t postings h s =
     (ap (λ (k : ℕ). adjust (with_delivered 0) k (done ++ (e ∷ rest))) (sym q) ∙ adjust-at (with_delivered 0) done e rest)
     (stood-shared t ws postings l s i at)
 
-module _ {n c : ℕ} {y : TransferState} {ws ps : List ℕ} (i : ℕ) (ts : List ℕ) (e : Entry) {u : Transfer} {d : Delivery} where
+module _ {n c : ℕ} {x : Progress} {y : TransferState} {ws ps : List ℕ} (i : ℕ) (ts : List ℕ) (e : Entry) {u : Transfer} {d : Delivery} where
   -- the entry stays as it is, or is delivered
-  pub stays-so : d ≡ (e ∷ [], u) → Carried n c y ws ps u → Handed n c y ws ps i ts ts e d
-  stays-so q h = subst (Handed n c y ws ps i ts ts e) (sym q) (record { carried = h; one = refl; keeps = λ done rest l t postings k s. s })
+  pub stays-so : d ≡ (e ∷ [], u) → Carried n c x y ws ps u → Handed n c x y ws ps i ts ts e d
+  stays-so q h = subst (Handed n c x y ws ps i ts ts e) (sym q) (record { carried = h; one = refl; keeps = λ done rest l t postings k s. s })
 
-  pub shared-out-so : {xs : List ℕ} → d ≡ (with_delivered 0 e ∷ [], u) → xs ≡ shared_out i ts → Carried n c y ws ps u
-      → Handed n c y ws ps i ts xs e d
-  shared-out-so {xs} q x h =
-      subst (Handed n c y ws ps i ts xs e) (sym q)
-      (subst (λ (z : List ℕ). Handed n c y ws ps i ts z e (with_delivered 0 e ∷ [], u)) (sym x)
+  pub shared-out-so : {xs : List ℕ} → d ≡ (with_delivered 0 e ∷ [], u) → xs ≡ shared_out i ts → Carried n c x y ws ps u
+      → Handed n c x y ws ps i ts xs e d
+  shared-out-so {xs} q z h =
+      subst (Handed n c x y ws ps i ts xs e) (sym q)
+      (subst (λ (k : List ℕ). Handed n c x y ws ps i ts k e (with_delivered 0 e ∷ [], u)) (sym z)
       (record { carried = h; one = refl; keeps = keeps-shared i ts e }))
 
 -- ---- a row handed over
 word-five : (ws : List ℕ) (i : ℕ) → get_or ws (slot_words * i + unshared_at) 0 ≡ get_or (slot_at ws i) unshared_at 0
 word-five ws i = sym (get_or-take slot_words (drop (slot_words * i) ws) unshared_at 0 (omega arith) ∙ get_or-drop (slot_words * i) ws unshared_at 0)
 
-module _ (n c : ℕ) (p : TransferState) (slots postings : List ℕ) (v : Transfer) (h : Carried n c p slots postings v) (ts : List ℕ) (i : ℕ)
-    (limits : LearningLimits)
-    (s : Stored p.header.limits.atoms (slot_at ts i)) (o : limits.founded_outputs ≤ max_outputs) (k : Retention) (ws ps : List ℕ)
-    (e : retain_end k ws ps
-    ≡ received_end (lent p.header slots postings) (source_of
-    (take ((slot_words * i + slot_words) - slot_words * i) (drop (slot_words * i) ts)))
-    (row_in (take ((slot_words * i + slot_words) - slot_words * i) (drop (slot_words * i) ts)))
-    limits.founded_outputs (get_or ts (slot_words * i + unshared_at) 0)
-    (pay (suc (literals (row_in (take ((slot_words * i + slot_words) - slot_words * i) (drop (slot_words * i) ts))))) p.account
-    p.meter)) where
+module _ (n c : ℕ) (p : TransferState) (slots postings : List ℕ) (v : Transfer) (h : Carried n c whole p slots postings v) (ts : List ℕ)
+    (i : ℕ) (limits : LearningLimits)
+    (s : Stored p.header.limits.atoms (slot_at ts i)) (o : limits.founded_outputs ≤ max_outputs) (k : Header) (ws ps : List ℕ)
+    (b : Purse) where
   abbrev row : List ℕ
   row = slot_at ts i
 
-  r : Received n c p v k ws ps (receive limits (get_or row unshared_at 0) (source_of row) (row_in row) v)
-  r = carried-received n c p slots postings v h row s limits o (get_or row unshared_at 0) k ws ps
+  -- the row as the code lends it
+  abbrev part : List ℕ
+  part = take ((slot_words * i + slot_words) - slot_words * i) (drop (slot_words * i) ts)
+
+  -- it is received, with the result y
+  abbrev Receives : Result Kept Unpaid → Type 0
+  Receives y =
+      retain_end y k ws ps b
+      ≡ received_end (lent p.header slots postings) (source_of part) (row_in part) limits.founded_outputs
+      (get_or ts (slot_words * i + unshared_at) 0)
+      (pay (suc (literals (row_in part))) p.purse.account p.purse.meter)
+
+  abbrev d : Retention
+  d = receive limits (get_or row unshared_at 0) (source_of row) (row_in row) v
+
+  r : (y : Result Kept Unpaid) → Receives y → Received n c p v y k ws ps b d
+  r y e = carried-received n c p slots postings v h row s limits o (get_or row unshared_at 0) y k ws ps b
       (e
       ∙ ap₂ (λ (x : List ℕ) (z : ℕ). received_end (lent p.header slots postings) (source_of x) (row_in x)
       limits.founded_outputs z
-      (pay (suc (literals (row_in x))) p.account p.meter))
+      (pay (suc (literals (row_in x))) p.purse.account p.purse.meter))
       (slot-code ts i) (word-five ts i))
 
-  same : p.added ≡ p.added + 0
-  same = omega arith
+  abbrev after : ℕ → TransferState
+  after a = record { header = k; purse = b; added = a }
 
-  abbrev Ends : TransferState → List ℕ → List ℕ → Type 0
-  Ends y us xs = Handed n (suc c) y us ps i ts xs (entry_in row) (handed limits (entry_in row) v)
+  abbrev Ends : Progress → TransferState → List ℕ → List ℕ → Type 0
+  Ends x y us xs = Handed n (suc c) x y us ps i ts xs (entry_in row) (handed limits (entry_in row) v)
 
-  pub hand-stopped : k.answer ≡ retention.Stopped → {y : TransferState} → y ≡ passed_by k Stopped p.added → Ends y ws ts
+  pub hand-unpaid : {A : Type 0} (y : Result A Unpaid) (u : Unpaid) → y ≡ Err u → Receives (Err u)
+      → Ends (progress_of y) (after p.added) ws ts
   unfolding entry_in
-  hand-stopped a q =
-      stays-so i ts (entry_in row) (handed-stops limits (entry_in row) v (told r a))
-      (left_as r Stopped 0 (omega arith) p.added same q refl)
-
-  pub hand-declined : k.answer ≡ retention.Declined → {y : TransferState} → y ≡ passed_by k Declined p.added → Ends y ws ts
-  unfolding entry_in
-  hand-declined a q =
-      stays-so i ts (entry_in row) (handed-declines limits (entry_in row) v (told r a))
-      (left_as r Declined 0 (omega arith) p.added same q refl)
-
-  pub hand-added : (j : ℕ) → k.answer ≡ retention.Added j → {y : TransferState} {xs : List ℕ} → y ≡ passed_by k Whole (p.added + 1)
-      → xs ≡ shared_out i ts → Ends y ws xs
-  unfolding entry_in
-  hand-added j a q x =
-      shared-out-so i ts (entry_in row) (handed-added limits (entry_in row) v j (told r a)) x
-      (left_as r Whole 1 (omega arith) (p.added + 1) refl q refl)
-
-  module _ (j : ℕ) (a : k.answer ≡ retention.Subsumed j) where
-    pub hand-fits : (j < max_rows) × (slot_words * j + slot_words ≤ length ws)
-    hand-fits = kept-fits r (subsumed-in r a)
-
-    pub hand-subsumed : {y : TransferState} {us xs : List ℕ} → y ≡ passed_by k Whole p.added
-        → us ≡ hits_added j (get_or ts (slot_words * i + unshared_at) 0) ws → xs ≡ shared_out i ts → Ends y us xs
-    unfolding entry_in
-    hand-subsumed q m x =
-        shared-out-so i ts (entry_in row) (handed-subsumed limits (entry_in row) v j (told r a)) x
-        (changed-as r Whole 0 (omega arith) p.added same q j (λ z. with_hits z (saturating_add z.hits (get_or row unshared_at 0)))
-        (subst
-        (λ (us : List ℕ). Stood k.header us ps
-        (change_at j (λ z. with_hits z (saturating_add z.hits (get_or row unshared_at 0)))
-        (receive limits (get_or row unshared_at 0) (source_of row) (row_in row) v).ledger))
-        (sym (m ∙ ap (λ (z : ℕ). hits_added j z ws) (word-five ts i)))
-        (stood-hits-added k.header ws ps (receive limits (get_or row unshared_at 0) (source_of row) (row_in row) v).ledger r.stood j
-        (subsumed-in r a)
-        (get_or row unshared_at 0))) refl)
-
--- ---- the tick before it
-module _ (p : TransferState) (q : TransferState) (e : q ≡ ticked_by p) where
-  header-same : q.header ≡ p.header
-  header-same = ap (λ (x : TransferState). x.header) e ∙ by (tick_of p.meter)
+  hand-unpaid {A} y u q e = rw q (go u e)
     where
-      by : (t : Tick) → (ticked_as p t).header ≡ p.header
-      by (tick.Ticked m) = refl
-      by (tick.Stopped m) = refl
+      go : (u : Unpaid) → Receives (Err u) → Ends (progress_of {A = A} (Err u)) (after p.added) ws ts
+      go Declined e =
+          stays-so i ts (entry_in row) (handed-declines limits (entry_in row) v (r (Err Declined) e).outcome)
+          (left_as (r (Err Declined) e) declined 0 p.added (omega arith) (omega arith) refl)
+      go Stopped e =
+          stays-so i ts (entry_in row) (handed-stops limits (entry_in row) v (r (Err Stopped) e).outcome)
+          (left_as (r (Err Stopped) e) stopped 0 p.added (omega arith) (omega arith) refl)
 
-  module _ (n c : ℕ) (slots postings : List ℕ) (v : Transfer) (h : Carried n c p slots postings v) where
-    abbrev Made : TransferState → Type 0
-    Made x = (tick_of v.meter ≡ tick.Ticked x.meter) × Carried n c x slots postings (ticked v x.meter whole)
+  module _ (y : Kept) (e : Receives (Ok y)) where
+    pub hand-added : (j : ℕ) → y ≡ Added j → {t : TransferState} → t ≡ after (p.added + 1) → {us xs : List ℕ} → us ≡ ws
+        → xs ≡ shared_out i ts → Ends whole t us xs
+    unfolding entry_in
+    hand-added j a {t} z {us} {xs} m x =
+        subst (λ (t : TransferState). Ends whole t us xs) (sym z)
+        (subst (λ (us : List ℕ). Ends whole (after (p.added + 1)) us xs) (sym m)
+        (shared-out-so i ts (entry_in row) (handed-added limits (entry_in row) v j (told (r (Ok y) e) (ap Ok a))) x
+        (left_as (r (Ok y) e) whole 1 (p.added + 1) (omega arith) refl refl)))
 
-    abbrev Missed : TransferState → Type 0
-    Missed x = (tick_of v.meter ≡ tick.Stopped x.meter) × Carried n c x slots postings (ticked v x.meter stopped)
+    module _ (j : ℕ) (a : y ≡ Subsumed j) where
+      pub hand-fits : (j < max_rows) × (slot_words * j + slot_words ≤ length ws)
+      hand-fits = kept-fits (r (Ok y) e) (subsumed-in (r (Ok y) e) (ap Ok a))
 
-    made_so : (t : Tick) → tick_of p.meter ≡ t → (ticked_as p t).progress ≡ Whole → Made (ticked_as p t)
-    made_so (tick.Ticked m) a w = (ap tick_of (sym h.meter) ∙ a, carried-ticked n c p slots postings v h m Whole)
-    made_so (tick.Stopped m) a w = let z : ◌≡◌ {A = ℕ} 0 1 = cc in absurd (omega arith)
+      pub hand-subsumed : {t : TransferState} → t ≡ after p.added → {us xs : List ℕ}
+          → us ≡ hits_added j (get_or ts (slot_words * i + unshared_at) 0) ws → xs ≡ shared_out i ts → Ends whole t us xs
+      unfolding entry_in
+      hand-subsumed {t} q {us} {xs} m x =
+          subst (λ (t : TransferState). Ends whole t us xs) (sym q)
+          (shared-out-so i ts (entry_in row) (handed-subsumed limits (entry_in row) v j (told (r (Ok y) e) (ap Ok a))) x
+          (changed-as (r (Ok y) e) whole 0 p.added (omega arith) (omega arith) j
+          (λ z. with_hits z (saturating_add z.hits (get_or row unshared_at 0)))
+          (subst
+          (λ (us : List ℕ). Stood k us ps (change_at j (λ z. with_hits z (saturating_add z.hits (get_or row unshared_at 0))) d.ledger))
+          (sym (m ∙ ap (λ (z : ℕ). hits_added j z ws) (word-five ts i)))
+          (stood-hits-added k ws ps d.ledger (r (Ok y) e).stood j (subsumed-in (r (Ok y) e) (ap Ok a))
+          (get_or row unshared_at 0))) refl))
 
-    missed-so : (t : Tick) → tick_of p.meter ≡ t → ((ticked_as p t).progress ≡ Whole → ⊥) → Missed (ticked_as p t)
-    missed-so (tick.Ticked m) a w = absurd (w refl)
-    missed-so (tick.Stopped m) a w = (ap tick_of (sym h.meter) ∙ a, carried-ticked n c p slots postings v h m Stopped)
+-- ---- the tick before it, with the meter m after it
+module _ (p : TransferState) (m : Meter) where
+  abbrev at : TransferState
+  at = record { header = p.header; purse = record { account = p.purse.account; meter = m }; added = p.added }
 
-    made : q.progress ≡ Whole → Made q
-    made w = subst Made (sym e) (made_so (tick_of p.meter) refl (sym (ap (λ (x : TransferState). x.progress) e) ∙ w))
+  module _ (n c : ℕ) (slots postings : List ℕ) (v : Transfer) (h : Carried n c whole p slots postings v) (limits : LearningLimits)
+      (ts : List ℕ) (i : ℕ) where
+    abbrev x : Entry
+    x = entry_in (slot_at ts i)
 
-    missed : (q.progress ≡ Whole → ⊥) → Missed q
-    missed w =
-        subst Missed (sym e) (missed-so (tick_of p.meter) refl
-        (subst (λ (x : TransferState). x.progress ≡ Whole → ⊥) e w))
+    pub row-halted : {A : Type 0} (r : Result A Unpaid) → r ≡ Err Stopped → tick.Stopped m ≡ tick_of p.purse.meter
+        → Handed n (suc c) (progress_of r) at slots postings i ts ts x (deliver_rows limits (x ∷ []) v)
+    row-halted r q e =
+        rw q (stays-so i ts x (deliver-halted limits x v m (ap tick_of (sym h.meter) ∙ sym e))
+        (carried-up n c at slots postings _ (carried-ticked n c p slots postings v h m stopped) (suc c) (omega arith)))
 
-    module _ (limits : LearningLimits) (ts : List ℕ) (i : ℕ) where
-      abbrev x : Entry
-      x = entry_in (slot_at ts i)
+    module _ (e : tick.Ticked m ≡ tick_of p.purse.meter) where
+      ticks : tick_of v.meter ≡ tick.Ticked m
+      ticks = ap tick_of (sym h.meter) ∙ sym e
 
-      pub row-halted : (q.progress ≡ Whole → ⊥)
-          → Handed n (suc c) q slots postings i ts ts x (deliver_rows limits (x ∷ []) v)
-      row-halted w =
-          let m = missed w in
-          stays-so i ts x (deliver-halted limits x v q.meter m.0) (carried-up n c q slots postings _ m.1 (suc c) (omega arith))
+      pub row-passed : passes_over limits (entry_in (take ((slot_words * i + slot_words) - slot_words * i) (drop (slot_words * i) ts))) ≡ true
+          → Handed n (suc c) whole at slots postings i ts ts x (deliver_rows limits (x ∷ []) v)
+      row-passed b =
+          stays-so i ts x (deliver-past limits x v m ticks
+          (ap (λ (r : List ℕ). passes_over limits (entry_in r)) (sym (slot-code ts i)) ∙ b))
+          (carried-up n c at slots postings _ (carried-ticked n c p slots postings v h m whole) (suc c) (omega arith))
 
-      module _ (w : q.progress ≡ Whole) where
-        pub row-passed : passes_over limits (entry_in (take ((slot_words * i + slot_words) - slot_words * i) (drop (slot_words * i) ts))) ≡ true
-            → Handed n (suc c) q slots postings i ts ts x (deliver_rows limits (x ∷ []) v)
-        row-passed b =
-            let m = made w in
-            stays-so i ts x (deliver-past limits x v q.meter m.0
-            (ap (λ (r : List ℕ). passes_over limits (entry_in r)) (sym (slot-code ts i)) ∙ b))
-            (carried-up n c q slots postings _ m.1 (suc c) (omega arith))
+      pub row-handed : passes_over limits (entry_in (take ((slot_words * i + slot_words) - slot_words * i) (drop (slot_words * i) ts))) ≡ false
+          → {z : Progress} {y : TransferState} {ws ps xs : List ℕ}
+          → ((n c : ℕ) (u : Transfer) → Carried n c whole at slots postings u → Handed n (suc c) z y ws ps i ts xs x (handed limits x u))
+          → Handed n (suc c) z y ws ps i ts xs x (deliver_rows limits (x ∷ []) v)
+      row-handed b {z} {y} {ws} {ps} {xs} f =
+          subst (Handed n (suc c) z y ws ps i ts xs x)
+          (sym
+          (deliver-handed limits x v m ticks (ap (λ (r : List ℕ). passes_over limits (entry_in r)) (sym (slot-code ts i)) ∙ b)))
+          (f n c (ticked v m whole) (carried-ticked n c p slots postings v h m whole))
 
-        pub row-handed : passes_over limits (entry_in (take ((slot_words * i + slot_words) - slot_words * i) (drop (slot_words * i) ts))) ≡ false
-            → {y : TransferState} {ws ps xs : List ℕ}
-            → ((n c : ℕ) (u : Transfer) → Carried n c q slots postings u → Handed n (suc c) y ws ps i ts xs x (handed limits x u))
-            → Handed n (suc c) y ws ps i ts xs x (deliver_rows limits (x ∷ []) v)
-        row-handed b {y} {ws} {ps} {xs} f =
-            let m = made w in
-            subst (Handed n (suc c) y ws ps i ts xs x)
-            (sym
-            (deliver-handed limits x v q.meter m.0 (ap (λ (r : List ℕ). passes_over limits (entry_in r)) (sym (slot-code ts i)) ∙ b)))
-            (f n c (ticked v q.meter whole) m.1)
-
-  pub ready-ticked : (slots postings row : List ℕ) (o : ℕ) → q.progress ≡ Whole → Ready p slots postings row o
-      → Ready q slots postings row o
-  ready-ticked slots postings row o w r = record {
+  pub ready-ticked : (slots postings row : List ℕ) (o : ℕ) → Ready p slots postings row o → Ready at slots postings row o
+  ready-ticked slots postings row o r = record {
     atoms = r.atoms;
     count = r.count;
-    state = ticked r.state q.meter whole;
-    carried = (made r.atoms r.count slots postings r.state r.carried w).1;
+    state = ticked r.state m whole;
+    carried = carried-ticked r.atoms r.count p slots postings r.state r.carried m whole;
     room = r.room;
-    stored = subst (λ (k : Header). Stored k.limits.atoms row) (sym header-same) r.stored;
+    stored = r.stored;
     most = r.most;
   }

@@ -1,6 +1,12 @@
 -- One row of the store, by the ways that it ends. Assumes nothing.
 use mathlib.Core.Path.{◌≡◌, refl, sym, ap, ◌∙◌, subst}
 use mathlib.Core.List.{List, [], ◌∷◌}
+use Rattle.std.specs.Prelude.{Result, Ok, Err}
+use Rattle.meter.specs.declared.Meter.{Meter}
+use Rattle.meter.specs.declared.Purse.{Purse}
+use Rattle.meter.specs.declared.Unpaid.{Unpaid}
+use Rattle.meter.specs.declared.Unpaid.TheVariants.{Declined, Stopped}
+use Rattle.model.specs.declared.Header.{Header}
 use Prim.Native.Nat.{ℕ, suc, ◌+◌, ◌*◌, ◌≤◌, ◌<◌}
 use native.Mathlib.Omega.{arith}
 use lib.ListN.{length, get_or}
@@ -11,85 +17,96 @@ use Rattle.meter.specs.Meter.{tick_of, pay}
 use Rattle.model.specs.declared.LearningLimits.{LearningLimits}
 use Rattle.model.specs.Records.{literals, with_delivered, slot_words, max_rows, max_outputs, hits_at, born_at}
 use Rattle.model.specs.Slots.{row_in, entry_in}
-use Rattle.model.specs.Transfers.{Transfer, receive, change_at, seed_rows}
+use Rattle.model.specs.Retention.{Retention}
+use Rattle.model.specs.Transfers.{Progress, whole, declined, stopped, Transfer, receive, change_at, seed_rows}
 use Rattle.slots.specs.Layout.{Stored}
 use Rattle.contents.specs.Lent.{lent}
 use Rattle.tier.specs.Tier.{marked_delivered}
 use Rattle.retain_keep.specs.Stood.{Stood}
 use Rattle.retain_keep.proofs.Standing.{stood-marked}
-use Rattle.retain.specs.declared.Retained.TheVariants as retention
-use Rattle.retain.specs.declared.Retention.{Retention}
+use Rattle.retain.specs.declared.Kept.{Kept}
+use Rattle.retain.specs.declared.Kept.TheVariants.{Subsumed, Added}
 use Rattle.retain.specs.Ends.{retain_end}
-use Rattle.transfers.specs.declared.receiving.Progress.TheVariants.{Whole, Declined, Stopped}
 use Rattle.transfers.specs.declared.receiving.TransferState.{TransferState}
 use Rattle.transfers.specs.Receiving.{received_end, source_of}
-use Rattle.transfers.specs.Transfer.{passed_by, ticked_as, ticked_by, Carried}
+use Rattle.transfers.specs.Transfer.{progress_of, Carried}
 use Rattle.transfers.proofs.Seeds.{seed-past, seed-halted, seed-stops, seed-declines, seed-subsumed, seed-added}
 use Rattle.transfers.proofs.Carrying.{Received, carried-ticked, carried-up, carried-received}
 use Rattle.transfers.proofs.Passing.{told, added-in, kept-fits, left_as, changed-as}
 
-module _ (n c : ℕ) (p : TransferState) (slots postings : List ℕ) (v : Transfer) (h : Carried n c p slots postings v) (row : List ℕ)
+module _ (n c : ℕ) (p : TransferState) (slots postings : List ℕ) (v : Transfer) (h : Carried n c whole p slots postings v) (row : List ℕ)
     (limits : LearningLimits) (mark : ℕ) where
-  abbrev Ends : TransferState → List ℕ → List ℕ → Type 0
-  Ends r ws ps = Carried n (suc c) r ws ps (seed_rows limits mark (entry_in row ∷ []) v)
+  abbrev Ends : Progress → TransferState → List ℕ → List ℕ → Type 0
+  Ends x r ws ps = Carried n (suc c) x r ws ps (seed_rows limits mark (entry_in row ∷ []) v)
 
-  -- ---- born up to the mark
-  by-tick : get_or row born_at 0 ≤ mark → (t : Tick) → tick_of p.meter ≡ t → Ends (ticked_as p t) slots postings
-  unfolding entry_in
-  by-tick b (tick.Ticked m) e =
-      subst (Carried n (suc c) (ticked_as p (tick.Ticked m)) slots postings)
-      (sym (seed-past limits mark (entry_in row) v (le-leb (get_or row born_at 0) mark b) m (ap tick_of (sym h.meter) ∙ e)))
-      (carried-up n c _ slots postings _ (carried-ticked n c p slots postings v h m Whole) (suc c) (omega arith))
-  by-tick b (tick.Stopped m) e =
-      subst (Carried n (suc c) (ticked_as p (tick.Stopped m)) slots postings)
-      (sym (seed-halted limits mark (entry_in row) v (le-leb (get_or row born_at 0) mark b) m (ap tick_of (sym h.meter) ∙ e)))
-      (carried-up n c _ slots postings _ (carried-ticked n c p slots postings v h m Stopped) (suc c) (omega arith))
+  -- ---- born up to the mark: a tick, made or not
+  module _ (early : get_or row born_at 0 ≤ mark) (m : Meter) where
+    abbrev at : TransferState
+    at = record { header = p.header; purse = record { account = p.purse.account; meter = m }; added = p.added }
 
-  pub row-past : get_or row born_at 0 ≤ mark → {r : TransferState} → r ≡ ticked_by p → Ends r slots postings
-  row-past b e = subst (λ (r : TransferState). Ends r slots postings) (sym e) (by-tick b (tick_of p.meter) refl)
+    pub row-past : tick.Ticked m ≡ tick_of p.purse.meter → Ends whole at slots postings
+    unfolding entry_in
+    row-past e =
+        subst (Carried n (suc c) whole at slots postings)
+        (sym (seed-past limits mark (entry_in row) v (le-leb (get_or row born_at 0) mark early) m (ap tick_of (sym h.meter) ∙ sym e)))
+        (carried-up n c _ slots postings _ (carried-ticked n c p slots postings v h m whole) (suc c) (omega arith))
 
-  -- ---- born after it: the row is received
+    pub row-halted : {A : Type 0} (r : Result A Unpaid) → r ≡ Err Stopped → tick.Stopped m ≡ tick_of p.purse.meter
+        → Ends (progress_of r) at slots postings
+    unfolding entry_in
+    row-halted r d e =
+        rw d (subst (Carried n (suc c) stopped at slots postings)
+        (sym (seed-halted limits mark (entry_in row) v (le-leb (get_or row born_at 0) mark early) m (ap tick_of (sym h.meter) ∙ sym e)))
+        (carried-up n c _ slots postings _ (carried-ticked n c p slots postings v h m stopped) (suc c) (omega arith)))
+
+  -- ---- born after it: the row is received, with the result o
   module _ (s : Stored p.header.limits.atoms row) (o : limits.founded_outputs ≤ max_outputs) (late : mark < get_or row born_at 0)
-      (k : Retention) (ws ps : List ℕ)
-      (e : retain_end k ws ps
-      ≡ received_end (lent p.header slots postings) (source_of row) (row_in row) limits.founded_outputs (get_or row hits_at 0)
-      (pay (suc (literals (row_in row))) p.account p.meter)) where
-    r : Received n c p v k ws ps (receive limits (get_or row hits_at 0) (source_of row) (row_in row) v)
-    r = carried-received n c p slots postings v h row s limits o (get_or row hits_at 0) k ws ps e
+      (k : Header) (ws ps : List ℕ) (b : Purse) where
+    abbrev Receives : Result Kept Unpaid → Type 0
+    Receives y =
+        retain_end y k ws ps b
+        ≡ received_end (lent p.header slots postings) (source_of row) (row_in row) limits.founded_outputs (get_or row hits_at 0)
+        (pay (suc (literals (row_in row))) p.purse.account p.purse.meter)
 
-    same : p.added ≡ p.added + 0
-    same = omega arith
+    abbrev d : Retention
+    d = receive limits (get_or row hits_at 0) (source_of row) (row_in row) v
 
-    pub row-stopped : k.answer ≡ retention.Stopped → {y : TransferState} → y ≡ passed_by k Stopped p.added → Ends y ws ps
+    r : (y : Result Kept Unpaid) → Receives y → Received n c p v y k ws ps b d
+    r y e = carried-received n c p slots postings v h row s limits o (get_or row hits_at 0) y k ws ps b e
+
+    abbrev after : ℕ → TransferState
+    after a = record { header = k; purse = b; added = a }
+
+    pub row-unpaid : {A : Type 0} (y : Result A Unpaid) (u : Unpaid) → y ≡ Err u → Receives (Err u)
+        → Ends (progress_of y) (after p.added) ws ps
     unfolding entry_in
-    row-stopped a q =
-        left_as r Stopped 0 (omega arith) p.added same q
-        (seed-stops limits mark (entry_in row) v (lt-leb (get_or row born_at 0) mark late) (told r a))
+    row-unpaid {A} y u q e = rw q (go u e)
+      where
+        go : (u : Unpaid) → Receives (Err u) → Ends (progress_of {A = A} (Err u)) (after p.added) ws ps
+        go Declined e =
+            left_as (r (Err Declined) e) declined 0 p.added (omega arith) (omega arith)
+            (seed-declines limits mark (entry_in row) v (lt-leb (get_or row born_at 0) mark late) (r (Err Declined) e).outcome)
+        go Stopped e =
+            left_as (r (Err Stopped) e) stopped 0 p.added (omega arith) (omega arith)
+            (seed-stops limits mark (entry_in row) v (lt-leb (get_or row born_at 0) mark late) (r (Err Stopped) e).outcome)
 
-    pub row-declined : k.answer ≡ retention.Declined → {y : TransferState} → y ≡ passed_by k Declined p.added → Ends y ws ps
-    unfolding entry_in
-    row-declined a q =
-        left_as r Declined 0 (omega arith) p.added same q
-        (seed-declines limits mark (entry_in row) v (lt-leb (get_or row born_at 0) mark late) (told r a))
-
-    pub row-subsumed : (i : ℕ) → k.answer ≡ retention.Subsumed i → {y : TransferState} → y ≡ passed_by k Whole p.added → Ends y ws ps
-    unfolding entry_in
-    row-subsumed i a q =
-        left_as r Whole 0 (omega arith) p.added same q
-        (seed-subsumed limits mark (entry_in row) v (lt-leb (get_or row born_at 0) mark late) i (told r a))
-
-    module _ (i : ℕ) (a : k.answer ≡ retention.Added i) where
-      pub row_fits_lem : (i < max_rows) × (slot_words * i + slot_words ≤ length ws)
-      row_fits_lem = kept-fits r (added-in r a)
-
-      pub row-added : {y : TransferState} {us : List ℕ} → y ≡ passed_by k Whole (p.added + 1) → us ≡ marked_delivered i ws → Ends y us ps
+    module _ (y : Kept) (e : Receives (Ok y)) where
+      pub row-subsumed : (i : ℕ) → y ≡ Subsumed i → Ends whole (after p.added) ws ps
       unfolding entry_in
-      row-added q m =
-          changed-as r Whole 1 (omega arith) (p.added + 1) refl q i (λ x. with_delivered x.unshared x)
-          (subst
-          (λ (us : List ℕ). Stood k.header us ps
-          (change_at i (λ x. with_delivered x.unshared x) (receive limits (get_or row hits_at 0) (source_of row) (row_in row) v).ledger))
-          (sym m)
-          (stood-marked k.header ws ps (receive limits (get_or row hits_at 0) (source_of row) (row_in row) v).ledger r.stood i
-          (added-in r a)))
-          (seed-added limits mark (entry_in row) v (lt-leb (get_or row born_at 0) mark late) i (told r a))
+      row-subsumed i a =
+          left_as (r (Ok y) e) whole 0 p.added (omega arith) (omega arith)
+          (seed-subsumed limits mark (entry_in row) v (lt-leb (get_or row born_at 0) mark late) i (told (r (Ok y) e) (ap Ok a)))
+
+      module _ (i : ℕ) (a : y ≡ Added i) where
+        pub row_fits_lem : (i < max_rows) × (slot_words * i + slot_words ≤ length ws)
+        row_fits_lem = kept-fits (r (Ok y) e) (added-in (r (Ok y) e) (ap Ok a))
+
+        pub row-added : {us : List ℕ} → us ≡ marked_delivered i ws → Ends whole (after (p.added + 1)) us ps
+        unfolding entry_in
+        row-added m =
+            changed-as (r (Ok y) e) whole 1 (p.added + 1) (omega arith) refl i (λ x. with_delivered x.unshared x)
+            (subst
+            (λ (us : List ℕ). Stood k us ps (change_at i (λ x. with_delivered x.unshared x) d.ledger))
+            (sym m)
+            (stood-marked k ws ps d.ledger (r (Ok y) e).stood i (added-in (r (Ok y) e) (ap Ok a))))
+            (seed-added limits mark (entry_in row) v (lt-leb (get_or row born_at 0) mark late) i (told (r (Ok y) e) (ap Ok a)))

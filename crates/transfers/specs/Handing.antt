@@ -5,7 +5,7 @@ use Rattle.model.specs.declared.Header.{Header}
 use Rattle.model.specs.Records.{Entry, saturating_add, with_hits, with_delivered}
 use Rattle.model.specs.Slots.{entries_in}
 use Rattle.model.specs.Retention.{Stops, Declines, Subsumes, Adds, Retention}
-use Rattle.model.specs.Transfers.{Transfer, Delivery, whole, declined, stopped, receive, received, change_at}
+use Rattle.model.specs.Transfers.{Progress, Transfer, Delivery, whole, declined, stopped, receive, received, change_at}
 use Rattle.retain_keep.specs.Stood.{Stood}
 use Rattle.transfers.specs.declared.receiving.TransferState.{TransferState}
 use Rattle.transfers.specs.Transfer.{Carried}
@@ -31,9 +31,9 @@ Keeps before after es fs =
     → Stood t after postings (record { header = h; entries = fs })
 
 -- the entry e at position i, and what the definition leaves of it in d; the receiver's words are slots and postings
-pub record Handed (n c : ℕ) (p : TransferState) (slots postings : List ℕ) (i : ℕ) (before after : List ℕ) (e : Entry)
+pub record Handed (n c : ℕ) (x : Progress) (p : TransferState) (slots postings : List ℕ) (i : ℕ) (before after : List ℕ) (e : Entry)
     (d : Delivery) : Type 0 where
-  pub carried : Carried n c p slots postings d.1
+  pub carried : Carried n c x p slots postings d.1
   pub one : length d.0 ≡ 1
   pub keeps : (done rest : List Entry) → length done ≡ i → Keeps before after (done ++ (e ∷ rest)) (done ++ (d.0 ++ rest))
 
@@ -43,6 +43,7 @@ pub record Lends (t : Header) (slots : List ℕ) : Type 0 where
   pub stood : Stood t slots postings (record { header = t; entries = entries_in t.rows slots })
 
 -- all rows
-pub record Delivered (n c : ℕ) (p : TransferState) (slots postings before after : List ℕ) (es : List Entry) (d : Delivery) : Type 0 where
-  pub carried : Carried n c p slots postings d.1
+pub record Delivered (n c : ℕ) (x : Progress) (p : TransferState) (slots postings before after : List ℕ) (es : List Entry)
+    (d : Delivery) : Type 0 where
+  pub carried : Carried n c x p slots postings d.1
   pub keeps : Keeps before after es d.0

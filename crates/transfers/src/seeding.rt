@@ -1,100 +1,84 @@
 // Seed: a tier takes the rows of a store.
 ghost use Rattle.std.specs.Prelude.{◌≡◌, [], ◌∷◌, ℕ, suc};
-ghost use Rattle.meter.specs.declared.Account.TheVariants.{Share};
 ghost use Rattle.model.specs.Slots.{entry_in, entries_in};
-ghost use Rattle.model.specs.Transfers.{Transfer, starting, seed_rows, mark_for};
+ghost use Rattle.model.specs.Transfers.{Transfer, whole, seed_rows, mark_for};
 ghost use Rattle.model.specs.Refusals.{ledger_in};
 ghost use Rattle.model.specs.Operations.{seed};
 ghost use Rattle.slots.specs.Layout.{RowsOver};
 ghost use Rattle.contents.specs.Lent.{lent};
 ghost use Rattle.retain_keep.specs.Stood.{Stood};
-ghost use Rattle.transfers.specs.Transfer.{Carried, Ready};
+ghost use Rattle.transfers.specs.Transfer.{progress_of, start_of, Carried, Ready};
 ghost use Rattle.transfers.specs.Ends.{marked_by, seeded_by, transfer_end};
 
-use crate::receiving::{Progress, TransferState, answer, passed, receive, start, tick_past};
+use crate::receiving::{TransferState, answer, receive, start};
 use crate::refusing::{refusal, untransferred};
-use meter::Meter;
+use meter::{Meter, Unpaid};
 use model::{
     BORN_AT, HITS_AT, Header, LearningLimits, Mark, SLOT_WORDS, TransferResult, saturating_add,
 };
-use retain::Retained;
+use retain::Kept;
 use retain_keep::put_account;
 use tier::mark_delivered;
 
 // The store's row in a slot: ticked past where it was born up to the mark;
 // else received with its hits, and marked delivered where it is Added.
 fn seed_row(
-    transfer: TransferState,
+    transfer: &mut TransferState,
     slots: &mut [u64],
     postings: &mut [u64],
     row: &[u64],
     limits: LearningLimits,
     mark: u64,
-) -> TransferState
-    requires { Ready transfer slots.old postings.old row.now limits.founded_outputs }
-    ensures { (n c : ℕ) (v : Transfer) → Carried n c transfer slots.old postings.old v
-        → Carried n (suc c) result slots.new postings.new (seed_rows limits mark (entry_in row.now ∷ []) v) }
+) -> Result<(), Unpaid>
+    requires { Ready transfer.old slots.old postings.old row.now limits.founded_outputs }
+    ensures { (n c : ℕ) (v : Transfer) → Carried n c whole transfer.old slots.old postings.old v
+        → Carried n (suc c) (progress_of result) transfer.new slots.new postings.new
+        (seed_rows limits mark (entry_in row.now ∷ []) v) }
 {
-    let header = transfer.header;
-    let account = transfer.account;
-    let meter = transfer.meter;
-    let added = transfer.added;
     if row[BORN_AT] <= mark {
-        return tick_past(transfer);
+        transfer.purse.meter.tick()?;
+        return Ok(());
     }
     let kept = receive(
-        header,
+        &mut transfer.header,
         slots,
         postings,
         row,
         limits.founded_outputs,
         row[HITS_AT],
-        account,
-        meter,
-    );
-    let answer = kept.answer;
-    match answer {
-        Retained::Stopped => passed(kept, Progress::Stopped, added),
-        Retained::Declined => passed(kept, Progress::Declined, added),
-        Retained::Subsumed(_) => passed(kept, Progress::Whole, added),
-        Retained::Added(at) => {
-            mark_delivered(slots, at as usize);
-            passed(kept, Progress::Whole, added + 1)
-        }
+        &mut transfer.purse,
+    )?;
+    if let Kept::Added(at) = kept {
+        mark_delivered(slots, at as usize);
+        transfer.added += 1;
     }
+    Ok(())
 }
 
 // The rows of a store in turn, up to one that is not taken for want of reads or ticks.
 fn seed_rows(
-    tier: Header,
+    transfer: &mut TransferState,
     slots: &mut [u64],
     postings: &mut [u64],
     given: &[u64],
     rows: usize,
     mark: u64,
-    work: Meter,
-) -> TransferState
-    requires fact_1 { Stood tier slots.old postings.old (ledger_in (lent tier slots.old postings.old)) }
-    requires fact_2 { RowsOver tier.limits.atoms rows given.now }
-    ensures { Carried tier.limits.atoms rows result slots.new postings.new
-        (seed_rows tier.limits mark (entries_in rows given.now)
-        (starting (ledger_in (lent tier slots.old postings.old)) (Share tier.sharing) work)) }
+) -> Result<(), Unpaid>
+    requires fact_1 { Stood transfer.old.header slots.old postings.old
+        (ledger_in (lent transfer.old.header slots.old postings.old)) }
+    requires fact_2 { RowsOver transfer.old.header.limits.atoms rows given.now }
+    requires fact_3 { transfer.old.added ≡ 0 }
+    ensures { Carried transfer.old.header.limits.atoms rows (progress_of result) transfer.new slots.new postings.new
+        (seed_rows transfer.old.header.limits mark (entries_in rows given.now)
+        (start_of transfer.old slots.old postings.old)) }
 {
-    let limits = tier.limits;
-    let sharing = tier.sharing;
-    let mut transfer = start(tier, sharing, work);
-    let mut i: usize = 0;
-    while i < rows {
+    let limits = transfer.header.limits;
+    for i in 0..rows {
         let a = SLOT_WORDS * i;
         let e = a + SLOT_WORDS;
-        transfer = seed_row(transfer, slots, postings, &given[a..e], limits, mark);
-        let progress = transfer.progress;
-        let Progress::Whole = progress else {
-            return transfer;
-        };
-        i += 1;
+        seed_row(transfer, slots, postings, &given[a..e], limits, mark)?;
     }
-    transfer
+    Ok(())
 }
 
 // The born of the store's row up to which a tier was seeded: 0 if its mark is none, or another store's.
@@ -113,42 +97,40 @@ fn mark_for(number: u64, mark: Mark) -> u64
 }
 
 // The tier's header, the mark moved to the store's born if the seeding was whole.
-fn mark_moved(progress: Progress, store: Header, header: Header) -> Header
-    ensures { result ≡ marked_by progress store header }
+fn mark_moved(end: Result<(), Unpaid>, store: Header, header: Header) -> Header
+    ensures { result ≡ marked_by (progress_of end) store header }
 {
-    match progress {
-        Progress::Whole => {
+    match end {
+        Ok(()) => {
             let mark = Mark::Marked {
                 number: store.number,
                 born: store.born,
             };
             Header { mark, ..header }
         }
-        Progress::Declined => header,
-        Progress::Stopped => header,
+        Err(_) => header,
     }
 }
 
 // The result of a seeding that is over: the account goes back to the tier, and the store counts the rows Added.
-fn seeded(transfer: TransferState, store: Header, work: Meter) -> TransferResult
-    ensures { result ≡ seeded_by transfer store work }
+fn seeded(
+    transfer: TransferState,
+    end: Result<(), Unpaid>,
+    store: Header,
+    work: Meter,
+) -> TransferResult
+    ensures { result ≡ seeded_by transfer end store work }
 {
-    let progress = transfer.progress;
-    let header = transfer.header;
-    let account = transfer.account;
-    let meter = transfer.meter;
-    let added = transfer.added;
-    let answer = answer(progress);
-    let tier = mark_moved(progress, store, put_account(header, account));
-    let seeded = saturating_add(store.seeded, added);
-    let ticks = meter.made(work);
+    let purse = transfer.purse;
+    let tier = mark_moved(end, store, put_account(transfer.header, purse.account));
+    let seeded = saturating_add(store.seeded, transfer.added);
     let store = Header { seeded, ..store };
     TransferResult {
-        answer,
+        answer: answer(end),
         tier,
         store,
-        meter,
-        ticks,
+        meter: purse.meter,
+        ticks: purse.meter.made(work),
     }
 }
 
@@ -179,17 +161,16 @@ pub fn seed(
     if n != 0 {
         return untransferred(n, tier, store, work);
     }
-    let mark = tier.mark;
-    let upto = mark_for(store.number, mark);
+    let upto = mark_for(store.number, tier.mark);
     let rows = store.rows as usize;
-    let transfer = seed_rows(
-        tier,
+    let mut transfer = start(tier, tier.sharing, work);
+    let end = seed_rows(
+        &mut transfer,
         tier_slots,
         tier_postings,
         store_slots,
         rows,
         upto,
-        work,
     );
-    seeded(transfer, store, work)
+    seeded(transfer, end, store, work)
 }

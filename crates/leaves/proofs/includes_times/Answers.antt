@@ -1,14 +1,17 @@
-use mathlib.Core.Path.{◌≡◌, refl, ap₂, ◌∙◌}
+-- `includes_times`: one, and as many more as were left, less one. Assumes nothing.
+use mathlib.Core.Path.{◌≡◌, ap₂, ◌∙◌}
 use mathlib.Core.List.{List}
-use Prim.Native.Nat.{ℕ}
+use Prim.Native.Nat.{ℕ, ◌+◌, ◌-◌, ◌<◌}
+use native.Mathlib.Omega.{arith}
 use Rattle.meter.specs.declared.Meter.{Meter}
 use Rattle.meter.specs.declared.Account.{Account}
 use Rattle.meter.specs.Judged.{Judged}
 use Rattle.meter.specs.Meter.{pay, judged}
 use Rattle.model.specs.Rows.{includes, includes_reads}
 use Rattle.slots.specs.Cursor.{list_of}
-use Rattle.leaves.proofs.Calling.{asked-more, asked-last, asked-limit, next-limit}
-use Rattle.leaves.proofs.Fitting.{outputs-sound, outputs-list}
+use Rattle.leaves.specs.Calls.{payer}
+use Rattle.leaves.proofs.Calling.{again-turn, again-end}
+use Rattle.leaves.proofs.Fitting.{outputs-list}
 use Rattle.leaves.proofs.includes_times.Goals.{After-outputs-wanted}
 use Rattle.leaves.proofs.includes_times.Invariants.{asks}
 use Rattle.leaves.proofs.includes_times.Goals as goal
@@ -23,33 +26,17 @@ module _ (c : After-outputs-wanted) where
       e ∙ ap₂ (λ (l k : List ℕ). judged (includes l k) (pay (includes_reads l k) x y))
       (outputs-list _ c.requires.fact_1 c.outputs-candidates.ensures) (outputs-list _ c.requires.fact_2 c.outputs-wanted.ensures)
 
-pub loop-left-init : goal.loop-left-init
-loop-left-init c = (refl, refl)
-
-pub includes-j-requires : goal.includes-j-requires
-includes-j-requires c = record {
-  fact_1 = outputs-sound _ c.requires.fact_1 c.outputs-candidates.ensures;
-  fact_2 = outputs-sound _ c.requires.fact_2 c.outputs-wanted.ensures;
-}
-
-pub next_meter-meter-requires : goal.next_meter-meter-requires
-next_meter-meter-requires c =
-    asked-limit _ _ _ _ (of-rows (goal.at.next_meter-meter-requires c).After-outputs-wanted _ _ c.includes-j.ensures) c.loop-left.invariant.0
-
-pub loop-left-preserved : goal.loop-left-preserved
-loop-left-preserved c =
-    let e = of-rows (goal.at.loop-left-preserved c).After-outputs-wanted _ _ c.includes-j.ensures in (
-      next-limit c.next_meter-meter.ensures (asked-limit _ _ _ _ e c.loop-left.invariant.0),
-      asked-more _ _ c.loop-left.left _ _ e c.loop-left-test.true c.next_account-account.ensures c.next_meter-meter.ensures
-          ∙ c.loop-left.invariant.1,
-    )
-
-pub includes-requires : goal.includes-requires
-includes-requires c = record {
-  fact_1 = outputs-sound _ c.requires.fact_1 c.outputs-candidates.ensures;
-  fact_2 = outputs-sound _ c.requires.fact_2 c.outputs-wanted.ensures;
-}
+pub loop-preserved : goal.loop-preserved
+loop-preserved c =
+    let a = c.args in
+    let some : 0 < a.times - c.loop.counter = omega arith in
+    let less : a.times - (c.loop.counter + 1) ≡ a.times - c.loop.counter - 1 = omega arith in
+    rw less (again-turn (asks a.a.now a.b.now) payer (a.times - c.loop.counter) _ some
+    (of-rows (goal.at.loop-preserved c).After-outputs-wanted _ _ c.includes.ensures) ∙ c.loop.invariant)
 
 pub returns : goal.returns
 returns c =
-    asked-last _ _ c.loop-left.left _ _ (of-rows (goal.at.returns c).After-outputs-wanted _ _ c.includes.ensures) c.loop-left-test.false ∙ c.loop-left.invariant.1
+    let a = c.args in
+    let none : a.times - c.loop.counter ≡ 0 = omega arith in
+    again-end (asks a.a.now a.b.now) payer (a.times - c.loop.counter) _ none
+    (of-rows (goal.at.returns c).After-outputs-wanted _ _ c.includes-2.ensures) ∙ c.loop.invariant

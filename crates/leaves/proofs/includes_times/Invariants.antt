@@ -13,9 +13,7 @@ use Rattle.leaves.proofs.includes_times.Given as goal
 abbrev pub asks : List ℕ → List ℕ → Account × Meter → Judged
 asks a b = asked (includes (row_in a).outputs (row_in b).outputs) (includes_reads (row_in a).outputs (row_in b).outputs)
 
-abbrev pub invariant-loop-left : goal.invariant-loop-left
-invariant-loop-left l = (l.meter.limit ≡ l.work.limit)
-    × (again (asks l.a l.b) payer (l.left - 1) (l.account, l.meter) ≡ again (asks l.a l.b) payer (l.initial.left - 1) (l.initial.account, l.initial.meter))
-
-abbrev pub decreases-loop-left : goal.decreases-loop-left
-decreases-loop-left l = l.left
+abbrev pub invariant-loop : goal.invariant-loop
+invariant-loop l =
+    again (asks l.a l.b) payer (l.times - l.counter) (l.purse.account, l.purse.meter)
+    ≡ again (asks l.a l.b) payer (l.times - 1) (l.initial.purse.account, l.initial.purse.meter)

@@ -15,8 +15,8 @@ returns-then-forms-gt3 c =
     includes-unchosen _ _ _ _ _ _ _ (yes c.lay.ensures.0 c.if-not-lay.false) (yes c.lay-2.ensures.0 c.if-not-lay-2.false)
     c.if-forms-gt3.true
 
-pub includes_times-j-requires : goal.includes_times-j-requires
-includes_times-j-requires c = record {
+pub includes_times-answered-requires : goal.includes_times-answered-requires
+includes_times-answered-requires c = record {
   fact_1 = (told _ c.lay.ensures.1 c.if-not-lay.false).laid;
   fact_2 = (told _ c.lay-2.ensures.1 c.if-not-lay-2.false).laid;
 }
@@ -26,4 +26,4 @@ returns c =
     let x = c.lay.ensures in
     includes-done _ _ _ _ _ _ _ (yes x.0 c.if-not-lay.false) (yes c.lay-2.ensures.0 c.if-not-lay-2.false) c.if-forms-gt3.false
     (told _ x.1 c.if-not-lay.false).row (told _ c.lay-2.ensures.1 c.if-not-lay-2.false).row
-    c.account_of.ensures c.meter_of.ensures c.includes_times-j.ensures c.put_judged.ensures
+    c.account_of.ensures c.meter_of.ensures c.includes_times-answered.ensures c.put_judged.ensures

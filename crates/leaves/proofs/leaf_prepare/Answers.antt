@@ -11,8 +11,8 @@ pub returns-then-slot-ne-SLOT_WORDS : goal.returns-then-slot-ne-SLOT_WORDS
 returns-then-slot-ne-SLOT_WORDS c =
     prepare-short _ _ _ _ _ _ _ (yes c.propose.ensures.0 c.if-not-propose.false) c.if-slot-ne-SLOT_WORDS.true
 
-pub prepare_times-j-requires : goal.prepare_times-j-requires
-prepare_times-j-requires c =
+pub prepare_times-answered-requires : goal.prepare_times-answered-requires
+prepare_times-answered-requires c =
     let p = c.propose.ensures in record {
       fact_1 = fits-proposed _ _ (yes p.0 c.if-not-propose.false) _ (told _ p.1 c.if-not-propose.false);
       fact_2 = search rules;
@@ -22,4 +22,4 @@ pub returns : goal.returns
 returns c =
     let p = c.propose.ensures in
     prepare-done _ _ _ _ _ _ _ (yes p.0 c.if-not-propose.false) c.if-slot-ne-SLOT_WORDS.false (told _ p.1 c.if-not-propose.false)
-    c.account_of.ensures c.meter_of.ensures c.prepare_times-j.ensures c.put_judged.ensures
+    c.account_of.ensures c.meter_of.ensures c.prepare_times-answered.ensures c.put_judged.ensures

@@ -10,8 +10,8 @@ pub returns-then-not-lay-2 : goal.returns-then-not-lay-2
 returns-then-not-lay-2 c =
     subsumes-unfit2 _ _ _ _ _ _ _ (yes c.lay.ensures.0 c.if-not-lay.false) (no c.lay-2.ensures.0 c.if-not-lay-2.true)
 
-pub subsumes_times-j-requires : goal.subsumes_times-j-requires
-subsumes_times-j-requires c = record {
+pub subsumes_times-answered-requires : goal.subsumes_times-answered-requires
+subsumes_times-answered-requires c = record {
   fact_1 = (told _ c.lay-2.ensures.1 c.if-not-lay-2.false).laid;
   fact_2 = (told _ c.lay.ensures.1 c.if-not-lay.false).laid;
 }
@@ -21,10 +21,10 @@ returns-then-turned-ne0 c =
     let x = c.lay.ensures in
     subsumes-turned _ _ _ _ _ _ _ (yes x.0 c.if-not-lay.false) (yes c.lay-2.ensures.0 c.if-not-lay-2.false) c.if-turned-ne0.true
     (told _ c.lay-2.ensures.1 c.if-not-lay-2.false).row (told _ x.1 c.if-not-lay.false).row
-    c.account_of.ensures c.meter_of.ensures c.subsumes_times-j.ensures c.put_judged.ensures
+    c.account_of.ensures c.meter_of.ensures c.subsumes_times-answered.ensures c.put_judged.ensures
 
-pub subsumes_times-j-requires-2 : goal.subsumes_times-j-requires-2
-subsumes_times-j-requires-2 c = record {
+pub subsumes_times-answered-requires-2 : goal.subsumes_times-answered-requires-2
+subsumes_times-answered-requires-2 c = record {
   fact_1 = (told _ c.lay.ensures.1 c.if-not-lay.false).laid;
   fact_2 = (told _ c.lay-2.ensures.1 c.if-not-lay-2.false).laid;
 }
@@ -34,4 +34,4 @@ returns c =
     let x = c.lay.ensures in
     subsumes-done _ _ _ _ _ _ _ (yes x.0 c.if-not-lay.false) (yes c.lay-2.ensures.0 c.if-not-lay-2.false) c.if-turned-ne0.false
     (told _ x.1 c.if-not-lay.false).row (told _ c.lay-2.ensures.1 c.if-not-lay-2.false).row
-    c.account_of-2.ensures c.meter_of-2.ensures c.subsumes_times-j-2.ensures c.put_judged-2.ensures
+    c.account_of.ensures c.meter_of.ensures c.subsumes_times-answered-2.ensures c.put_judged-2.ensures

@@ -21,8 +21,8 @@ returns-then-slot-ne-SLOT_WORDS c =
     union-short _ _ _ _ _ _ _ _ (yes c.lay.ensures.0 c.if-not-lay.false) (yes c.is_row.ensures c.if-not-is_row.false)
     c.if-maximum-gt-MAX_OUTPUTS.false c.if-slot-ne-SLOT_WORDS.true
 
-pub union_times-j-requires : goal.union_times-j-requires
-union_times-j-requires c =
+pub union_times-answered-requires : goal.union_times-answered-requires
+union_times-answered-requires c =
     record {
       fact_1 = (told _ c.lay.ensures.1 c.if-not-lay.false).laid;
       fact_2 = fits-most _ _ (yes c.is_row.ensures c.if-not-is_row.false);
@@ -35,4 +35,4 @@ returns c =
     let x = c.lay.ensures in
     union-done _ _ _ _ _ _ _ _ (yes x.0 c.if-not-lay.false) (yes c.is_row.ensures c.if-not-is_row.false) c.if-maximum-gt-MAX_OUTPUTS.false c.if-slot-ne-SLOT_WORDS.false
     (told _ x.1 c.if-not-lay.false).row c.account_of.ensures c.meter_of.ensures
-    c.union_times-j.ensures c.put_judged.ensures
+    c.union_times-answered.ensures c.put_judged.ensures

@@ -1,28 +1,21 @@
-use mathlib.Core.Path.{◌≡◌, refl, ◌∙◌}
-use mathlib.Core.Bool.{true}
-use Rattle.leaves.proofs.Calling.{prepare-more, prepare-last, prepare-judged, asked-limit, next-limit}
-use Rattle.leaves.proofs.prepare_times.Goals.{After-prepare-j}
-use borrow.Author.Rules.{rules}
+-- `prepare_times`: one, and as many more as were left, less one. Assumes nothing.
+use mathlib.Core.Path.{◌≡◌, ◌∙◌}
+use Prim.Native.Nat.{◌+◌, ◌-◌, ◌<◌}
+use native.Mathlib.Omega.{arith}
+use Rattle.model.specs.Slots.{row_in}
+use Rattle.leaves.specs.Calls.{prepare_once, preparer}
+use Rattle.leaves.proofs.Calling.{again-turn, again-end}
 use Rattle.leaves.proofs.prepare_times.Goals as goal
 
-limit : (c : After-prepare-j)
-    → c.prepare-j.result.meter.limit ≡ c.args.work.limit
-limit c = asked-limit true _ _ _ (prepare-judged _ c.loop-left.left _ _ _ c.prepare-j.ensures) c.loop-left.invariant.1
-
-pub loop-left-init : goal.loop-left-init
-loop-left-init c = (search rules, refl, refl)
-
-pub next_meter-meter-requires : goal.next_meter-meter-requires
-next_meter-meter-requires c = limit (goal.at.next_meter-meter-requires c).After-prepare-j
-
-pub loop-left-preserved : goal.loop-left-preserved
-loop-left-preserved c = (
-  search rules,
-  next-limit c.next_meter-meter.ensures (limit (goal.at.loop-left-preserved c).After-prepare-j),
-  prepare-more _ c.loop-left.left _ _ _ c.prepare-j.ensures c.loop-left-test.true
-      c.next_account-account.ensures c.next_meter-meter.ensures ∙ c.loop-left.invariant.2,
-)
+pub loop-preserved : goal.loop-preserved
+loop-preserved c =
+    let a = c.args in
+    let some : 0 < a.times - c.loop.counter = omega arith in
+    let less : a.times - (c.loop.counter + 1) ≡ a.times - c.loop.counter - 1 = omega arith in
+    rw less (again-turn (prepare_once (row_in a.p.now)) preparer (a.times - c.loop.counter) _ some (c.prepare.ensures) ∙ c.loop.invariant)
 
 pub returns : goal.returns
 returns c =
-    prepare-last _ c.loop-left.left _ _ _ c.prepare.ensures c.loop-left-test.false ∙ c.loop-left.invariant.2
+    let a = c.args in
+    let none : a.times - c.loop.counter ≡ 0 = omega arith in
+    again-end (prepare_once (row_in a.p.now)) preparer (a.times - c.loop.counter) _ none c.prepare-2.ensures ∙ c.loop.invariant

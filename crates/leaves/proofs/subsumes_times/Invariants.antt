@@ -13,9 +13,7 @@ use Rattle.leaves.proofs.subsumes_times.Given as goal
 abbrev pub asks : List ℕ → List ℕ → Account × Meter → Judged
 asks r s = asked (subsumes (row_in r) (row_in s)) (subsumes_reads (row_in r) (row_in s))
 
-abbrev pub invariant-loop-left : goal.invariant-loop-left
-invariant-loop-left l = (l.meter.limit ≡ l.work.limit)
-    × (again (asks l.r l.s) payer (l.left - 1) (l.account, l.meter) ≡ again (asks l.r l.s) payer (l.initial.left - 1) (l.initial.account, l.initial.meter))
-
-abbrev pub decreases-loop-left : goal.decreases-loop-left
-decreases-loop-left l = l.left
+abbrev pub invariant-loop : goal.invariant-loop
+invariant-loop l =
+    again (asks l.r l.s) payer (l.times - l.counter) (l.purse.account, l.purse.meter)
+    ≡ again (asks l.r l.s) payer (l.times - 1) (l.initial.purse.account, l.initial.purse.meter)

@@ -1,25 +1,21 @@
-use mathlib.Core.Path.{refl, ◌∙◌}
-use Rattle.leaves.proofs.Calling.{asked-more, asked-last, asked-limit, next-limit}
-use borrow.Author.Rules.{rules}
+-- `union_times`: one, and as many more as were left, less one. Assumes nothing.
+use mathlib.Core.Path.{◌≡◌, ◌∙◌}
+use Prim.Native.Nat.{◌+◌, ◌-◌, ◌<◌}
+use native.Mathlib.Omega.{arith}
+use Rattle.leaves.specs.Calls.{payer}
+use Rattle.leaves.proofs.union_times.Invariants.{asks}
+use Rattle.leaves.proofs.Calling.{again-turn, again-end}
 use Rattle.leaves.proofs.union_times.Goals as goal
 
-pub loop-left-init : goal.loop-left-init
-loop-left-init c = (search rules, refl, refl)
-
-pub next_meter-meter-requires : goal.next_meter-meter-requires
-next_meter-meter-requires c =
-    asked-limit _ _ _ _ c.unite-j.ensures.0 c.loop-left.invariant.1
-
-pub loop-left-preserved : goal.loop-left-preserved
-loop-left-preserved c = (
-  search rules,
-  next-limit c.next_meter-meter.ensures (asked-limit _ _ _ _ c.unite-j.ensures.0 c.loop-left.invariant.1),
-  asked-more _ _ c.loop-left.left _ _ c.unite-j.ensures.0 c.loop-left-test.true
-      c.next_account-account.ensures c.next_meter-meter.ensures ∙ c.loop-left.invariant.2,
-)
+pub loop-preserved : goal.loop-preserved
+loop-preserved c =
+    let a = c.args in
+    let some : 0 < a.times - c.loop.counter = omega arith in
+    let less : a.times - (c.loop.counter + 1) ≡ a.times - c.loop.counter - 1 = omega arith in
+    rw less (again-turn (asks a.r.now a.conditions.now a.outputs.now a.most) payer (a.times - c.loop.counter) _ some (c.unite.ensures.0) ∙ c.loop.invariant)
 
 pub returns : goal.returns
-returns c = (
-  asked-last _ _ c.loop-left.left _ _ c.unite.ensures.0 c.loop-left-test.false ∙ c.loop-left.invariant.2,
-  c.unite.ensures.1,
-)
+returns c =
+    let a = c.args in
+    let none : a.times - c.loop.counter ≡ 0 = omega arith in
+    (again-end (asks a.r.now a.conditions.now a.outputs.now a.most) payer (a.times - c.loop.counter) _ none c.unite-2.ensures.0 ∙ c.loop.invariant, c.unite-2.ensures.1)

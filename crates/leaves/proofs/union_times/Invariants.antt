@@ -1,8 +1,6 @@
 -- `union_times` meets its contract: each turn unites anew with the account and the meter that the last left. Assumes nothing.
 use mathlib.Core.Path.{◌≡◌}
 use Prim.Native.Nat.{ℕ, ◌-◌}
-use lib.ListN.{length}
-use Rattle.model.specs.Records.{slot_words}
 use Rattle.leaves.specs.Calls.{again, payer, asked}
 use mathlib.Core.List.{List}
 use Rattle.meter.specs.declared.Meter.{Meter}
@@ -17,11 +15,7 @@ abbrev pub asks : List ℕ → List ℕ → List ℕ → ℕ → Account × Mete
 asks r conditions outputs most =
     asked (joins most (row_in r) (row_of conditions outputs)) (join_reads most (row_in r) (row_of conditions outputs))
 
-abbrev pub invariant-loop-left : goal.invariant-loop-left
-invariant-loop-left l = (length l.p ≡ slot_words)
-    × (l.meter.limit ≡ l.work.limit)
-    × (again (asks l.r l.conditions l.outputs l.most) payer (l.left - 1) (l.account, l.meter)
-    ≡ again (asks l.r l.conditions l.outputs l.most) payer (l.initial.left - 1) (l.initial.account, l.initial.meter))
-
-abbrev pub decreases-loop-left : goal.decreases-loop-left
-decreases-loop-left l = l.left
+abbrev pub invariant-loop : goal.invariant-loop
+invariant-loop l =
+    again (asks l.r l.conditions l.outputs l.most) payer (l.times - l.counter) (l.purse.account, l.purse.meter)
+    ≡ again (asks l.r l.conditions l.outputs l.most) payer (l.times - 1) (l.initial.purse.account, l.initial.purse.meter)

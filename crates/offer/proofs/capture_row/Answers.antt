@@ -1,19 +1,12 @@
--- `offer::capture_row`. Assumes nothing.
+-- `capture_row` meets its contract. Assumes nothing.
 use Rattle.offer.proofs.Fitting.{tried-accepted}
 use Rattle.offer.proofs.Offering.{capture-retained}
 use Rattle.offer.proofs.capture_row.Goals as goal
 
-pub retain-kept-requires : goal.retain-kept-requires
-retain-kept-requires c = record {
-  fact_1 = tried-accepted c.args.header _ _ _ c.requires.fact_1;
-  fact_2 = c.requires.fact_2;
-  fact_3 = c.requires.fact_3;
-  fact_4 = c.requires.fact_5;
-}
+pub retain-kept-requires-clause-fact_1 : goal.retain-kept-requires-clause-fact_1
+retain-kept-requires-clause-fact_1 c = tried-accepted c.args.header _ _ _ c.requires.fact_1
 
 pub returns : goal.returns
 returns c =
-    let a =
-    c.args in
-    capture-retained a.header _ _ _ _ a.work c.retain-kept.result _ _ _
+    capture-retained c.args.header _ _ _ _ c.args.work c.retain-kept.result c.retain-kept.new.header c.retain-kept.new.purse _ _ _
     c.captured.ensures c.retain-kept.ensures

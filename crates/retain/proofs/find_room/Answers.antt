@@ -1,4 +1,5 @@
 -- `find_room` meets its contract, test by test. Assumes nothing.
+use mathlib.Core.Path.{◌∙◌}
 use Rattle.model.proofs.Slots.{entries-length}
 use Rattle.retain.proofs.Places.{room-first, room_after, room-full}
 use Rattle.retain.proofs.find_room.Goals as goal
@@ -10,12 +11,13 @@ pub returns-then-rows-limits : goal.returns-then-rows-limits
 returns-then-rows-limits c =
     room_after _ _ _ _ (entries-length c.args.rows c.args.slots.now) c.in-Nothing.ensures c.if-rows-limits.true
 
-pub returns-in-Some : goal.returns-in-Some
-returns-in-Some c =
+pub returns-in_ok-victim-in-Nothing : goal.returns-in_ok-victim-in-Nothing
+returns-in_ok-victim-in-Nothing c =
     room-full _ _ _ _ (entries-length c.args.rows c.args.slots.now) c.in-Nothing.ensures c.if-rows-limits.false _
-    c.requires.fact_2 _ c.in-Some.ensures
+    c.requires.fact_2 _ c.in_ok-victim-in-Nothing.ensures
 
-pub returns-in-None : goal.returns-in-None
-returns-in-None c =
-    room-full _ _ _ _ (entries-length c.args.rows c.args.slots.now) c.in-Nothing.ensures c.if-rows-limits.false _
-    c.requires.fact_2 _ c.in-None.ensures
+pub returns-in_err-victim-in-Nothing : goal.returns-in_err-victim-in-Nothing
+returns-in_err-victim-in-Nothing c =
+    c.from_residual.ensures
+    ∙ room-full _ _ _ _ (entries-length c.args.rows c.args.slots.now) c.in-Nothing.ensures c.if-rows-limits.false _
+    c.requires.fact_2 _ c.in_err-victim-in-Nothing.ensures

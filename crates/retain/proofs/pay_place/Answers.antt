@@ -1,41 +1,34 @@
--- `pay_place` meets its contract, by the answer of `prepare`. Assumes nothing.
-use mathlib.Core.Path.{ap, ◌∙◌}
-use Prim.Native.Nat.{ℕ}
+-- `pay_place` meets its contract: the reads of `prepare`, then those of the place. Assumes nothing.
+use native.Mathlib.Omega.{arith}
+use mathlib.Core.Path.{◌≡◌, ap, ◌∙◌}
+use Prim.Native.Nat.{ℕ, ◌+◌, ◌≤◌}
 use Rattle.meter.specs.Meter.{pay}
+use Rattle.meter.proofs.Payments.{passed, read-more, paid-more}
 use Rattle.model.specs.Rows.{prepare_reads}
 use Rattle.model.specs.Slots.{row_in}
 use Rattle.retain.specs.Places.{room_reads}
-use Rattle.retain.proofs.Paying.{pay-rest, never-no, pay-declined, pay-stopped}
-use Rattle.retain.proofs.pay_place.Goals.{After-prepare-prepared}
+use Rattle.retain.proofs.pay_place.Goals.{After-pay_all}
 use Rattle.retain.proofs.pay_place.Goals as goal
 
-module _ (c : After-prepare-prepared) where
-  abbrev first : ℕ
-  first = prepare_reads (row_in c.args.p.now)
+-- the reads of the place, after those of `prepare`
+module _ (c : After-pay_all) where
+  rest : pay c.room_reads.result c.prepare.new.purse.account c.prepare.new.purse.meter
+      ≡ pay (prepare_reads (row_in c.args.p.now) + room_reads c.args.room c.args.rows) c.args.purse.now.account c.args.purse.now.meter
+  rest =
+      ap (λ (n : ℕ). pay n c.prepare.new.purse.account c.prepare.new.purse.meter) c.room_reads.ensures
+      ∙ paid-more (prepare_reads (row_in c.args.p.now)) (room_reads c.args.room c.args.rows) _ _ c.in_ok-form.ensures.reads
 
-  abbrev second : ℕ
-  second = room_reads c.args.room c.args.rows
+pub returns-in_err-form : goal.returns-in_err-form
+returns-in_err-form c =
+    let e = passed c.from_residual.ensures.1 in
+    let n : ℕ = prepare_reads (row_in c.args.p.now) in
+    let more : n ≤ n + room_reads c.args.room c.args.rows = omega arith in
+    record { reads = read-more n _ _ _ _ e more c.in_err-form.ensures.reads; form = rw e tt }
 
-pub returns-in-Yes : goal.returns-in-Yes
-returns-in-Yes c =
-    let at_after_prepare_prepared = (goal.at.returns-in-Yes c).After-prepare-prepared in (
-      pay-rest (first at_after_prepare_prepared) (second at_after_prepare_prepared) _ _ c.prepare-prepared.ensures.0 c.in-Yes.is
-          (c.pay_all-read.ensures
-          ∙ ap (λ (n : ℕ). pay n c.prepare-prepared.result.judged.account c.prepare-prepared.result.judged.meter) c.room_reads.ensures),
-      c.prepare-prepared.ensures.1,
-    )
+pub returns-in_err-pay_all : goal.returns-in_err-pay_all
+returns-in_err-pay_all c =
+    let e = passed c.from_residual-in_err-pay_all.ensures.1 in
+    record { reads = rw e (c.in_err-pay_all.ensures ∙ rest (goal.at.returns-in_err-pay_all c).After-pay_all); form = rw e tt }
 
-pub returns-in-No : goal.returns-in-No
-returns-in-No c =
-    let at_after_prepare_prepared = (goal.at.returns-in-No c).After-prepare-prepared in
-    absurd (never-no (first at_after_prepare_prepared) (second at_after_prepare_prepared) _ _ c.prepare-prepared.ensures.0 c.in-No.is)
-
-pub returns-in-Declined : goal.returns-in-Declined
-returns-in-Declined c =
-    let at_after_prepare_prepared = (goal.at.returns-in-Declined c).After-prepare-prepared in
-    (pay-declined (first at_after_prepare_prepared) (second at_after_prepare_prepared) _ _ c.prepare-prepared.ensures.0 c.in-Declined.is, c.prepare-prepared.ensures.1)
-
-pub returns-in-Stopped : goal.returns-in-Stopped
-returns-in-Stopped c =
-    let at_after_prepare_prepared = (goal.at.returns-in-Stopped c).After-prepare-prepared in
-    (pay-stopped (first at_after_prepare_prepared) (second at_after_prepare_prepared) _ _ c.prepare-prepared.ensures.0 c.in-Stopped.is, c.prepare-prepared.ensures.1)
+pub returns : goal.returns
+returns c = record { reads = c.in_ok-pay_all.ensures ∙ rest (goal.at.returns c).After-pay_all; form = c.in_ok-form.ensures.form }

@@ -3,7 +3,7 @@ use mathlib.Core.Bool.{Bool}
 use Prim.Native.Nat.{ℕ}
 use Rattle.words.specs.Region.{has}
 use Rattle.retain.proofs.Ways.{after-inside, first-inside, victim-inside, first-before, first-held, place_after, place-first}
-use Rattle.retain.proofs.Ways.{place-victim, place_none}
+use Rattle.retain.proofs.Ways.{place-victim}
 use Rattle.retain.proofs.place.Goals.{Start}
 use Rattle.retain.proofs.place.Goals as goal
 
@@ -49,7 +49,3 @@ returns-in-First c =
 pub returns-in-Victim : goal.returns-in-Victim
 returns-in-Victim c =
     place-victim _ _ _ _ c.requires.fact_1 (f (goal.at.returns-in-Victim c).Start) _ _ _ _ _ c.in-Victim.is c.write_at-in-Victim.ensures
-
-pub returns-in-Protected : goal.returns-in-Protected
-returns-in-Protected c =
-    place_none _ _ _ _ c.requires.fact_1 (f (goal.at.returns-in-Protected c).Start) _ _ _ c.in-Protected.is

@@ -1,5 +1,6 @@
 -- `retain` meets its contract, by the outcome of the comparison. Assumes nothing.
 use mathlib.Core.Path.{◌≡◌, subst}
+use Rattle.std.specs.Prelude.{Option, Ok}
 use mathlib.Core.Bool.{Bool}
 use mathlib.Core.List.{List}
 use Prim.Native.Nat.{ℕ, ◌/◌}
@@ -10,40 +11,38 @@ use Rattle.words.proofs.Regions.{has-zero}
 use Rattle.model.specs.Records.{Row, Entry, max_rows}
 use Rattle.model.specs.Slots.{row_in, entries_in}
 use Rattle.model.specs.Retention.{first_pass, passed}
+use Rattle.meter.proofs.Payments.{passed as refused}
 use Rattle.row_propose.specs.Proposed.{Proposed}
 use Rattle.retain_keep.proofs.Holding.{held}
-use Rattle.retain_compare.specs.declared.Compared.{Compared}
 use Rattle.retain_compare.specs.Passes.{examined_by}
-use Rattle.retain_compare.specs.Turns.{WhereReplaces, both_passes}
-use Rattle.retain.proofs.Retaining.{retain-declined, retain-stopped, retain-subsumed, retain-row, retain-admits}
-use Rattle.retain.proofs.retain.Goals.{After-compare-beside, In-Replaces}
+use Rattle.retain_compare.specs.Turns.{WhereReplaces, compared_of, both_passes}
+use Rattle.retain.proofs.Rising.{both-row}
+use Rattle.retain.proofs.Retaining.{retain-unpaid, retain-subsumed, retain-admits}
+use Rattle.retain.proofs.retain.Goals.{After-compare, In_default}
 use Rattle.retain.proofs.retain.Goals as goal
 
-module _ (c : After-compare-beside) where
+module _ (c : After-compare) where
   abbrev P : Row
   P = row_in c.args.p.now
 
   abbrev es : List Entry
-  es = entries_in c.args.header.rows c.args.slots.now
-
-  abbrev words : List ℕ
-  words = c.compare-beside.new.p
+  es = entries_in c.args.header.now.rows c.args.slots.now
 
   abbrev f : ℕ → Bool
-  f = has c.compare-beside.new.replaced
+  f = has c.compare.new.replaced
 
--- no row subsumes the proposal
-module _ (c : In-Replaces) where
+  -- what is told where no row subsumes the proposal
   abbrev Told : Type 0
-  Told =
-      (both_passes (first_pass c.args.most (P (goal.at.In-Replaces c).After-compare-beside) (es (goal.at.In-Replaces c).After-compare-beside))
-      ≡ passed (examined_by (f (goal.at.In-Replaces c).After-compare-beside) 0 (es (goal.at.In-Replaces c).After-compare-beside)) (row_in (words (goal.at.In-Replaces c).After-compare-beside))) × Proposed (words (goal.at.In-Replaces c).After-compare-beside)
+  Told = (both_passes (first_pass c.args.most P es) ≡ passed (examined_by f 0 es) (row_in c.compare.new.p)) × Proposed c.compare.new.p
 
-  told : Told
-  told = subst (λ (v : Compared). WhereReplaces v Told) c.in-Replaces.is c.compare-beside.ensures.1
+module _ (c : In_default) where
+  told : Told (goal.at.In_default c).After-compare
+  told =
+      subst (λ (v : Option ℕ). WhereReplaces (compared_of (Ok v)) (Told (goal.at.In_default c).After-compare)) c.in_default.is
+      c.in_ok-found.ensures.1
 
-pub compare-beside-requires : goal.compare-beside-requires
-compare-beside-requires c =
+pub compare-requires : goal.compare-requires
+compare-requires c =
     let a = c.requires.fact_1 in record {
       fact_1 = held _ _ _ a;
       fact_2 = c.requires.fact_2;
@@ -54,30 +53,22 @@ compare-beside-requires c =
 
 pub admit-requires : goal.admit-requires
 admit-requires c =
-    let at_after_compare_beside = (goal.at.admit-requires c).After-compare-beside in
-    let at_in_replaces = (goal.at.admit-requires c).In-Replaces in record {
+    let t = told (goal.at.admit-requires c).In_default in
+    record {
       fact_1 = c.requires.fact_1;
-      fact_2 = (told at_in_replaces).1;
-      fact_3 = retain-row _ _ _ c.requires.fact_1 (P at_after_compare_beside) _ c.args.hits c.args.source _ _ c.compare-beside.ensures.0 (f at_after_compare_beside) _ (told at_in_replaces).0
-          c.requires.fact_4
-          c.requires.fact_3;
+      fact_2 = t.1;
+      fact_3 = both-row c.args.header.now c.args.most (row_in c.args.p.now) _ c.requires.fact_4 c.requires.fact_3 c.requires.fact_1.entries t.0;
     }
 
-pub returns-in-Replaces : goal.returns-in-Replaces
-returns-in-Replaces c =
-    let at_after_compare_beside = (goal.at.returns-in-Replaces c).After-compare-beside in
-    retain-admits _ _ _ c.requires.fact_1 (P at_after_compare_beside) _ _ _ _ _ c.compare-beside.ensures.0 (f at_after_compare_beside) _ (told (goal.at.returns-in-Replaces c).In-Replaces).0
-    c.in-Replaces.is
-    c.admit.ensures
+pub returns-in_err-found : goal.returns-in_err-found
+returns-in_err-found c =
+    retain-unpaid _ _ _ c.requires.fact_1 (row_in c.args.p.now) _ _ _ _ _ _ (refused c.from_residual.ensures.1) c.in_err-found.ensures.0
 
-pub returns-in-Subsumed : goal.returns-in-Subsumed
-returns-in-Subsumed c =
-    retain-subsumed _ _ _ c.requires.fact_1 (P (goal.at.returns-in-Subsumed c).After-compare-beside) _ _ _ _ _ c.compare-beside.ensures.0 _ c.in-Subsumed.is
+pub returns-in-Some : goal.returns-in-Some
+returns-in-Some c =
+    retain-subsumed _ _ _ c.requires.fact_1 (row_in c.args.p.now) _ _ _ _ _ c.in_ok-found.ensures.0 c.in-Some.is
 
-pub returns-in-Declined : goal.returns-in-Declined
-returns-in-Declined c =
-    retain-declined _ _ _ c.requires.fact_1 (P (goal.at.returns-in-Declined c).After-compare-beside) _ _ _ _ _ c.compare-beside.ensures.0 c.in-Declined.is
-
-pub returns-in-Stopped : goal.returns-in-Stopped
-returns-in-Stopped c =
-    retain-stopped _ _ _ c.requires.fact_1 (P (goal.at.returns-in-Stopped c).After-compare-beside) _ _ _ _ _ c.compare-beside.ensures.0 c.in-Stopped.is
+pub returns : goal.returns
+returns c =
+    retain-admits _ _ _ c.requires.fact_1 (row_in c.args.p.now) _ _ _ _ _ c.in_ok-found.ensures.0 c.in_default.is
+    (has c.compare.new.replaced) (row_in c.compare.new.p) (told (goal.at.returns c).In_default).0 c.admit.ensures

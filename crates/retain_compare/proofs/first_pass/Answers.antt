@@ -1,91 +1,55 @@
-use mathlib.Core.Path.{◌≡◌, refl, sym, subst}
-use mathlib.Core.List.{List}
-use Prim.Native.Nat.{ℕ, ◌*◌, ◌≤◌, ◌<◌}
 use native.Mathlib.Omega.{arith}
-use lib.ListN.{length, get_or}
-use Rattle.model.specs.Records.{Row, Entry}
-use Rattle.model.specs.Slots.{row_in, entries_in}
+use mathlib.Core.Path.{◌≡◌, refl}
+use Prim.Native.Nat.{◌<◌, ◌≤◌}
+use lib.ListN.{length}
+use Rattle.meter.proofs.Payments.{passed}
+use Rattle.model.specs.Slots.{entries_in}
 use Rattle.model.proofs.Slots.{entries-length}
-use Rattle.slots.proofs.Holding.{no-entry}
 use Rattle.retain_compare.proofs.Holding.{held-laid, held-row, held-under}
-use Rattle.retain_compare.proofs.Joining.{Beside}
-use Rattle.retain_compare.proofs.Advance.{advance-start, advance-found, advance-declined, advance-stopped, advance-turn}
-use Rattle.retain_compare.proofs.Advance.{advance-end}
-use Rattle.retain_compare.proofs.first_pass.Goals.{After-compare_row-turn, At-loop-i}
-use borrow.Author.Rules.{rules}
+use Rattle.retain_compare.proofs.Outcomes.{untold}
+use Rattle.retain_compare.proofs.Advance.{advance-start, advance-found, advance-unpaid, advance-turn, advance_end, advance-paid}
+use Rattle.retain_compare.proofs.first_pass.Goals.{At-loop-i, After-compare_row}
 use Rattle.retain_compare.proofs.first_pass.Goals as goal
 
-module _ (c : At-loop-i) where
-  abbrev W : List ℕ
-  W = c.args.slots.now
+count : (c : At-loop-i) → length (entries_in c.args.rows c.args.slots.now) ≡ c.args.rows
+count c = entries-length c.args.rows c.args.slots.now
 
-  abbrev es : List Entry
-  es = entries_in c.args.rows W
-
-  count : length es ≡ c.args.rows
-  count = entries-length c.args.rows W
-
-module _ (c : After-compare_row-turn) where
-  inside : c.loop-i.i < c.args.rows
-  inside = c.loop-i-test.true
-
-  within : c.loop-i.i < length (es (goal.at.After-compare_row-turn c).At-loop-i)
-  within = omega (arith, count (goal.at.After-compare_row-turn c).At-loop-i, inside)
-
-  abbrev words : List ℕ
-  words = c.compare_row-turn.new.p
-
-  abbrev after : List ℕ
-  after = c.compare_row-turn.new.replaced
-
-  turned : Beside c.args.most (get_or (es (goal.at.After-compare_row-turn c).At-loop-i) c.loop-i.i no-entry).row (row_in c.loop-i.p) c.loop-i.account
-      c.loop-i.meter
-      c.loop-i.replaced c.loop-i.i
-      c.compare_row-turn.result words after
-  turned =
-      subst (λ (r : Row). Beside c.args.most r (row_in c.loop-i.p) c.loop-i.account c.loop-i.meter
-      c.loop-i.replaced
-      c.loop-i.i c.compare_row-turn.result words after)
-      (held-row c.args.rows c.loop-i.i (W (goal.at.After-compare_row-turn c).At-loop-i) c.requires.fact_1 inside) c.compare_row-turn.ensures
+within : (c : After-compare_row) → c.loop-i.i < length (entries_in c.args.rows c.args.slots.now)
+within c = omega (arith, count (goal.at.After-compare_row c).At-loop-i, c.loop-i-test.true)
 
 pub loop-i-init : goal.loop-i-init
-loop-i-init c =
-    (omega arith, c.requires.fact_1.over.long, c.requires.fact_4, refl, advance-start _ _ _ _ _ _ _ refl c.requires.fact_2 c.requires.fact_5)
+loop-i-init c = advance-start _ _ _ _ _ _ _ refl c.requires.fact_2 c.requires.fact_5
 
-pub compare_row-turn-requires : goal.compare_row-turn-requires
-compare_row-turn-requires c =
-    record {
-      fact_1 = held-laid c.args.rows c.loop-i.i (W (goal.at.compare_row-turn-requires c).At-loop-i) c.requires.fact_1 c.loop-i-test.true;
-      fact_2 = c.loop-i.invariant.4.proposed;
-      fact_3 = c.requires.fact_3;
-    }
+pub compare_row-requires-clause-fact_1 : goal.compare_row-requires-clause-fact_1
+compare_row-requires-clause-fact_1 c = held-laid c.args.rows c.loop-i.i c.args.slots.now c.requires.fact_1 c.loop-i-test.true
 
-pub returns-in-Yes : goal.returns-in-Yes
-returns-in-Yes c =
-    let at_after_compare_row_turn = (goal.at.returns-in-Yes c).After-compare_row-turn in
-    advance-found _ _ _ _ _ _ _ _ _ _ _ c.loop-i.invariant.4 (within at_after_compare_row_turn) _ _ _ (turned at_after_compare_row_turn) c.in-Yes.is _ refl (words at_after_compare_row_turn) (after at_after_compare_row_turn)
+pub returns-in_err-compare_row : goal.returns-in_err-compare_row
+returns-in_err-compare_row c =
+    let l = within (goal.at.returns-in_err-compare_row c).After-compare_row in
+    let r = held-row c.args.rows c.loop-i.i c.args.slots.now c.requires.fact_1 c.loop-i-test.true in
+    let e = passed c.from_residual.ensures.1 in (
+      rw e (advance-unpaid _ _ _ _ _ _ _ _ _ _ _ c.loop-i.invariant l _ _ (rw r at c.in_err-compare_row.ensures.asked)),
+      untold _ e,
+    )
 
-pub returns-in-Declined : goal.returns-in-Declined
-returns-in-Declined c =
-    let at_after_compare_row_turn = (goal.at.returns-in-Declined c).After-compare_row-turn in
-    advance-declined _ _ _ _ _ _ _ _ _ _ _ c.loop-i.invariant.4 (within at_after_compare_row_turn) _ _ _ (turned at_after_compare_row_turn) c.in-Declined.is _ refl (words at_after_compare_row_turn)
-    (after at_after_compare_row_turn)
-
-pub returns-in-Stopped : goal.returns-in-Stopped
-returns-in-Stopped c =
-    let at_after_compare_row_turn = (goal.at.returns-in-Stopped c).After-compare_row-turn in
-    advance-stopped _ _ _ _ _ _ _ _ _ _ _ c.loop-i.invariant.4 (within at_after_compare_row_turn) _ _ _ (turned at_after_compare_row_turn) c.in-Stopped.is _ refl (words at_after_compare_row_turn) (after at_after_compare_row_turn)
-
-pub loop-i-smaller : goal.loop-i-smaller
-loop-i-smaller c = omega arith
+pub returns-then-branch : goal.returns-then-branch
+returns-then-branch c =
+    let l = within (goal.at.returns-then-branch c).After-compare_row in
+    let r = held-row c.args.rows c.loop-i.i c.args.slots.now c.requires.fact_1 c.loop-i-test.true in
+    (advance-found _ _ _ _ _ _ _ _ _ _ _ c.loop-i.invariant l _ (rw (r, c.if-branch.true) at c.in_ok-compare_row.ensures.asked), tt)
 
 pub loop-i-preserved : goal.loop-i-preserved
 loop-i-preserved c =
-    let at_after_compare_row_turn = (goal.at.loop-i-preserved c).After-compare_row-turn in
-    let s = advance-turn _ _ _ _ _ _ _ _ _ _ _ c.loop-i.invariant.4 (within at_after_compare_row_turn) _ _ _ (turned at_after_compare_row_turn) c.requires.fact_3
-    (held-under c.args.rows c.loop-i.i (W (goal.at.loop-i-preserved c).At-loop-i) c.requires.fact_1 (inside at_after_compare_row_turn)) (omega arith) c.in-No.is in
-    (omega arith, c.loop-i.invariant.1, subst (λ (n : ℕ). c.args.rows ≤ 64 * n) (sym s.same) c.requires.fact_4, search rules, s)
+    let l = within (goal.at.loop-i-preserved c).After-compare_row in
+    let r = held-row c.args.rows c.loop-i.i c.args.slots.now c.requires.fact_1 c.loop-i-test.true in
+    advance-turn _ _ _ _ _ _ _ _ _ _ _ c.loop-i.invariant l _ _ _ (rw (r, c.if-branch.false) at c.in_ok-compare_row.ensures.asked)
+    (rw (r, c.if-branch.false) at c.in_ok-compare_row.ensures.joined) c.requires.fact_3
+    (held-under c.args.rows c.loop-i.i c.args.slots.now c.requires.fact_1 c.loop-i-test.true) (omega (arith, c.loop-i.invariant.same))
 
 pub returns : goal.returns
 returns c =
-    advance-end _ _ _ _ _ _ _ _ _ _ _ c.loop-i.invariant.4 (omega (arith, count (goal.at.returns c).At-loop-i, c.loop-i-test.false)) _ refl
+    let l : length (entries_in c.args.rows c.args.slots.now) ≤ c.loop-i.i
+    = omega (arith, count (goal.at.returns c).At-loop-i, c.loop-i-test.false) in (
+      advance-paid _ _ _ _ _ _ _ _ _ _ _ c.loop-i.invariant l,
+      (advance_end _ _ _ _ _ _ _ _ _ _ _ c.loop-i.invariant l, c.loop-i.invariant.proposed),
+    )

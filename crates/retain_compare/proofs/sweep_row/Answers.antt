@@ -1,41 +1,49 @@
 -- `sweep_row` meets its contract: marked already, not paid, or the question of the row. Assumes nothing.
-use mathlib.Core.Path.{sym, ◌∙◌}
-use mathlib.Core.Bool.{Bool}
-use mathlib.Core.List.{List}
-use Prim.Native.Nat.{ℕ}
+use native.Mathlib.Omega.{arith}
+use mathlib.Core.Path.{◌≡◌, sym, ◌∙◌}
+use mathlib.Core.Bool.{false}
 use Rattle.words.specs.Region.{has}
-use Rattle.model.specs.Records.{Row}
+use Rattle.meter.specs.Read.{Paid}
+use Rattle.meter.specs.Meter.{pay}
+use Rattle.meter.proofs.Laws.{pay-none}
+use Rattle.meter.proofs.Payments.{passed, read-one, read-more, paid-one, unanswered, answered}
+use Rattle.model.specs.Rows.{subsumes, subsumes_reads}
 use Rattle.model.specs.Slots.{row_in}
-use Rattle.retain_compare.proofs.Sweeping.{sweep-marked, sweep-paid, sweep-ended}
-use Rattle.retain_compare.proofs.sweep_row.Goals.{After-contains}
+use Rattle.retain_compare.specs.Turns.{sweep_reads}
+use Rattle.retain_compare.proofs.sweep_row.Goals.{Else-contains, In_ok-subsumes}
 use Rattle.retain_compare.proofs.sweep_row.Goals as goal
 
-module _ (c : After-contains) where
-  abbrev P : Row
-  P = row_in c.args.p.now
+unmarked : (c : Else-contains) → has c.args.replaced.now c.args.position ≡ false
+unmarked c = sym c.contains.ensures ∙ c.if-contains.false
 
-  abbrev R : Row
-  R = row_in c.args.row.now
+-- one read, then those of the question
+asked : (c : In_ok-subsumes) → Paid c.subsumes.new.purse.account c.subsumes.new.purse.meter
+    ≡ pay (sweep_reads (has c.args.replaced.now c.args.position) (row_in c.args.p.now) (row_in c.args.row.now)) c.args.purse.now.account
+    c.args.purse.now.meter
+asked c =
+    rw (unmarked (goal.at.In_ok-subsumes c).Else-contains)
+    ((answered _ _ _ _ _ _ c.in_ok-subsumes.ensures).1 ∙ paid-one _ _ _ c.in_ok-pay.ensures)
 
-  abbrev marks : List ℕ
-  marks = c.args.replaced.now
+pub returns-then-contains-clause-paid : goal.returns-then-contains-clause-paid
+returns-then-contains-clause-paid c = rw (sym c.contains.ensures ∙ c.if-contains.true) (sym (pay-none _ _))
 
-  abbrev marked : Bool
-  marked = has marks c.args.position
+pub returns-in_err-pay-clause-paid : goal.returns-in_err-pay-clause-paid
+returns-in_err-pay-clause-paid c =
+    rw (unmarked (goal.at.returns-in_err-pay-clause-paid c).Else-contains)
+    (read-one _ _ _ _ (passed c.from_residual.ensures.1) (omega arith) c.in_err-pay.ensures)
 
-pub returns-then-contains : goal.returns-then-contains
-returns-then-contains c =
-    let at_after_contains = (goal.at.returns-then-contains c).After-contains in
-    sweep-marked (P at_after_contains) (R at_after_contains) _ _ (marks at_after_contains) _ (marked at_after_contains) (sym c.contains.ensures ∙ c.if-contains.true) c.answer.ensures
+pub returns-in_err-subsumes-clause-paid : goal.returns-in_err-subsumes-clause-paid
+returns-in_err-subsumes-clause-paid c =
+    let p = row_in c.args.p.now in
+    let r = row_in c.args.row.now in
+    let n = subsumes_reads p r in
+    rw (unmarked (goal.at.returns-in_err-subsumes-clause-paid c).Else-contains)
+    (read-more n n _ _ _ (passed c.from_residual-in_err-subsumes.ensures.1) (omega arith)
+    (unanswered (subsumes p r) n _ _ _ _ c.in_err-subsumes.ensures)
+    ∙ paid-one _ _ _ c.in_ok-pay.ensures)
 
-pub returns-in-Paid : goal.returns-in-Paid
-returns-in-Paid c =
-    let at_after_contains = (goal.at.returns-in-Paid c).After-contains in
-    sweep-paid (P at_after_contains) (R at_after_contains) _ _ (marks at_after_contains) _ (marked at_after_contains) _ _ (sym c.contains.ensures ∙ c.if-contains.false)
-    (sym c.in-Paid.is ∙ c.pay_read.ensures) c.mark_dominated.ensures
+pub returns-then-branch-clause-paid : goal.returns-then-branch-clause-paid
+returns-then-branch-clause-paid c = asked (goal.at.returns-then-branch-clause-paid c).In_ok-subsumes
 
-pub returns-in-Ended : goal.returns-in-Ended
-returns-in-Ended c =
-    let at_after_contains = (goal.at.returns-in-Ended c).After-contains in
-    sweep-ended (P at_after_contains) (R at_after_contains) _ _ (marks at_after_contains) _ (marked at_after_contains) _ (sym c.contains.ensures ∙ c.if-contains.false)
-    (sym c.in-Ended.is ∙ c.pay_read.ensures)
+pub returns-else-branch-clause-paid : goal.returns-else-branch-clause-paid
+returns-else-branch-clause-paid c = asked (goal.at.returns-else-branch-clause-paid c).In_ok-subsumes

@@ -1,167 +1,129 @@
--- `unite` meets its contract: the count, and where it says Yes and more the growth. Assumes nothing.
+-- `unite` meets its contract: the count, and where there is room and more the growth. Assumes nothing.
 use native.Mathlib.Omega.{arith}
-use mathlib.Core.Path.{◌≡◌, ap, ap₂, ◌∙◌, subst}
+use mathlib.Core.Path.{◌≡◌, refl, ap, ap₂, ◌∙◌}
 use mathlib.Core.Bool.{true}
 use mathlib.Core.List.{List}
 use Prim.Native.Nat.{ℕ, ◌+◌, ◌-◌, ◌≤◌}
-use lib.ListN.{length, get_or}
-use borrow.Rule.Slice.PartMut.{put_mid, mid_of, same_len_mid}
+use lib.ListN.{length, get_or, take}
+use borrow.Rule.Slice.PartMut.{put_mid, mid_of}
+use Rattle.std.specs.Prelude.{Ok}
 use Rattle.meter.specs.Judged.{Judged}
-use Rattle.meter.specs.Verdict.{Verdict}
-use Rattle.meter.specs.Verdict as verdict
 use Rattle.meter.specs.Meter.{pay, judged}
-use Rattle.model.specs.Records.{slot_words, max_conditions, max_outputs, conditions_at, outputs_at, body_at}
+use Rattle.meter.specs.Results.{judged_end}
+use Rattle.meter.proofs.Payments.{passed, ask-more, unpaid-first}
+use Rattle.model.specs.Records.{max_outputs, conditions_at, outputs_at, body_at}
 use Rattle.model.specs.Union.{union, grown}
 use Rattle.model.specs.Slots.{row_in}
 use Rattle.slots.specs.Cursor.{list_of}
-use Rattle.meter.specs.Results.{WhereYes}
 use Rattle.row_propose.proofs.Parts.{zeros}
-use Rattle.row_propose.proofs.Proposing.{proposed-laid, proposed-outputs}
-use Rattle.row_merge.specs.Merge.{BeginsWith, if_yes}
-use Rattle.row_merge.proofs.Asking.{counting, unite-not, unite-fits, unite-same, unite-grows}
-use Rattle.row_merge.proofs.Growing.{kept-not, changed-yes, sound-left, sides-union, front_long, front_of, grown-long, grown-by}
-use Rattle.row_merge.proofs.Growing.{grown-same}
-use Rattle.row_merge.proofs.unite.Goals.{After-merge-counted, Else-n-end, Start}
+use Rattle.row_propose.proofs.Proposing.{proposed-outputs}
+use Rattle.row_merge.proofs.Asking.{counting, united, unite-both, unite-fits, unite-same, unite-grows}
+use Rattle.row_merge.proofs.Growing.{sides-union, front_long, front_of, grown-long, grown-by, grown-same}
+use Rattle.row_merge.proofs.unite.Goals.{After-merge, In-Some, After-pay_all}
 use Rattle.row_merge.proofs.unite.Goals as goal
 
-module _ (t : Start) where
-  abbrev R : List ℕ
-  R = t.args.r.now
-
+module _ (c : After-merge) where
   abbrev P : List ℕ
-  P = t.args.p.now
+  P = c.args.p.now
 
   -- the outputs of the union, and how many the proposal has
   abbrev os : List ℕ
-  os = (grown (row_in R) (row_in P)).outputs
+  os = (grown (row_in c.args.r.now) (row_in P)).outputs
 
   abbrev before : ℕ
   before = length (row_in P).outputs
 
-  sizes : (get_or P conditions_at 0 ≤ max_conditions) × (get_or P outputs_at 0 ≤ max_outputs) × (length P ≡ slot_words)
-  sizes =
-      let l = proposed-laid P t.requires.fact_2 in (l.counted.few, l.counted.most, l.long)
+  abbrev start : ℕ
+  start = body_at + get_or P conditions_at 0
 
-module _ (c : After-merge-counted) where
-  abbrev i : Judged
-  i = c.merge-counted.result.judged
+  -- what `merge` is asked for, and the room that it is lent
+  abbrev asked : List ℕ
+  asked = union (list_of c.args.r.now c.outputs.result) (mid_of start (start + get_or P outputs_at 0 - start) P)
 
-  abbrev n : ℕ
-  n = c.merge-counted.result.count
+  abbrev room : List ℕ
+  room = mid_of 0 (c.args.most - 0) (zeros max_outputs)
 
-  abbrev made : List ℕ
-  made = c.merge-counted.new.out
+  unites : asked ≡ os
+  unites = sides-union c.args.r.now P c.requires.fact_1 c.requires.fact_2 c.outputs.ensures
 
-  unites : union (list_of (R (goal.at.After-merge-counted c).Start) c.outputs.result)
-      (mid_of (body_at + get_or (P (goal.at.After-merge-counted c).Start) conditions_at 0)
-      (body_at + get_or (P (goal.at.After-merge-counted c).Start) conditions_at 0 + get_or (P (goal.at.After-merge-counted c).Start) outputs_at 0 - (body_at + get_or (P (goal.at.After-merge-counted c).Start) conditions_at 0)) (P (goal.at.After-merge-counted c).Start)) ≡ os (goal.at.After-merge-counted c).Start
-  unites = sides-union (R (goal.at.After-merge-counted c).Start) (P (goal.at.After-merge-counted c).Start) c.requires.fact_1 c.requires.fact_2 c.outputs.ensures
-
-  room-long : length (mid_of 0 (c.args.most - 0) (zeros max_outputs)) ≡ c.args.most
+  room-long : length room ≡ c.args.most
   room-long = front_long c.args.most (zeros max_outputs) c.requires.fact_3
 
-  counts : i ≡ counting (os (goal.at.After-merge-counted c).Start) c.args.most c.args.account c.args.work
-  counts =
-      c.merge-counted.ensures.0
-      ∙ ap₂ (λ (q : List ℕ) (k : ℕ). counting q k c.args.account c.args.work) unites room-long
+  counts : {i : Judged} → i ≡ counting asked (length room) c.args.purse.now.account c.args.purse.now.meter
+      → i ≡ counting os c.args.most c.args.purse.now.account c.args.purse.now.meter
+  counts e = e ∙ ap₂ (λ (q : List ℕ) (k : ℕ). counting q k c.args.purse.now.account c.args.purse.now.meter) unites room-long
 
-  tells : i.verdict ≡ verdict.Yes → BeginsWith n made (os (goal.at.After-merge-counted c).Start)
-  tells y =
-      subst (λ (v : Verdict). WhereYes v (BeginsWith n made (os (goal.at.After-merge-counted c).Start))) y
-      (subst (λ (q : List ℕ). WhereYes i.verdict (BeginsWith n made q)) unites c.merge-counted.ensures.1)
+pub returns-in_err-n-clause-asked : goal.returns-in_err-n-clause-asked
+returns-in_err-n-clause-asked c =
+    let s = (goal.at.returns-in_err-n-clause-asked c).After-merge in
+    rw (passed c.from_residual.ensures.1)
+    (unpaid-first c.in_err-n.field-0.0 _ _
+    ∙ unite-both c.args.most (os s) (before s) _ _ _ (counts s c.in_err-n.ensures.counted))
 
-  long : length made ≡ c.args.most
-  long = c.merge-counted.auto.out ∙ room-long
+pub returns-in_default-clause-asked : goal.returns-in_default-clause-asked
+returns-in_default-clause-asked c =
+    let s = (goal.at.returns-in_default-clause-asked c).After-merge in
+    unite-both c.args.most (os s) (before s) _ _ _ (counts s (rw c.in_default.is at c.in_ok-n.ensures.counted))
 
--- the proposal grows
-module _ (c : Else-n-end) where
-  abbrev yes : (i (goal.at.Else-n-end c).After-merge-counted).verdict ≡ verdict.Yes
-  yes = c.in-Yes.is
+-- there is room for the union
+module _ (c : In-Some) where
+  abbrev union_of : List ℕ
+  union_of = os (goal.at.In-Some c).After-merge
 
-  fits : length (os (goal.at.Else-n-end c).Start) ≤ c.args.most
-  fits =
-      unite-fits c.args.most (os (goal.at.Else-n-end c).Start) (before (goal.at.Else-n-end c).Start) c.args.account c.args.work (i (goal.at.Else-n-end c).After-merge-counted)
-      (counts (goal.at.Else-n-end c).After-merge-counted) yes
+  abbrev length_before : ℕ
+  length_before = before (goal.at.In-Some c).After-merge
 
-  abbrev kept : List ℕ
-  kept = put_mid 0 (c.args.most - 0) (zeros max_outputs) (made (goal.at.Else-n-end c).After-merge-counted)
+  counted : judged_end (Ok true) c.merge.new.purse ≡ counting union_of c.args.most c.args.purse.now.account c.args.purse.now.meter
+  counted = counts (goal.at.In-Some c).After-merge (rw c.in-Some.is at c.in_ok-n.ensures.counted)
 
-  kept-long : length kept ≡ max_outputs
-  kept-long = same_len_mid 0 (c.args.most - 0) (zeros max_outputs) (made (goal.at.Else-n-end c).After-merge-counted) c.merge-counted.auto.out
+  written : (c.in-Some.n ≡ length union_of) × (take c.in-Some.n c.merge.new.out ≡ union_of)
+  written = rw (unites (goal.at.In-Some c).After-merge) at (rw c.in-Some.is at c.in_ok-n.ensures.written)
 
-  few : n (goal.at.Else-n-end c).After-merge-counted ≤ length (made (goal.at.Else-n-end c).After-merge-counted)
-  few = omega (arith, fits, long (goal.at.Else-n-end c).After-merge-counted, (tells (goal.at.Else-n-end c).After-merge-counted yes).0)
+  fits : length union_of ≤ c.args.most
+  fits = unite-fits c.args.most union_of length_before _ _ _ counted refl
 
-  part : mid_of 0 (n (goal.at.Else-n-end c).After-merge-counted - 0) kept ≡ os (goal.at.Else-n-end c).Start
-  part = front_of (n (goal.at.Else-n-end c).After-merge-counted) (c.args.most - 0) (zeros max_outputs) (made (goal.at.Else-n-end c).After-merge-counted) few ∙ (tells (goal.at.Else-n-end c).After-merge-counted yes).1
+  -- the part of the words that are kept for it which is the union
+  part : mid_of 0 (c.in-Some.n - 0) (put_mid 0 (c.args.most - 0) (zeros max_outputs) c.merge.new.out) ≡ union_of
+  part =
+      front_of c.in-Some.n (c.args.most - 0) (zeros max_outputs) c.merge.new.out
+      (omega (arith, fits, written.0, c.merge.auto.out, room-long (goal.at.In-Some c).After-merge)) ∙ written.1
 
-pub bounds-p-0 : goal.bounds-p-0
-bounds-p-0 c = omega (arith, (sizes (goal.at.bounds-p-0 c).Start).2)
+pub returns-then-n-end-clause-asked : goal.returns-then-n-end-clause-asked
+returns-then-n-end-clause-asked c =
+    let s = (goal.at.returns-then-n-end-clause-asked c).In-Some in
+    let same : length (union_of s) ≡ length_before s = omega (arith, (written s).0, proposed-outputs c.args.p.now c.requires.fact_2) in
+    unite-same c.args.most (union_of s) (length_before s) _ _ _ (counted s) refl same
 
-pub overflow_add-at : goal.overflow_add-at
-overflow_add-at c = let z = sizes (goal.at.overflow_add-at c).Start in record { fits = omega (arith, z.0) }
+pub returns-then-n-end-clause-grows : goal.returns-then-n-end-clause-grows
+returns-then-n-end-clause-grows c =
+    let s = (goal.at.returns-then-n-end-clause-grows c).In-Some in
+    let same : length (union_of s) ≡ length_before s = omega (arith, (written s).0, proposed-outputs c.args.p.now c.requires.fact_2) in
+    grown-same (row_in c.args.r.now) c.args.p.now c.requires.fact_2 same
 
-pub bounds-p-1 : goal.bounds-p-1
-bounds-p-1 c = omega (arith, (sizes (goal.at.bounds-p-1 c).Start).2)
+-- as many reads as the union has outputs, where it has more than the proposal
+module _ (c : After-pay_all) where
+  grows : judged true (pay c.in-Some.n c.merge.new.purse.account c.merge.new.purse.meter)
+      ≡ united c.args.most (union_of (goal.at.After-pay_all c).In-Some) (length_before (goal.at.After-pay_all c).In-Some)
+      c.args.purse.now.account c.args.purse.now.meter
+  grows =
+      let s = (goal.at.After-pay_all c).In-Some in
+      let more : length (union_of s) ≡ length_before s → ⊥
+      = λ e. c.if-n-end.false (omega (arith, e, (written s).0, proposed-outputs c.args.p.now c.requires.fact_2)) in
+      rw (written s).0 (unite-grows c.args.most (union_of s) (length_before s) _ _ _ (counted s) refl more)
 
-pub overflow_add-end : goal.overflow_add-end
-overflow_add-end c = let z = sizes (goal.at.overflow_add-end c).Start in record { fits = omega (arith, z.0, z.1) }
+pub returns-in_err-pay_all-clause-asked : goal.returns-in_err-pay_all-clause-asked
+returns-in_err-pay_all-clause-asked c =
+    ask-more true _ c.in-Some.n _ _ _ (passed c.from_residual-in_err-pay_all.ensures.1) (omega arith) c.in_err-pay_all.ensures
+    ∙ grows (goal.at.returns-in_err-pay_all-clause-asked c).After-pay_all
 
-pub offset_bounds-p-at : goal.offset_bounds-p-at
-offset_bounds-p-at c = let z = sizes (goal.at.offset_bounds-p-at c).Start in record { fits = omega (arith, z.0) }
+pub grow-requires-clause-fact_2 : goal.grow-requires-clause-fact_2
+grow-requires-clause-fact_2 c =
+    let s = (goal.at.grow-requires-clause-fact_2 c).In-Some in
+    omega (arith, ap length (part s), grown-long (row_in c.args.r.now) (row_in c.args.p.now))
 
-pub slice_bounds-merge-end : goal.slice_bounds-merge-end
-slice_bounds-merge-end c = let z = sizes (goal.at.slice_bounds-merge-end c).Start in omega (arith, z.0, z.1, z.2)
+pub returns-clause-asked : goal.returns-clause-asked
+returns-clause-asked c = ap (judged true) c.in_ok-pay_all.ensures ∙ grows (goal.at.returns-clause-asked c).After-pay_all
 
-pub merge-counted-requires : goal.merge-counted-requires
-merge-counted-requires c =
-    let at_start = (goal.at.merge-counted-requires c).Start in
-    sound-left (R at_start) (P at_start) c.requires.fact_1 c.requires.fact_2 c.outputs.ensures
-
-pub returns-in_default : goal.returns-in_default
-returns-in_default c =
-    let at_after_merge_counted = (goal.at.returns-in_default c).After-merge-counted in
-    let at_start = (goal.at.returns-in_default c).Start in (
-      unite-not c.args.most (os at_start) (before at_start) c.args.account c.args.work (i at_after_merge_counted) (counts at_after_merge_counted) c.in_default.not-Yes,
-      kept-not (i at_after_merge_counted).verdict _ _ c.in_default.not-Yes,
-    )
-
-pub returns-then-n-end : goal.returns-then-n-end
-returns-then-n-end c =
-    let at_start = (goal.at.returns-then-n-end c).Start in
-    let at_after_merge_counted = (goal.at.returns-then-n-end c).After-merge-counted in
-    let y : (i at_after_merge_counted).verdict ≡ verdict.Yes = c.in-Yes.is in
-    let e : length (os at_start) ≡ before at_start = omega (arith, (tells at_after_merge_counted y).0, c.if-n-end.true, proposed-outputs (P at_start) c.requires.fact_2) in (
-      unite-same c.args.most (os at_start) (before at_start) c.args.account c.args.work (i at_after_merge_counted) (counts at_after_merge_counted) y e,
-      grown-same (row_in (R at_start)) (P at_start) c.requires.fact_2 e ∙ changed-yes (i at_after_merge_counted).verdict _ _ y,
-    )
-
-pub slice_bounds-regrow-end : goal.slice_bounds-regrow-end
-slice_bounds-regrow-end c =
-    let at_in_yes = (goal.at.slice_bounds-regrow-end c).Else-n-end in
-    omega (arith, kept-long at_in_yes, few at_in_yes, long (goal.at.slice_bounds-regrow-end c).After-merge-counted, c.requires.fact_3)
-
-pub regrow-requires : goal.regrow-requires
-regrow-requires c =
-    let at_start = (goal.at.regrow-requires c).Start in
-    let at_in_yes = (goal.at.regrow-requires c).Else-n-end in
-    let l : length (mid_of 0 (n (goal.at.regrow-requires c).After-merge-counted - 0) (kept at_in_yes)) ≡ length (os at_start) = ap length (part at_in_yes) in
-    record {
-      fact_1 = c.requires.fact_2;
-      fact_2 = omega (arith, l, grown-long (row_in (R at_start)) (row_in (P at_start)));
-      fact_3 = omega (arith, l, fits at_in_yes, c.requires.fact_3);
-    }
-
-pub returns : goal.returns
-returns c =
-    let at_else_n_end = (goal.at.returns c).Else-n-end in
-    let at_start = (goal.at.returns c).Start in
-    let at_after_merge_counted = (goal.at.returns c).After-merge-counted in
-    let j = i at_after_merge_counted in
-    let d : length (os at_start) ≡ before at_start
-    → ⊥ = λ q. c.if-n-end.false (omega (arith, (tells at_after_merge_counted (yes at_else_n_end)).0, q, proposed-outputs (P at_start) c.requires.fact_2)) in (
-      c.regrow.ensures.0 ∙ ap (λ (q : List ℕ). judged true (pay (length q) j.account j.meter)) (part at_else_n_end)
-          ∙ unite-grows c.args.most (os at_start) (before at_start) c.args.account c.args.work j (counts at_after_merge_counted) (yes at_else_n_end) d,
-      c.regrow.ensures.1 ∙ ap (λ (q : List ℕ). if_yes c.regrow.result.verdict q (P at_start))
-          (grown-by (row_in (R at_start)) (row_in (P at_start)) (part at_else_n_end)),
-    )
+pub returns-clause-grows : goal.returns-clause-grows
+returns-clause-grows c =
+    c.grow.ensures ∙ grown-by (row_in c.args.r.now) (row_in c.args.p.now) (part (goal.at.returns-clause-grows c).In-Some)

@@ -40,9 +40,6 @@ slice_bounds-count_words-end c = let k = counts c.requires in omega arith
 pub count_words-first-requires : goal.count_words-first-requires
 count_words-first-requires c = first_under c.requires
 
-pub offset_bounds-p-n : goal.offset_bounds-p-n
-offset_bounds-p-n c = let k = counts c.requires in omega arith
-
 pub slice_bounds-count_words-end-2 : goal.slice_bounds-count_words-end-2
 slice_bounds-count_words-end-2 c = let k = counts c.requires in omega arith
 
@@ -54,9 +51,6 @@ overflow_add-total c = omega (arith, (first-is c).1, (second_is c).1)
 
 pub overflow_mul-total : goal.overflow_mul-total
 overflow_mul-total c = omega (arith, (first-is c).1, (second_is c).1)
-
-pub overflow_mul-m : goal.overflow_mul-m
-overflow_mul-m c = let k = counts c.requires in omega arith
 
 pub returns-then-total-m : goal.returns-then-total-m
 returns-then-total-m c =

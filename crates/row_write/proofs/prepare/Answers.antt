@@ -1,13 +1,15 @@
 -- `prepare` meets its contract: the form, then the reads that it asks for. Assumes nothing.
 use native.Mathlib.Omega.{arith}
-use mathlib.Core.Path.{ap, ap₂, ◌∙◌}
-use mathlib.Core.Bool.{true}
+use mathlib.Core.Path.{◌≡◌, ap, ap₂, ◌∙◌}
 use Prim.Native.Nat.{ℕ}
-use Rattle.meter.specs.Meter.{pay, judged}
+use Rattle.meter.specs.Meter.{pay}
+use Rattle.meter.proofs.Payments.{passed}
+use Rattle.model.specs.Rows.{prepare_reads}
 use Rattle.model.specs.Slots.{row_in}
 use Rattle.row_write.specs.Forms.{reads_for}
 use Rattle.row_write.proofs.Forms.{reads-form}
 use Rattle.row_write.proofs.Proposal.{counts}
+use Rattle.row_write.proofs.prepare.Goals.{After-pay_all}
 use Rattle.row_write.proofs.prepare.Goals as goal
 
 pub bounds-p-0 : goal.bounds-p-0
@@ -22,13 +24,23 @@ overflow_add-p c = let k = counts c.requires in omega arith
 pub reads_of-reads-requires : goal.reads_of-reads-requires
 reads_of-reads-requires c = let k = counts c.requires in omega arith
 
-pub returns : goal.returns
-returns c =
-    let f = c.form_of-form in (
-      c.judge-judged.ensures
-          ∙ ap (judged true)
-          (c.pay_all.ensures
-          ∙ ap (λ (n : ℕ). pay n c.args.account c.args.work)
-          (c.reads_of-reads.ensures ∙ ap₂ reads_for (counts c.requires).all f.ensures ∙ reads-form (row_in c.args.p.now))),
-      f.ensures,
-    )
+-- the reads that are paid
+module _ (c : After-pay_all) where
+  reads-are : c.reads_of-reads.result ≡ prepare_reads (row_in c.args.p.now)
+  reads-are =
+      c.reads_of-reads.ensures ∙ ap₂ reads_for (counts c.requires).all c.form_of-form.ensures ∙ reads-form (row_in c.args.p.now)
+
+  paid : pay c.reads_of-reads.result c.args.purse.now.account c.args.purse.now.meter
+      ≡ pay (prepare_reads (row_in c.args.p.now)) c.args.purse.now.account c.args.purse.now.meter
+  paid = ap (λ (n : ℕ). pay n c.args.purse.now.account c.args.purse.now.meter) reads-are
+
+pub returns-clause-reads : goal.returns-clause-reads
+returns-clause-reads c = c.in_ok-pay_all.ensures ∙ paid (goal.at.returns-clause-reads c).After-pay_all
+
+pub returns-in_err-pay_all : goal.returns-in_err-pay_all
+returns-in_err-pay_all c =
+    let e = passed c.from_residual.ensures.1 in
+    record {
+      reads = rw e (c.in_err-pay_all.ensures ∙ paid (goal.at.returns-in_err-pay_all c).After-pay_all);
+      form = rw e tt;
+    }

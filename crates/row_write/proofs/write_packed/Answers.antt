@@ -55,14 +55,8 @@ pack-requires c =
     let both = ready-first c.requires.fact_2 (at (goal.at.pack-requires c).Start) (zeros (goal.at.pack-requires c).After-fill_zero) in
     record { fact_1 = both.0; fact_2 = both.1.0; fact_3 = both.1.1 }
 
-pub offset_bounds-p-n : goal.offset_bounds-p-n
-offset_bounds-p-n c = let n = counts c.requires.fact_2 in omega arith
-
 pub slice_bounds-pack-end-3 : goal.slice_bounds-pack-end-3
 slice_bounds-pack-end-3 c = let n = counts c.requires.fact_2 in omega arith
-
-pub offset_bounds-body-a : goal.offset_bounds-body-a
-offset_bounds-body-a c = let p = at (goal.at.offset_bounds-body-a c).Start in omega arith
 
 pub slice_bounds-pack-count-4 : goal.slice_bounds-pack-count-4
 slice_bounds-pack-count-4 c = let p = at (goal.at.slice_bounds-pack-count-4 c).Start in omega arith

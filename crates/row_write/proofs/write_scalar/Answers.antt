@@ -9,17 +9,8 @@ use Rattle.row_write.proofs.Laying.{scalar-long, scalar-words}
 use Rattle.row_write.proofs.Proposal.{counts}
 use Rattle.row_write.proofs.write_scalar.Goals as goal
 
-pub slice_bounds-copy-count : goal.slice_bounds-copy-count
-slice_bounds-copy-count c = let k = counts c.requires.fact_2 in omega arith
-
-pub slice_bounds-copy-start : goal.slice_bounds-copy-start
-slice_bounds-copy-start c = let k = counts c.requires.fact_2 in omega arith
-
 pub slice_bounds-copy-end : goal.slice_bounds-copy-end
 slice_bounds-copy-end c = let k = counts c.requires.fact_2 in omega arith
-
-pub copy-requires : goal.copy-requires
-copy-requires c = omega (arith, c.requires.fact_1, scalar-long c.args.p.now c.requires.fact_2)
 
 pub returns : goal.returns
 returns c =

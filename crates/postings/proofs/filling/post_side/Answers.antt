@@ -3,7 +3,11 @@ use mathlib.Core.Path.{◌≡◌, sym, ap, ◌∙◌}
 use mathlib.Core.List.{List, ◌∷◌}
 use Prim.Native.Nat.{ℕ, ◌+◌, ◌*◌, ◌/◌, ◌^◌, ◌<◌}
 use native.Mathlib.Omega.{arith}
+use mathlib.Core.Bool.{false}
+use lib.Dec.{eqb}
 use lib.ListN.{length, length-set}
+use Rattle.std.specs.Prelude.{Some}
+use Rattle.std.specs.Option.{option_eq}
 use Rattle.words.specs.Bit.{max_word}
 use Rattle.words.specs.Literal.{code_bits}
 use Rattle.meter.proofs.Payments.{passed}
@@ -12,7 +16,8 @@ use Rattle.slots.specs.Cursor.{list_of, rest, rest-start}
 use Rattle.postings.specs.Steps.{Walk, walk}
 use Rattle.postings.specs.Filling.{Filled, put, filled_to, side_postings, left_postings}
 use Rattle.postings.proofs.Walking.{walk-done}
-use Rattle.postings.proofs.Fills.{posting-fits, filled-ended, Room, room-head, room-skip, room-post, left-start, left-none}
+use Rattle.postings.proofs.Fills.{posting-fits, filled-ended, Room, room-head, room-skip, room-post, left-start, left-none, last_met}
+use Rattle.postings.proofs.Fills.{met-same, met-other}
 use Rattle.postings.proofs.Fills.{left-skip, left_step}
 use Rattle.postings.proofs.filling.post_side.Goals.{In-Some}
 use Rattle.postings.proofs.filling.post_side.Goals as goal
@@ -33,9 +38,12 @@ module _ (c : In-Some) where
   fits : code / 2 * max_rows + c.args.position < 2 ^ 64
   fits = posting-fits code_bits (omega arith) code c.args.position (room-head room).0 c.requires.place
 
+  other : option_eq eqb c.loop-next.last (Some (code / 2)) ≡ false → code / 2 ≡ last_met c.loop-next.last → ⊥
+  other = met-other c.loop-next.last (code / 2) (omega (arith, fits))
+
   -- the literal and what is past it are the whole
   turn : let a = c.args in
-      walk put (left_postings a.position c.loop-next.last (code ∷ past)) (filled_to c.loop-next.next c.loop-next.postings)
+      walk put (left_postings a.position (last_met c.loop-next.last) (code ∷ past)) (filled_to c.loop-next.next c.loop-next.postings)
       c.loop-next.meter
       ≡ walk put (side_postings a.position (list_of a.slot.now a.side)) (filled_to a.at a.postings.now) a.meter.now
   turn = rw taken at c.loop-next.invariant.same
@@ -53,14 +61,15 @@ loop-next-init c =
           ∙ left-start a.position code_bits max_word (list_of a.slot.now a.side) c.requires.low (omega arith));
     }
 
-pub loop-next-preserved-then-atom-last : goal.loop-next-preserved-then-atom-last
-loop-next-preserved-then-atom-last c =
-    let here = (goal.at.loop-next-preserved-then-atom-last c).In-Some in
+pub loop-next-preserved-then-eq : goal.loop-next-preserved-then-eq
+loop-next-preserved-then-eq c =
+    let here = (goal.at.loop-next-preserved-then-eq c).In-Some in
     record {
       placed = c.in-Some.ensures.1;
       room = room-skip (room here);
       same = ap (λ (l : List ℕ). walk put l (filled_to c.loop-next.next c.loop-next.postings) c.loop-next.meter)
-          (sym (left-skip c.args.position c.loop-next.last (code here) (past here) c.if-atom-last.true)) ∙ turn here;
+          (sym (left-skip c.args.position (last_met c.loop-next.last) (code here) (past here)
+          (met-same _ _ (sym c.eq.ensures ∙ c.if-eq.true)))) ∙ turn here;
     }
 
 pub returns-in_err-tick : goal.returns-in_err-tick
@@ -68,7 +77,7 @@ returns-in_err-tick c =
     let here = (goal.at.returns-in_err-tick c).In-Some in
     filled-ended _ _ _ (passed c.from_residual.ensures.1)
     (ap (λ (w : Walk Filled). w.end)
-    (sym (left_step _ _ (code here) (past here) _ _ c.if-atom-last.false c.in_err-tick.ensures) ∙ turn here))
+    (sym (left_step _ _ (code here) (past here) _ _ (other here (sym c.eq.ensures ∙ c.if-eq.false)) c.in_err-tick.ensures) ∙ turn here))
 
 pub overflow_mul-postings : goal.overflow_mul-postings
 overflow_mul-postings c = omega (arith, fits (goal.at.overflow_mul-postings c).In-Some)
@@ -82,11 +91,13 @@ loop-next-preserved c =
     record {
       placed = c.in-Some.ensures.1;
       room = simp length-set (room-post (room here));
-      same = sym (left_step _ _ (code here) (past here) _ _ c.if-atom-last.false c.in_ok-tick.ensures) ∙ turn here;
+      same = sym (left_step _ _ (code here) (past here) _ _ (other here (sym c.eq.ensures ∙ c.if-eq.false)) c.in_ok-tick.ensures)
+          ∙ turn here;
     }
 
 pub returns : goal.returns
 returns c =
     walk-done put _ _ _
-    (ap (left_postings c.args.position c.loop-next.last) (sym c.in_default.ensures.0) ∙ left-none c.args.position c.loop-next.last)
+    (ap (left_postings c.args.position (last_met c.loop-next.last)) (sym c.in_default.ensures.0)
+    ∙ left-none c.args.position (last_met c.loop-next.last))
     ∙ c.loop-next.invariant.same

@@ -5,14 +5,14 @@ use Rattle.words.specs.Literal.{code_bits}
 use Rattle.slots.specs.Cursor.{list_of, rest, Placed}
 use Rattle.postings.specs.Steps.{walk}
 use Rattle.postings.specs.Filling.{put, filled_to, side_postings, left_postings}
-use Rattle.postings.proofs.Fills.{Room}
+use Rattle.postings.proofs.Fills.{Room, last_met}
 use Rattle.postings.proofs.filling.post_side.Given as goal
 
 abbrev pub invariant-loop-next : goal.invariant-loop-next
 invariant-loop-next l = record {
   placed : Placed l.side l.cursor;
   room : Room code_bits (rest l.slot l.side l.cursor) l.next (length l.postings);
-  same : walk put (left_postings l.position l.last (rest l.slot l.side l.cursor)) (filled_to l.next l.postings) l.meter
+  same : walk put (left_postings l.position (last_met l.last) (rest l.slot l.side l.cursor)) (filled_to l.next l.postings) l.meter
       ≡ walk put (side_postings l.position (list_of l.slot l.side)) (filled_to l.at l.initial.postings) l.initial.meter;
 }
 

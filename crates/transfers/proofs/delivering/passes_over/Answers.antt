@@ -5,9 +5,10 @@ use Rattle.transfers.proofs.delivering.passes_over.Goals as goal
 
 pub returns-then-is_shared : goal.returns-then-is_shared
 returns-then-is_shared c =
-    passes-shared c.args.row.now c.args.limits c.requires (sym c.is_shared.ensures ∙ c.if-is_shared.true)
+    let shared = sym c.is_shared.ensures ∙ c.if-is_shared.true in
+    c.if-is_shared.true ∙ passes-shared c.args.row.now c.args.limits c.requires shared
 
-pub returns : goal.returns
-returns c =
+pub returns-else-is_shared : goal.returns-else-is_shared
+returns-else-is_shared c =
     c.fails_filter.ensures ∙ passes-narrow c.args.row.now c.args.limits c.requires
     (sym c.is_shared.ensures ∙ c.if-is_shared.false)

@@ -1,19 +1,17 @@
 -- `mark_moved` meets its contract. Assumes nothing.
 use mathlib.Core.Path.{sym, ap}
+use Rattle.std.specs.Prelude.{Result}
+use Rattle.meter.specs.declared.Unpaid.{Unpaid}
 use Rattle.model.specs.Records.{with_mark}
-use Rattle.transfers.specs.declared.receiving.Progress.{Progress}
+use Rattle.transfers.specs.Transfer.{progress_of}
 use Rattle.transfers.specs.Ends.{marked_by}
+use Rattle.transfers.proofs.Ending.{mark-stays}
 use Rattle.transfers.proofs.seeding.mark_moved.Goals as goal
 
-pub returns-in-Whole : goal.returns-in-Whole
+pub returns-in-Ok : goal.returns-in-Ok
 unfolding with_mark
-returns-in-Whole c =
-    ap (λ (x : Progress). marked_by x c.args.store c.args.header) (sym c.in-Whole.is)
+returns-in-Ok c =
+    ap (λ (r : Result (Unit {0}) Unpaid). marked_by (progress_of r) c.args.store c.args.header) (sym c.in-Ok.is)
 
-pub returns-in-Declined : goal.returns-in-Declined
-returns-in-Declined c =
-    ap (λ (x : Progress). marked_by x c.args.store c.args.header) (sym c.in-Declined.is)
-
-pub returns-in-Stopped : goal.returns-in-Stopped
-returns-in-Stopped c =
-    ap (λ (x : Progress). marked_by x c.args.store c.args.header) (sym c.in-Stopped.is)
+pub returns-in-Err : goal.returns-in-Err
+returns-in-Err c = mark-stays c.args.end c.args.store c.args.header c.in-Err.is
