@@ -160,9 +160,9 @@ fn earned(read: Result<(), Halt>, before: usize, decided: usize) -> bool
     }
 }
 
-// Reads the row at a position. Nothing changed, if nothing follows; else what the row says is decided, and then one hit is counted if that
-// decided an atom or ended in Conflict. Stopped, and nothing changed, if the deduction's ticks were not all made. The contradicted output of
-// a Require is handed on, and else the one before stays.
+// Reads the row at a position. Nothing changes if nothing follows; else what the row says is decided, and then one hit is counted if that
+// decided an atom or ended in Conflict. Stopped, and nothing changed but the meter, if the deduction's ticks were not all made. The
+// contradicted output of a Require is handed on, and else the one before stays.
 pub fn act(
     atoms: u64,
     rows: u64,

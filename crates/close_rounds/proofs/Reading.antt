@@ -51,10 +51,6 @@ pub record Reading (n rows : ℕ) (ps slots₀ held₀ cut₀ : List ℕ) (m₀ 
       ≡ round n ps (state (beside (ledger_of h rows slots₀) o₀) held₀ cut₀ m₀)
 
 module _ (n rows : ℕ) (ps slots₀ held₀ cut₀ : List ℕ) (m₀ : Meter) (o₀ : Contradicted) where
-  pub read-start : Standing n rows (rows_in rows slots₀) slots₀ held₀ cut₀
-      → Reading n rows ps slots₀ held₀ cut₀ m₀ o₀ slots₀ held₀ cut₀ m₀ o₀ 0
-  read-start s = record { within = omega arith; slots_long = refl; held_long = refl; cut_long = refl; stands = s; rest = λ h. refl }
-
   module _ (slots held cut : List ℕ) (m : Meter) (o : Contradicted) (i : ℕ)
       (w : Reading n rows ps slots₀ held₀ cut₀ m₀ o₀ slots held cut m o i) where
     abbrev wholly : Header → Turn

@@ -18,8 +18,8 @@ use meter::Meter;
 use model::{CandidatesAnswer, Header, Literal};
 use postings::candidates;
 
-// Reads the rows at the positions given, in turn, up to the first that halts. The atoms decided are noted from the first word of `noted` on;
-// how many, where all rows were read.
+// Reads the rows at the positions given, in turn, up to the first that halts. The atoms decided are noted from the first word of `noted`
+// on; how many, where all rows were read.
 fn round(
     atoms: u64,
     rows: u64,

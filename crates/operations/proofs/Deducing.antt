@@ -94,7 +94,8 @@ module _ (h : Header) (slots postings : List ℕ) (p : ℕ) where
     deduce-done e l t q =
         ap (λ (t : Row). deduce_end (deduced_by m (once (deduction (region held cut) t) (ticks (deduction_ticks (region held cut) t) m))))
         (q ∙ sym (row_is l))
-        ∙ by-tick (deduction (region held cut) (row_at p (ledger_in s))) (ticks (deduction_ticks (region held cut) (row_at p (ledger_in s))) m)
+        ∙ by-tick (deduction (region held cut) (row_at p (ledger_in s)))
+        (ticks (deduction_ticks (region held cut) (row_at p (ledger_in s))) m)
         ∙ sym (rw (e, deduce))
 
     -- ---- Next output
@@ -105,12 +106,14 @@ module _ (h : Header) (slots postings : List ℕ) (p : ℕ) where
       pub cursor-no : p < h.rows → (t : Row) → t ≡ row_in (slot_at slots p) → cursor_ok t k ≡ false
           → refusal ((cursor_ok (row_at p (ledger_in s)) k, 8) ∷ []) ≡ some 8
       unfolding refusal
-      cursor-no l t r e = let q : cursor_ok (row_at p (ledger_in s)) k ≡ false = ap (λ (t : Row). cursor_ok t k) (row_is l ∙ sym r) ∙ e in rw q
+      cursor-no l t r e =
+          let q : cursor_ok (row_at p (ledger_in s)) k ≡ false = ap (λ (t : Row). cursor_ok t k) (row_is l ∙ sym r) ∙ e in rw q
 
       pub cursor-yes : p < h.rows → (t : Row) → t ≡ row_in (slot_at slots p) → cursor_ok t k ≡ true
           → refusal ((cursor_ok (row_at p (ledger_in s)) k, 8) ∷ []) ≡ none
       unfolding refusal
-      cursor-yes l t r e = let q : cursor_ok (row_at p (ledger_in s)) k ≡ true = ap (λ (t : Row). cursor_ok t k) (row_is l ∙ sym r) ∙ e in rw q
+      cursor-yes l t r e =
+          let q : cursor_ok (row_at p (ledger_in s)) k ≡ true = ap (λ (t : Row). cursor_ok t k) (row_is l ∙ sym r) ∙ e in rw q
 
       pub next-refused : (r : Refusal) → refusal (accepts s true three) ≡ some (number_of r) →
           output_end (record { answer = Err r; cursor = k; meter = m; ticks = 0 }) ≡ next_output s p k held cut m
@@ -121,4 +124,5 @@ module _ (h : Header) (slots postings : List ℕ) (p : ℕ) where
           output_end (published_by m (publish_next (region held cut) t k m)) ≡ next_output s p k held cut m
       unfolding next_output
       next-done e l t q =
-          ap (λ (t : Row). output_end (published_by m (publish_next (region held cut) t k m))) (q ∙ sym (row_is l)) ∙ sym (rw (e, next_output))
+          ap (λ (t : Row). output_end (published_by m (publish_next (region held cut) t k m))) (q ∙ sym (row_is l))
+          ∙ sym (rw (e, next_output))

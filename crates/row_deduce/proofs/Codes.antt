@@ -175,7 +175,8 @@ module _ (r : Region) (x present absent : ℕ) where
       some false false i k e g o = absurd (false≢true o)
 
       none : w ≡ 0 → (i : ℕ) → i < 64
-          → ((test_bit absent i && test_bit (get_or r.held x 0) i) ≡ false) × ((test_bit present i && test_bit (get_or r.cut x 0) i) ≡ false)
+          → ((test_bit absent i && test_bit (get_or r.held x 0) i) ≡ false)
+          × ((test_bit present i && test_bit (get_or r.cut x 0) i) ≡ false)
       none e i k =
           or-none (test_bit absent i && test_bit (get_or r.held x 0) i) (test_bit present i && test_bit (get_or r.cut x 0) i)
           (sym (f i k) ∙ bit-of-zero w i e)

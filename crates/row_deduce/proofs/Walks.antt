@@ -332,9 +332,11 @@ module _ (r : Region) (s : Row) (m : Meter) where
     unfolding deduction_ticks ticks after_conditions
     both =
         ap (λ (t : Tick). on_tick t
-        (ticks (condition_looks r [] conditions_of + (elim (looks_on r fails) as (λ z. ℕ) [ true ↦ output_looks r outputs_of | false ↦ 0 ]))))
+        (ticks (condition_looks r [] conditions_of
+        + (elim (looks_on r fails) as (λ z. ℕ) [ true ↦ output_looks r outputs_of | false ↦ 0 ]))))
         (sym first)
-        ∙ ticks-add (condition_looks r [] conditions_of) (elim (looks_on r fails) as (λ z. ℕ) [ true ↦ output_looks r outputs_of | false ↦ 0 ]) n
+        ∙ ticks-add (condition_looks r [] conditions_of)
+        (elim (looks_on r fails) as (λ z. ℕ) [ true ↦ output_looks r outputs_of | false ↦ 0 ]) n
 
     walk : read_conditions r [] conditions_of n ≡ once (state_of r fails) (ticks (condition_looks r [] conditions_of) n)
     walk =

@@ -55,7 +55,8 @@ pub record Walkable (ws : List ℕ) (s : Side) (held cut : List ℕ) : Type 0 wh
 
 -- no atom of a packed side has both signs
 abbrev pub OneSigned : List ℕ → Side → Type 0
-OneSigned ws s = (g : ℕ) → g < s.count → bit_and (get_or ws (s.base + group_length * g + 1) 0) (get_or ws (s.base + group_length * g + 2) 0) ≡ 0
+OneSigned ws s = (g : ℕ) → g < s.count
+    → bit_and (get_or ws (s.base + group_length * g + 1) 0) (get_or ws (s.base + group_length * g + 2) 0) ≡ 0
 
 -- and its outputs may be published: each group has some bit, and the region no common one
 pub record Publishable (ws : List ℕ) (s : Side) (held cut : List ℕ) : Type 0 where

@@ -28,7 +28,8 @@ published_as x k m = published (next_of x) k m
 
 -- the cursor past group `next`, loaded without what is true in the region
 abbrev pub loaded_from : Region → List ℕ → ℕ → OutputCursor
-loaded_from r g next = record { next = suc next; word = index_of g; present = bits_of true (failing r g); absent = bits_of false (failing r g) }
+loaded_from r g next =
+    record { next = suc next; word = index_of g; present = bits_of true (failing r g); absent = bits_of false (failing r g) }
 
 -- the code at the cursor of a scalar side
 abbrev pub single_given : ℕ → OutputCursor → Tick → Published

@@ -11,7 +11,8 @@ use Rattle.slots.proofs.Storing.{laid-stored}
 use Rattle.row_deduce.specs.Chunks.{group_at}
 use Rattle.row_deduce.specs.Publication.{of_words}
 use Rattle.row_deduce.proofs.Cursors.{cursor-past, cursor-scalar, cursor-start, cursor-loaded}
-use Rattle.row_deduce.proofs.cursor_ok.Goals.{After-outputs-side, Start, then-not-side-via-then-not-side, then-not-side-via-else-not-side+then-next-eq0}
+use Rattle.row_deduce.proofs.cursor_ok.Goals.{After-outputs-side, Start, then-not-side-via-then-not-side}
+use Rattle.row_deduce.proofs.cursor_ok.Goals.{then-not-side-via-else-not-side+then-next-eq0}
 use Rattle.row_deduce.proofs.cursor_ok.Goals as goal
 
 laid : (c : Start) → Laid c.args.slot.now

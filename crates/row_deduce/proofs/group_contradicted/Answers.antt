@@ -1,4 +1,4 @@
--- `row_deduce::group_contradicted`: the contradicted outputs are the codes of the joined masks, of which the first is taken. Assumes nothing.
+-- `row_deduce::group_contradicted`: the first of the codes of the joined masks, which are those contradicted. Assumes nothing.
 use mathlib.Core.Path.{sym, ap, ◌∙◌}
 use Rattle.words.specs.Region.{region}
 use Rattle.slots.proofs.Codes.{codes-none}

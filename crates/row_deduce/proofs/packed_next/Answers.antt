@@ -56,5 +56,6 @@ overflow_cast-code c =
 
 pub returns : goal.returns
 returns c =
-    given-ticked _ _ _ _ _ c.loop-cursor.cursor _ c.loop-cursor.invariant c.take-p.result.code c.take-p.result.present c.take-p.result.absent
+    given-ticked _ _ _ _ _ c.loop-cursor.cursor _ c.loop-cursor.invariant c.take-p.result.code c.take-p.result.present
+    c.take-p.result.absent
     (omega arith) (omega arith) c.take-p.ensures c.in_ok-tick-2.ensures
