@@ -7,6 +7,7 @@ mod feed;
 
 use script_notation::ledgers::Memory;
 use script_notation::memory;
+use text::Writer;
 
 fn main(rt: HostRuntime) {
     let mut buf = memory::text();
@@ -14,7 +15,7 @@ fn main(rt: HostRuntime) {
     let mut slots = memory::slots();
     let mut postings = memory::postings();
     let mut points = memory::points();
-    let mut out = io::large_buffer();
+    let mut out = Writer::new();
     let mut shared = Memory {
         heads: &mut heads,
         slots: &mut slots,
