@@ -7,9 +7,7 @@ mod writing;
 
 ghost use Rattle.std.specs.Prelude.{◌≡◌, length};
 
-pub use reading::{
-    Listed, ended, join_lines, kept, list, nth, number, numbers, pack, position, value, word,
-};
+pub use reading::{Listed, ended, join_lines, kept, list, nth, number, numbers, pack, value, word};
 pub use writing::Writer;
 
 // An array of one value, with its length said: a caller that lends it needs no computed list.
