@@ -48,11 +48,6 @@ pub fn nth(text: &[u8], n: usize) -> &[u8] {
     text.split(|byte| *byte == b' ').nth(n).unwrap_or(&[])
 }
 
-// Which word of a text this one is, 0 for the first; none where it is none of them.
-pub fn position(word: &[u8], text: &[u8]) -> Option<usize> {
-    text.split(|byte| *byte == b' ').position(|w| w == word)
-}
-
 // Bytes as a number, the first highest; of more than eight the last eight count.
 pub fn pack(bytes: &[u8]) -> u64 {
     bytes
