@@ -108,7 +108,8 @@ fn put_lent(out: &mut Writer, lent: &Lent) {
 }
 
 // ---- A call.
-// The call whose lists begin at `at`; the place after them. There is room for the slots and the postings of 67 rows, and for the slots of six in any other slice.
+// The call whose lists begin at `at`; the place after them. There is room for the slots and the postings of 67 rows, and for the slots of
+// six in any other slice.
 fn call_at(operation: Operation, s: &[u8], at: usize, out: &mut Writer) -> usize {
     let mut words = [0u64; WORDS];
     let mut slots: [u64; 11323] = filled(0);

@@ -16,7 +16,8 @@ pub enum Lost {
     Comment,
 }
 
-// What goes from line to line: how many lines were read, what was lost of the present line, and how many bytes of the buffer are done (in `lines`) or kept (between turns).
+// What goes from line to line: how many lines were read, what was lost of the present line, and how many bytes of the buffer are done (in
+// `lines`) or kept (between turns).
 #[derive(Clone, Copy)]
 pub struct State {
     pub number: u64,
