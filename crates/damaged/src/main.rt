@@ -5,7 +5,7 @@
 ghost use Rattle.std.specs.Prelude.{◌≡◌, ◌+◌, ◌<◌, ◌≤◌, length};
 
 use calls::{Lent, OPERATIONS, Operation, WORDS};
-use text::filled;
+use text::{Writer, filled};
 
 // Ends the copies of a ledger.
 const LAST: u64 = 999;
@@ -194,16 +194,15 @@ fn attempt(operation: Operation, copy: &[u64; COPY_WORDS]) -> Tried {
 }
 
 // The line of one copy: what each function in turn refuses it by, and whether one changed a word although it refused.
-fn try_all(copy: &[u64; COPY_WORDS], out: &mut [u8], at: usize) -> usize {
-    let mut next = at;
+fn try_all(copy: &[u64; COPY_WORDS], out: &mut Writer) {
     let mut wrong = false;
     for operation in OPERATIONS {
         let t = attempt(operation, copy);
-        next = text::put_decimal(out, next, t.refused);
+        out.put_decimal(t.refused);
         wrong |= t.wrong;
     }
-    next = text::put_decimal(out, next, u64::from(wrong));
-    text::put(out, next, b'\n')
+    out.put_decimal(u64::from(wrong));
+    out.put(b'\n');
 }
 
 // ---- The input. What is no number ends it.
@@ -222,24 +221,23 @@ fn change(s: &[u8], at: usize, changes: u64, copy: &mut [u64; COPY_WORDS]) -> Op
 }
 
 // The copies of one ledger; the place after them. Each has a byte at least.
-fn copies(s: &[u8], at: usize, good: &[u64; COPY_WORDS], out: &mut [u8]) -> Option<usize> {
+fn copies(s: &[u8], at: usize, good: &[u64; COPY_WORDS], out: &mut Writer) -> Option<usize> {
     let mut next = at;
-    let mut filled: usize = 0;
     for _ in 0..s.len() {
         let (changes, first) = text::number(s, next)?;
         if changes == LAST {
-            text::flush(out, filled);
+            out.flush();
             return Some(first);
         }
         let mut copy = *good;
         next = change(s, first, changes, &mut copy).unwrap_or(s.len());
-        filled = try_all(&copy, out, filled);
+        try_all(&copy, out);
     }
     None
 }
 
 // The ledgers, each of which has a byte at least.
-fn run(s: &[u8], out: &mut [u8]) -> Option<()> {
+fn run(s: &[u8], out: &mut Writer) -> Option<()> {
     let mut at: usize = 0;
     for _ in 0..s.len() {
         let mut good = [0u64; COPY_WORDS];
@@ -251,7 +249,7 @@ fn run(s: &[u8], out: &mut [u8]) -> Option<()> {
 
 fn main() {
     let mut input: [u8; 524288] = filled(0);
-    let mut out = io::large_buffer();
+    let mut out = Writer::new();
     let n = io::read_full(0, &mut input);
     text::join_lines(&mut input);
     run(&input[..n], &mut out);

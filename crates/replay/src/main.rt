@@ -1,18 +1,26 @@
 // Replays recorded calls of the functions for C on raw words, a line a call: every word that was lent is written as it is afterwards.
 //
 // A line of the input: the name of a function, a word that says what the call is about, then seven lists: the words of the call, as crate
-// `calls` numbers them; slots; postings; and the four further slices. A list is its length and then its words, a run of zeros as 0 and how
+// `calls` has them; slots; postings; and the four further slices. A list is its length and then its words, a run of zeros as 0 and how
 // many there are. A line of the output: the first two words again, the refusal or 0, and the seven lists after the call.
 #![tactic(auto)]
 
-use calls::{Lent, OPERATIONS, Operation, WORDS};
-use text::{Listed, filled, put, put_field, put_text};
+use calls::{Lent, Operation, WORDS};
+use text::{Listed, Writer, filled};
 
 // The function of a name; a word that is none of the names stands for `offer`.
 fn named(name: &[u8]) -> Operation {
-    let names = b"make begin hit deduce next_output decide offer candidates close seed deliver";
-    match text::position(name, names) {
-        Some(i) if i < OPERATIONS.len() => OPERATIONS[i],
+    match name {
+        b"make" => Operation::Make,
+        b"begin" => Operation::Begin,
+        b"hit" => Operation::Hit,
+        b"deduce" => Operation::Deduce,
+        b"next_output" => Operation::NextOutput,
+        b"decide" => Operation::Decide,
+        b"candidates" => Operation::Candidates,
+        b"close" => Operation::Close,
+        b"seed" => Operation::Seed,
+        b"deliver" => Operation::Deliver,
         _ => Operation::Offer,
     }
 }
@@ -78,38 +86,30 @@ fn words_at<'b>(s: &[u8], at: usize, buffer: &'b mut [u64]) -> (&'b mut [u64], u
 }
 
 // ---- Lists out.
-fn put_words(out: &mut [u8], at: usize, words: &[u64]) -> usize {
-    let mut to = put_field(out, at, b" ", words.len() as u64);
+fn put_words(out: &mut Writer, words: &[u64]) {
+    out.put_field(b" ", words.len() as u64);
     for run in words.chunk_by(|a, b| *a == 0 && *b == 0) {
-        to = match run {
-            [] => to,
-            [0, ..] => put_field(out, to, b" 0 ", run.len() as u64),
-            [word, ..] => put_field(out, to, b" ", *word),
-        };
+        match run {
+            [] => {}
+            [0, ..] => out.put_field(b" 0 ", run.len() as u64),
+            [word, ..] => out.put_field(b" ", *word),
+        }
     }
-    to
 }
 
-fn put_lent(out: &mut [u8], to: usize, lent: &Lent) -> usize {
-    let to = put_words(out, to, lent.words);
-    let to = put_words(out, to, lent.slots);
-    let to = put_words(out, to, lent.postings);
-    let to = put_words(out, to, lent.first);
-    let to = put_words(out, to, lent.second);
-    let to = put_words(out, to, lent.third);
-    put_words(out, to, lent.fourth)
+fn put_lent(out: &mut Writer, lent: &Lent) {
+    put_words(out, lent.words);
+    put_words(out, lent.slots);
+    put_words(out, lent.postings);
+    put_words(out, lent.first);
+    put_words(out, lent.second);
+    put_words(out, lent.third);
+    put_words(out, lent.fourth);
 }
 
 // ---- A call.
-// The place after the lists of a call, and after what was written of it.
-#[derive(Clone, Copy)]
-struct Ended {
-    at: usize,
-    to: usize,
-}
-
-// The call whose lists begin at `at`. There is room for the slots and the postings of 67 rows, and for the slots of six in any other slice.
-fn call_at(operation: Operation, s: &[u8], at: usize, out: &mut [u8], to: usize) -> Ended {
+// The call whose lists begin at `at`; the place after them. There is room for the slots and the postings of 67 rows, and for the slots of six in any other slice.
+fn call_at(operation: Operation, s: &[u8], at: usize, out: &mut Writer) -> usize {
     let mut words = [0u64; WORDS];
     let mut slots: [u64; 11323] = filled(0);
     let mut postings: [u64; 5360] = filled(0);
@@ -134,39 +134,37 @@ fn call_at(operation: Operation, s: &[u8], at: usize, out: &mut [u8], to: usize)
         fourth,
     };
     let refusal = calls::call(operation, &mut lent);
-    let to = put_field(out, to, b" ", refusal);
-    let to = put_lent(out, to, &lent);
-    Ended {
-        at,
-        to: put(out, to, b'\n'),
-    }
+    out.put_field(b" ", refusal);
+    put_lent(out, &lent);
+    out.put(b'\n');
+    at
 }
 
-// The line from `at` on.
-fn line(s: &[u8], at: usize, out: &mut [u8], to: usize) -> Ended {
+// The line from `at` on; the place after it.
+fn line(s: &[u8], at: usize, out: &mut Writer) -> usize {
     let (name, at) = text::word(s, at);
     let (about, at) = text::word(s, at);
-    let to = put_text(out, to, name);
-    let to = put(out, to, b' ');
-    let to = put_text(out, to, about);
-    call_at(named(name), s, at, out, to)
+    out.put_text(name);
+    out.put(b' ');
+    out.put_text(about);
+    call_at(named(name), s, at, out)
 }
 
 // ---- The input: lines, each of which has a byte at least.
-fn run(s: &[u8], out: &mut [u8]) {
-    let mut next = Ended { at: 0, to: 0 };
+fn run(s: &[u8], out: &mut Writer) {
+    let mut at: usize = 0;
     for _ in 0..s.len() {
-        if text::ended(s, next.at) {
-            text::flush(out, next.to);
+        if text::ended(s, at) {
+            out.flush();
             return;
         }
-        next = line(s, next.at, out, next.to);
+        at = line(s, at, out);
     }
 }
 
 fn main() {
     let mut input: [u8; 524288] = filled(0);
-    let mut out = io::large_buffer();
+    let mut out = Writer::new();
     let n = io::read_full(0, &mut input);
     text::join_lines(&mut input);
     run(&input[..n], &mut out);

@@ -5,22 +5,17 @@ use script_notation::ledgers::{Memory, ledger_at};
 use script_notation::points;
 use script_several::{decide, make, transfer};
 use script_single::{act, candidates, next};
-use text::put_text;
+use text::Writer;
 use wire::HEADER_WORDS;
 
 // `reset`: all ledgers are gone.
-fn reset(
-    line: &[u8],
-    at: usize,
-    memory: &mut Memory,
-    out: &mut [u8],
-    to: usize,
-) -> Result<usize, LineError> {
+fn reset(line: &[u8], at: usize, memory: &mut Memory, out: &mut Writer) -> Result<(), LineError> {
     if !text::ended(line, at) {
         return Err(LineError::Malformed);
     }
     memory.heads.fill([0; HEADER_WORDS]);
-    Ok(put_text(out, to, b"reset"))
+    out.put_text(b"reset");
+    Ok(())
 }
 
 // A call on one ledger, whose number is the next word.
@@ -29,9 +24,8 @@ fn on_ledger(
     line: &[u8],
     at: usize,
     memory: &mut Memory,
-    out: &mut [u8],
-    to: usize,
-) -> Result<usize, LineError> {
+    out: &mut Writer,
+) -> Result<(), LineError> {
     let (index, at) = text::number(line, at).ok_or(LineError::Malformed)?;
     let points = &mut *memory.points;
     let mut ledger = ledger_at(memory.heads, memory.slots, memory.postings, index).ok_or(
@@ -42,7 +36,6 @@ fn on_ledger(
         index,
         line,
         at,
-        to,
     };
     match call {
         Call::Dump => dump(q, &ledger, out),
@@ -52,21 +45,16 @@ fn on_ledger(
     }
 }
 
-// The call of a line, and the place after its answer.
-pub fn run(
-    line: &[u8],
-    memory: &mut Memory,
-    out: &mut [u8],
-    to: usize,
-) -> Result<usize, LineError> {
+// The call of a line, and its answer, whose end is yet to be put; of a line that is no call nothing is put.
+pub fn run(line: &[u8], memory: &mut Memory, out: &mut Writer) -> Result<(), LineError> {
     let (word, at) = text::word(line, 0);
     let call = call_of(word).ok_or(LineError::UnknownCall)?;
     match call {
-        Call::Make => make(line, at, memory, out, to),
-        Call::Decide => decide(line, at, out, to),
-        Call::Reset => reset(line, at, memory, out, to),
-        Call::Point => points::call(line, at, memory.points, out, to),
-        Call::Seed | Call::Deliver => transfer(call, line, at, memory, out, to),
-        _ => on_ledger(call, line, at, memory, out, to),
+        Call::Make => make(line, at, memory, out),
+        Call::Decide => decide(line, at, out),
+        Call::Reset => reset(line, at, memory, out),
+        Call::Point => points::call(line, at, memory.points, out),
+        Call::Seed | Call::Deliver => transfer(call, line, at, memory, out),
+        _ => on_ledger(call, line, at, memory, out),
     }
 }

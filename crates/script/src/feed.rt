@@ -7,7 +7,7 @@ use script_notation::ledgers::Memory;
 use std::io::Read;
 use std::num::wrapping_add_u64;
 use std::rt::Stdin;
-use text::{flush, put, put_field};
+use text::Writer;
 
 // What the beginning of a line was that was given up, because it did not fit.
 #[derive(Clone, Copy, Debug, PartialEq, Eq)]
@@ -16,20 +16,18 @@ pub enum Lost {
     Comment,
 }
 
-// What goes from line to line: how many lines were read, the place in the output, what was lost of the present line, and how many bytes
-// of the buffer are done (in `lines`) or kept (between turns).
+// What goes from line to line: how many lines were read, what was lost of the present line, and how many bytes of the buffer are done (in `lines`) or kept (between turns).
 #[derive(Clone, Copy)]
 pub struct State {
     pub number: u64,
-    pub to: usize,
     pub lost: Option<Lost>,
     pub bytes: usize,
 }
 
 // The answer to a line that is no call.
-fn put_error(out: &mut [u8], at: usize, number: u64) -> usize {
-    let at = put_field(out, at, b"error ", number);
-    put(out, at, b'\n')
+fn put_error(out: &mut Writer, number: u64) {
+    out.put_field(b"error ", number);
+    out.put(b'\n');
 }
 
 // Whether a line is passed over: an empty one, and one that begins with `#`.
@@ -38,34 +36,33 @@ fn is_comment(line: &[u8]) -> bool {
 }
 
 // The answer to a line of which nothing is lost.
-fn answer(line: &[u8], number: u64, memory: &mut Memory, out: &mut [u8], at: usize) -> usize {
+fn answer(line: &[u8], number: u64, memory: &mut Memory, out: &mut Writer) {
     if is_comment(line) {
-        return at;
+        return;
     }
-    match dispatch::run(line, memory, out, at) {
-        Ok(to) => put(out, to, b'\n'),
-        Err(_) => put_error(out, at, number),
+    match dispatch::run(line, memory, out) {
+        Ok(()) => out.put(b'\n'),
+        Err(_) => put_error(out, number),
     }
 }
 
 // The answer to the next line, whole or what is left of it.
-fn next(line: &[u8], f: State, memory: &mut Memory, out: &mut [u8]) -> State {
+fn next(line: &[u8], f: State, memory: &mut Memory, out: &mut Writer) -> State {
     let number = wrapping_add_u64(f.number, 1);
-    let to = match f.lost {
-        None => answer(line, number, memory, out, f.to),
-        Some(Lost::Call) => put_error(out, f.to, number),
-        Some(Lost::Comment) => f.to,
-    };
+    match f.lost {
+        None => answer(line, number, memory, out),
+        Some(Lost::Call) => put_error(out, number),
+        Some(Lost::Comment) => {}
+    }
     State {
         number,
-        to,
         lost: None,
         bytes: f.bytes,
     }
 }
 
 // The answers to all whole lines of the bytes read; `bytes` is the place after the last of them.
-fn lines(s: &[u8], before: State, memory: &mut Memory, out: &mut [u8]) -> State
+fn lines(s: &[u8], before: State, memory: &mut Memory, out: &mut Writer) -> State
     ensures { result.bytes ≤ length s.now }
 {
     let Some(end) = s.iter().rposition(|byte| *byte == b'\n') else {
@@ -125,29 +122,28 @@ fn rest(buf: &mut [u8], n: usize, f: State) -> State
 }
 
 // Writes the answer to the last line, where it has no end: the input ends behind a line's end where nothing is left of it.
-fn last(line: &[u8], f: State, memory: &mut Memory, out: &mut [u8]) {
+fn last(line: &[u8], f: State, memory: &mut Memory, out: &mut Writer) {
     if line.is_empty() && f.lost.is_none() {
         return;
     }
-    let g = next(line, f, memory, out);
-    flush(out, g.to);
+    next(line, f, memory, out);
+    out.flush();
 }
 
 // Writes the answers to the lines that are whole among the first bytes of the buffer, which are then gone from it.
-fn some(buf: &mut [u8], n: usize, f: State, memory: &mut Memory, out: &mut [u8]) -> State
+fn some(buf: &mut [u8], n: usize, f: State, memory: &mut Memory, out: &mut Writer) -> State
     requires { n ≤ length buf.old }
     ensures { result.bytes ≤ length buf.old }
 {
     let g = lines(&buf[..n], f, memory, out);
-    let to = flush(out, g.to);
-    rest(buf, n, State { to, ..g })
+    out.flush();
+    rest(buf, n, g)
 }
 
 // Reads to the end of the input, and writes every answer; those to the lines of one read are written before the next.
-pub fn run(stdin: Stdin, buf: &mut [u8], memory: &mut Memory, out: &mut [u8]) {
+pub fn run(stdin: Stdin, buf: &mut [u8], memory: &mut Memory, out: &mut Writer) {
     let mut f = State {
         number: 0,
-        to: 0,
         lost: None,
         bytes: 0,
     };

@@ -7,7 +7,7 @@ mod feed;
 
 use script_notation::ledgers::Memory;
 use script_notation::memory::{AllHeads, AllPostings, AllSlots, Points, Text};
-use text::filled;
+use text::{Writer, filled};
 
 fn main(rt: HostRuntime) {
     let mut buf: Text = filled(0);
@@ -15,7 +15,7 @@ fn main(rt: HostRuntime) {
     let mut slots: AllSlots = filled(filled(0));
     let mut postings: AllPostings = filled(filled(0));
     let mut points: Points = filled(None);
-    let mut out = io::large_buffer();
+    let mut out = Writer::new();
     let mut shared = Memory {
         heads: &mut heads,
         slots: &mut slots,

@@ -7,138 +7,114 @@ use script_notation::ledgers::Ledger;
 use script_notation::literals::put_items;
 use script_notation::points::Point;
 use std::num::wrapping_add_usize;
-use text::{
-    ended, kept, put, put_comma, put_decimal, put_field, put_fields, put_hexadecimal, put_list,
-    put_text,
-};
+use text::{Writer, ended, kept};
 use wire::{HEAD_ROWS_AT, HEAD_STALE_AT};
 use words::run_count;
 
 // The row of a slot by its items.
-fn put_slot(out: &mut [u8], at: usize, points: &[Option<Point>], slot: &Slot) -> usize {
+fn put_slot(out: &mut Writer, points: &[Option<Point>], slot: &Slot) {
     let conditions = condition_codes(slot);
     let outputs = output_codes(slot);
-    let to = put(out, at, b' ');
-    let to = put_items(out, to, points, conditions.as_slice());
-    let to = put_text(out, to, b" -> ");
-    put_items(out, to, points, outputs.as_slice())
+    out.put(b' ');
+    put_items(out, points, conditions.as_slice());
+    out.put_text(b" -> ");
+    put_items(out, points, outputs.as_slice());
 }
 
 // The row at a position by its items, ` ITEMS -> ITEMS`; nothing where there is none.
-pub fn put_row(
-    out: &mut [u8],
-    at: usize,
-    points: &[Option<Point>],
-    slots: &[u64],
-    position: u64,
-) -> usize {
+pub fn put_row(out: &mut Writer, points: &[Option<Point>], slots: &[u64], position: u64) {
     let (rows, _) = slots.as_chunks::<SLOT_WORDS>();
     let i = position as usize;
     match rows.get(i) {
-        Some(slot) => put_slot(out, at, points, slot),
-        None => at,
+        Some(slot) => put_slot(out, points, slot),
+        None => {}
     }
 }
 
 // Groups as `INDEX:PRESENT:ABSENT` with commas between them, or `-` for none.
-fn put_groups(out: &mut [u8], at: usize, groups: &[[u64; GROUP_WORDS]]) -> usize {
+fn put_groups(out: &mut Writer, groups: &[[u64; GROUP_WORDS]]) {
     if groups.is_empty() {
-        return put(out, at, b'-');
+        out.put(b'-');
     }
-    let mut to = at;
     for (i, group) in groups.iter().enumerate() {
-        to = put_comma(out, to, 0 < i);
-        to = put_decimal(out, to, group[0]);
-        to = put(out, to, b':');
-        to = put_hexadecimal(out, to, group[1]);
-        to = put(out, to, b':');
-        to = put_hexadecimal(out, to, group[2]);
+        out.put_comma(0 < i);
+        out.put_decimal(group[0]);
+        out.put(b':');
+        out.put_hexadecimal(group[1]);
+        out.put(b':');
+        out.put_hexadecimal(group[2]);
     }
-    to
 }
 
 // The groups of a slot.
-fn put_body(out: &mut [u8], at: usize, slot: &Slot) -> usize {
+fn put_body(out: &mut Writer, slot: &Slot) {
     let body = front(&slot[BODY_AT..], true, slot[TOTAL_GROUPS_AT]);
     let (groups, _) = body.as_chunks::<GROUP_WORDS>();
-    let to = put_text(out, at, b" groups=");
-    put_groups(out, to, groups)
+    out.put_text(b" groups=");
+    put_groups(out, groups);
 }
 
-// The place after what was put, and how many postings the rows have that were put.
-#[derive(Clone, Copy)]
-struct Dumped {
-    to: usize,
-    postings: usize,
-}
-
-// The conditions and outputs of a slot by their codes.
-fn put_codes(out: &mut [u8], at: usize, slot: &Slot) -> Dumped {
+// The conditions and outputs of a slot by their codes; how many postings they have.
+fn put_codes(out: &mut Writer, slot: &Slot) -> usize {
     let conditions = condition_codes(slot);
     let outputs = output_codes(slot);
-    let to = put_text(out, at, b" c=");
-    let to = put_list(out, to, conditions.as_slice());
-    let to = put_text(out, to, b" o=");
-    let to = put_list(out, to, outputs.as_slice());
+    out.put_text(b" c=");
+    out.put_list(conditions.as_slice());
+    out.put_text(b" o=");
+    out.put_list(outputs.as_slice());
     let c = run_count(conditions.as_slice(), 1);
     let o = run_count(outputs.as_slice(), 1);
-    Dumped {
-        to,
-        postings: wrapping_add_usize(c, o),
-    }
+    wrapping_add_usize(c, o)
 }
 
-// The line of a row.
-fn put_line(out: &mut [u8], d: Dumped, position: u64, slot: &Slot) -> Dumped {
+// The line of a row; how many postings it has.
+fn put_line(out: &mut Writer, position: u64, slot: &Slot) -> usize {
     let form = if is_packed(slot) {
         b" packed"
     } else {
         b" scalar"
     };
-    let to = put_field(out, d.to, b"\n row ", position);
-    let to = put_text(out, to, form);
-    let row = put_codes(out, to, slot);
+    out.put_field(b"\n row ", position);
+    out.put_text(form);
+    let postings = put_codes(out, slot);
     let names = b"tg= cg= hits= unshared= born= delivered=";
-    let to = put_fields(out, row.to, names, &slot[TOTAL_GROUPS_AT..BODY_AT]);
-    let to = put_field(out, to, b" source=", slot[SOURCE_AT]);
-    Dumped {
-        to: put_body(out, to, slot),
-        postings: wrapping_add_usize(d.postings, row.postings),
-    }
+    out.put_fields(names, &slot[TOTAL_GROUPS_AT..BODY_AT]);
+    out.put_field(b" source=", slot[SOURCE_AT]);
+    put_body(out, slot);
+    postings
 }
 
-// The lines of the rows.
-fn put_lines(out: &mut [u8], at: usize, rows: u64, slots: &[u64]) -> Dumped {
+// The lines of the rows; how many postings they have.
+fn put_lines(out: &mut Writer, rows: u64, slots: &[u64]) -> usize {
     let (slots, _) = slots.as_chunks::<SLOT_WORDS>();
-    let mut d = Dumped {
-        to: at,
-        postings: 0,
-    };
+    let mut postings = 0;
     for (position, slot) in (0..rows).zip(slots) {
-        d = put_line(out, d, position, slot);
+        postings = wrapping_add_usize(postings, put_line(out, position, slot));
     }
-    d
+    postings
 }
 
 // The postings built, or `-` where stale.
-fn put_postings(out: &mut [u8], at: usize, stale: bool, postings: &[u64], count: usize) -> usize {
-    let to = put_text(out, at, b"\n postings ");
+fn put_postings(out: &mut Writer, stale: bool, postings: &[u64], count: usize) {
+    out.put_text(b"\n postings ");
     if stale {
-        return put(out, to, b'-');
+        out.put(b'-');
+        return;
     }
     let n = kept(postings, count);
-    put_list(out, to, &postings[..n])
+    out.put_list(&postings[..n]);
 }
 
 // `dump I`: a look inside. `dump I`, then a line for each row,
 // ` row P FORM c=LIST o=LIST tg=N cg=N hits=N unshared=N born=N delivered=B source=N groups=LIST`, and ` postings LIST`.
-pub fn dump(q: Asked, ledger: &Ledger, out: &mut [u8]) -> Result<usize, LineError> {
+pub fn dump(q: Asked, ledger: &Ledger, out: &mut Writer) -> Result<(), LineError> {
     if !ended(q.line, q.at) {
         return Err(LineError::Malformed);
     }
     let head = *ledger.head;
-    let to = put_call(out, q.to, q.line, q.index);
-    let d = put_lines(out, to, head[HEAD_ROWS_AT], ledger.slots);
+    put_call(out, q.line, q.index);
+    let count = put_lines(out, head[HEAD_ROWS_AT], ledger.slots);
     let stale = head[HEAD_STALE_AT] != 0;
-    Ok(put_postings(out, d.to, stale, ledger.postings, d.postings))
+    put_postings(out, stale, ledger.postings, count);
+    Ok(())
 }

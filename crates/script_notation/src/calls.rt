@@ -36,14 +36,13 @@ pub enum LineError {
     NameTaken,
 }
 
-// A call on one ledger: the ledger's number, the line and the place after that number in it, and the place for the answer.
+// A call on one ledger: the ledger's number, the line and the place after that number in it.
 #[derive(Clone, Copy)]
 pub struct Asked<'a> {
     pub call: Call,
     pub index: u64,
     pub line: &'a [u8],
     pub at: usize,
-    pub to: usize,
 }
 
 // The call that a word names.

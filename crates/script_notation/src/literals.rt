@@ -6,7 +6,7 @@ ghost use Rattle.std.specs.Prelude.{◌≤◌, length};
 use crate::memory::ATOMS;
 use crate::points::{Point, atom_named, name_at, name_of, put_atom, put_name};
 use std::num::wrapping_add_u64;
-use text::{put, put_comma, put_decimal, value, word};
+use text::{Writer, value, word};
 use words::{Found, MAX_ATOMS};
 
 // Every code is below this.
@@ -107,41 +107,35 @@ pub fn gather(set: &[u64], list: &mut [u64]) -> usize
 }
 
 // A literal: by its atom's name, with `!` where it is absent, or by its code where the atom has none.
-fn put_item(out: &mut [u8], at: usize, points: &[Option<Point>], code: u64) -> usize {
+fn put_item(out: &mut Writer, points: &[Option<Point>], code: u64) {
     let Some(name) = name_at(points, code / 2) else {
-        return put_decimal(out, at, code);
+        out.put_decimal(code);
+        return;
     };
-    let to = if code % 2 == 1 {
-        at
-    } else {
-        put(out, at, b'!')
-    };
-    put_name(out, to, name)
+    if code % 2 == 0 {
+        out.put(b'!');
+    }
+    put_name(out, name);
 }
 
 // A literal as an item of `plan`, where a number alone is an atom: by its atom's name, or by its atom with `+` or `!`.
-pub fn put_literal(out: &mut [u8], at: usize, points: &[Option<Point>], code: u64) -> usize {
+pub fn put_literal(out: &mut Writer, points: &[Option<Point>], code: u64) {
     let atom = code / 2;
     if code % 2 == 0 {
-        let to = put(out, at, b'!');
-        return put_atom(out, to, points, atom);
+        out.put(b'!');
+    } else if name_at(points, atom).is_none() {
+        out.put(b'+');
     }
-    if let Some(name) = name_at(points, atom) {
-        return put_name(out, at, name);
-    }
-    let to = put(out, at, b'+');
-    put_decimal(out, to, atom)
+    put_atom(out, points, atom);
 }
 
 // Literals with commas between them, or `-` for none.
-pub fn put_items(out: &mut [u8], at: usize, points: &[Option<Point>], codes: &[u64]) -> usize {
+pub fn put_items(out: &mut Writer, points: &[Option<Point>], codes: &[u64]) {
     if codes.is_empty() {
-        return put(out, at, b'-');
+        out.put(b'-');
     }
-    let mut to = at;
     for (i, code) in codes.iter().enumerate() {
-        to = put_comma(out, to, 0 < i);
-        to = put_item(out, to, points, *code);
+        out.put_comma(0 < i);
+        put_item(out, points, *code);
     }
-    to
 }

@@ -2,7 +2,7 @@
 // letters, digits, `-`, `_` and `.`, 31 bytes at most. An atom has one name, and a name one atom; an error is another name for an atom, a
 // name that is another atom's, an atom of 1,048,576 or more, a bad name, and the first name after 1,024. `reset` leaves the names.
 use crate::calls::LineError;
-use text::{ended, number, pack, put, put_decimal, put_field, put_packed, put_text, word};
+use text::{Writer, ended, number, pack, word};
 use words::MAX_ATOMS;
 
 const MAX_NAME: usize = 31;
@@ -94,19 +94,17 @@ fn add(points: &mut [Option<Point>], point: Point) -> Result<(), LineError> {
 }
 
 // A name.
-pub fn put_name(out: &mut [u8], at: usize, name: Name) -> usize {
-    let mut to = at;
+pub fn put_name(out: &mut Writer, name: Name) {
     for packed in name.0 {
-        to = put_packed(out, to, packed);
+        out.put_packed(packed);
     }
-    to
 }
 
 // An atom by its name, or by its number where it has none.
-pub fn put_atom(out: &mut [u8], at: usize, points: &[Option<Point>], atom: u64) -> usize {
+pub fn put_atom(out: &mut Writer, points: &[Option<Point>], atom: u64) {
     match name_at(points, atom) {
-        Some(name) => put_name(out, at, name),
-        None => put_decimal(out, at, atom),
+        Some(name) => put_name(out, name),
+        None => out.put_decimal(atom),
     }
 }
 
@@ -114,9 +112,8 @@ pub fn call(
     line: &[u8],
     at: usize,
     points: &mut [Option<Point>],
-    out: &mut [u8],
-    to: usize,
-) -> Result<usize, LineError> {
+    out: &mut Writer,
+) -> Result<(), LineError> {
     let (atom, at) = number(line, at).ok_or(LineError::Malformed)?;
     let (word, at) = word(line, at);
     let name = name_of(word).ok_or(LineError::Malformed)?;
@@ -124,7 +121,8 @@ pub fn call(
         return Err(LineError::Malformed);
     }
     add(points, Point { atom, name })?;
-    let to = put_field(out, to, b"point ", atom);
-    let to = put(out, to, b' ');
-    Ok(put_text(out, to, word))
+    out.put_field(b"point ", atom);
+    out.put(b' ');
+    out.put_text(word);
+    Ok(())
 }

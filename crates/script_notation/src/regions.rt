@@ -6,7 +6,7 @@ use crate::literals::CODES;
 use crate::memory::ATOMS;
 use crate::points::{Point, put_atom};
 use std::num::wrapping_add_u64;
-use text::{ended, put, put_comma, put_text, value, word};
+use text::{Writer, ended, value, word};
 use words::{Found, WORD_BITS};
 
 // A set that was read: whether every atom lies below its bound, and the place after it.
@@ -128,36 +128,30 @@ pub fn region_of<'a>(
 }
 
 // The atoms of a set, with commas between them, or `-` for none.
-fn put_atoms(
-    out: &mut [u8],
-    at: usize,
-    atoms: u64,
-    words: &[u64],
-    points: &[Option<Point>],
-) -> usize {
-    let mut to = at;
+fn put_atoms(out: &mut Writer, atoms: u64, words: &[u64], points: &[Option<Point>]) {
     let mut some = false;
     for atom in 0..atoms {
         if words::contains(words, atom) {
-            to = put_comma(out, to, some);
-            to = put_atom(out, to, points, atom);
+            out.put_comma(some);
+            put_atom(out, points, atom);
             some = true;
         }
     }
-    if some { to } else { put(out, at, b'-') }
+    if !some {
+        out.put(b'-');
+    }
 }
 
 // A region: the atoms held, and the atoms cut, by the names that they have in `points`.
 pub fn put_region(
-    out: &mut [u8],
-    at: usize,
+    out: &mut Writer,
     atoms: u64,
     held: &[u64],
     cut: &[u64],
     points: &[Option<Point>],
-) -> usize {
-    let at = put_text(out, at, b" held=");
-    let at = put_atoms(out, at, atoms, held, points);
-    let at = put_text(out, at, b" cut=");
-    put_atoms(out, at, atoms, cut, points)
+) {
+    out.put_text(b" held=");
+    put_atoms(out, atoms, held, points);
+    out.put_text(b" cut=");
+    put_atoms(out, atoms, cut, points);
 }

@@ -6,7 +6,7 @@ use script_notation::arguments::Lists;
 use script_notation::calls::LineError;
 use script_notation::memory::{ATOMS, List};
 use script_notation::regions::{put_region, read_region};
-use text::{filled, put_text};
+use text::{Writer, filled};
 use wire::ANSWER_WORDS;
 use words::MAX_ATOMS;
 
@@ -15,7 +15,7 @@ fn has_room(atoms: u64) -> bool {
     atoms <= ATOMS || MAX_ATOMS < atoms
 }
 
-pub fn decide(line: &[u8], at: usize, out: &mut [u8], to: usize) -> Result<usize, LineError> {
+pub fn decide(line: &[u8], at: usize, out: &mut Writer) -> Result<(), LineError> {
     let mut given = [0u64; 3];
     let mut held: List = filled(0);
     let mut cut: List = filled(0);
@@ -35,10 +35,12 @@ pub fn decide(line: &[u8], at: usize, out: &mut [u8], to: usize) -> Result<usize
         source: _,
     } = region;
     let refusal = ledger_decide(&mut answer, atoms, first, second, atom, value);
-    let to = put_text(out, to, b"decide");
+    out.put_text(b"decide");
     if refusal != 0 {
-        return Ok(put_refused(out, to, refusal));
+        put_refused(out, refusal);
+        return Ok(());
     }
-    let to = put_case(out, to, b"False True", &answer);
-    Ok(put_region(out, to, atoms, first, second, &[]))
+    put_case(out, b"False True", &answer);
+    put_region(out, atoms, first, second, &[]);
+    Ok(())
 }

@@ -1,6 +1,6 @@
 // The calls of the script language on several ledgers or none, each through the function that C calls:
-// `make`, `decide`, `seed` and `deliver`. A call reads the line from the place after its name on, and answers the place after the answer
-// line, or that the line is no call.
+// `make`, `decide`, `seed` and `deliver`. A call reads the line from the place after its name on, and puts the answer line, or says why the
+// line is no call.
 #![tactic(auto)]
 
 mod deciding;

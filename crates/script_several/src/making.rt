@@ -6,6 +6,7 @@ use script_answers::{put_call, put_head, put_refused};
 use script_notation::calls::LineError;
 use script_notation::ledgers::{Ledger, Memory, place_for};
 use script_notation::memory::ATOMS;
+use text::Writer;
 use wire::{ANSWER_WORDS, HEAD_ATOMS_AT, HEAD_TIER_ROWS_AT, HEADER_WORDS, LIMITS_WORDS};
 
 // Where the number stands in a line: behind the ledger and its limits.
@@ -40,9 +41,8 @@ pub fn make(
     line: &[u8],
     at: usize,
     memory: &mut Memory,
-    out: &mut [u8],
-    to: usize,
-) -> Result<usize, LineError> {
+    out: &mut Writer,
+) -> Result<(), LineError> {
     let mut given = [0u64; NUMBER_AT + 1];
     let mut limits = [0u64; LIMITS_WORDS];
     let at = text::numbers(line, at, &mut given).ok_or(LineError::Malformed)?;
@@ -56,9 +56,11 @@ pub fn make(
         LineError::NoRoom,
     )?;
     let refusal = fill(&limits, given[NUMBER_AT], &mut ledger);
-    let to = put_call(out, to, line, index);
+    put_call(out, line, index);
     if refusal != 0 {
-        return Ok(put_refused(out, to, refusal));
+        put_refused(out, refusal);
+        return Ok(());
     }
-    Ok(put_head(out, to, ledger.head))
+    put_head(out, ledger.head);
+    Ok(())
 }

@@ -5,7 +5,7 @@ use boundary::{ledger_deliver, ledger_seed};
 use script_answers::{put_call, put_case, put_charge, put_head, put_refused};
 use script_notation::calls::{Call, LineError};
 use script_notation::ledgers::{Ledger, Memory, two_ledgers};
-use text::put_field;
+use text::Writer;
 use wire::{ANSWER_WORDS, METER_WORDS};
 
 // The transfer itself: `seed`, or `deliver`. Its refusal, or 0, as the functions for C have it.
@@ -48,19 +48,18 @@ fn operate(
 
 // The line after the numbers of the two ledgers.
 fn put_answer(
-    out: &mut [u8],
-    to: usize,
+    out: &mut Writer,
     given: &[u64; 3],
     answer: &[u64; ANSWER_WORDS],
     tier: &Ledger,
     store: &Ledger,
-) -> usize {
-    let to = put_case(out, to, b"Done - Stopped", answer);
-    let to = put_charge(out, to, answer[2]);
-    let to = put_field(out, to, b" ", given[0]);
-    let to = put_head(out, to, tier.head);
-    let to = put_field(out, to, b" ", given[1]);
-    put_head(out, to, store.head)
+) {
+    put_case(out, b"Done - Stopped", answer);
+    put_charge(out, answer[2]);
+    out.put_field(b" ", given[0]);
+    put_head(out, tier.head);
+    out.put_field(b" ", given[1]);
+    put_head(out, store.head);
 }
 
 pub fn transfer(
@@ -68,9 +67,8 @@ pub fn transfer(
     line: &[u8],
     at: usize,
     memory: &mut Memory,
-    out: &mut [u8],
-    to: usize,
-) -> Result<usize, LineError> {
+    out: &mut Writer,
+) -> Result<(), LineError> {
     let mut given = [0u64; 3];
     let mut answer = [0u64; ANSWER_WORDS];
     let at = text::numbers(line, at, &mut given).ok_or(LineError::Malformed)?;
@@ -87,10 +85,12 @@ pub fn transfer(
     ).ok_or(LineError::NoLedger)?;
     let mut meter = [0, limit];
     let refusal = operate(call, &mut tier, &mut store, &mut answer, &mut meter);
-    let to = put_call(out, to, line, index);
+    put_call(out, line, index);
     if refusal != 0 {
-        return Ok(put_refused(out, to, refusal));
+        put_refused(out, refusal);
+        return Ok(());
     }
-    let to = put_field(out, to, b" ", other);
-    Ok(put_answer(out, to, &given, &answer, &tier, &store))
+    out.put_field(b" ", other);
+    put_answer(out, &given, &answer, &tier, &store);
+    Ok(())
 }

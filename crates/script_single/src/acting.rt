@@ -23,7 +23,7 @@ use script_notation::literals::put_literal;
 use script_notation::memory::{EachAtom, EachRow, Head, List};
 use script_notation::points::Point;
 use script_notation::regions::put_region;
-use text::{filled, kept, put, put_field, put_text};
+use text::{Writer, filled, kept};
 use wire::{ANSWER_WORDS, HEAD_ATOMS_AT, HEAD_TIER_ROWS_AT, METER_WORDS};
 
 // How many numbers stand before the lists.
@@ -88,127 +88,118 @@ fn operate(
 }
 
 // How an offer ended.
-fn put_offered(out: &mut [u8], to: usize, offered: Offered) -> usize {
+fn put_offered(out: &mut Writer, offered: Offered) {
     match offered {
-        Offered::Shut => put_text(out, to, b" Shut"),
-        Offered::Stopped => put_text(out, to, b" Stopped"),
-        Offered::Declined => put_text(out, to, b" Declined"),
-        Offered::Subsumed(position) => put_field(out, to, b" Subsumed ", position),
-        Offered::Added(position) => put_field(out, to, b" Added ", position),
+        Offered::Shut => out.put_text(b" Shut"),
+        Offered::Stopped => out.put_text(b" Stopped"),
+        Offered::Declined => out.put_text(b" Declined"),
+        Offered::Subsumed(position) => out.put_field(b" Subsumed ", position),
+        Offered::Added(position) => out.put_field(b" Added ", position),
     }
 }
 
 // The same with the row that took the offer in.
-fn put_joined(
-    out: &mut [u8],
-    to: usize,
-    offered: Offered,
-    slots: &[u64],
-    points: &[Option<Point>],
-) -> usize {
-    let to = put_offered(out, to, offered);
+fn put_joined(out: &mut Writer, offered: Offered, slots: &[u64], points: &[Option<Point>]) {
+    put_offered(out, offered);
     match offered {
         Offered::Subsumed(position) | Offered::Added(position) => {
-            put_row(out, to, points, slots, position)
+            put_row(out, points, slots, position)
         }
-        _ => to,
+        _ => {}
     }
 }
 
 // What a row says.
-fn put_deduced(out: &mut [u8], to: usize, deduced: Deduced) -> usize {
+fn put_deduced(out: &mut Writer, deduced: Deduced) {
     match deduced {
-        Deduced::Nothing => put_text(out, to, b" Nothing"),
-        Deduced::Force => put_text(out, to, b" Force"),
-        Deduced::Stopped => put_text(out, to, b" Stopped"),
+        Deduced::Nothing => out.put_text(b" Nothing"),
+        Deduced::Force => out.put_text(b" Force"),
+        Deduced::Stopped => out.put_text(b" Stopped"),
         Deduced::Require { code, contradicted } => {
-            let to = put_field(out, to, b" Require ", code);
-            put_field(out, to, b" contradicted=", contradicted)
+            out.put_field(b" Require ", code);
+            out.put_field(b" contradicted=", contradicted);
         }
     }
 }
 
 // The answer's words; of `rule` and `tip` with the row that took the offer in.
 fn put_word(
-    out: &mut [u8],
-    to: usize,
+    out: &mut Writer,
     call: Call,
     answer: &[u64; ANSWER_WORDS],
     slots: &[u64],
     points: &[Option<Point>],
-) -> usize {
+) {
     match call {
-        Call::Offer => put_offered(out, to, Offered::from(*answer)),
-        Call::Rule | Call::Tip => put_joined(out, to, Offered::from(*answer), slots, points),
-        Call::Deduce => put_deduced(out, to, Deduced::from(*answer)),
-        Call::Close | Call::Plan => put_case(out, to, b"Closed Conflict Stopped", answer),
-        _ => put_text(out, to, b" Done"),
+        Call::Offer => put_offered(out, Offered::from(*answer)),
+        Call::Rule | Call::Tip => put_joined(out, Offered::from(*answer), slots, points),
+        Call::Deduce => put_deduced(out, Deduced::from(*answer)),
+        Call::Close | Call::Plan => put_case(out, b"Closed Conflict Stopped", answer),
+        _ => out.put_text(b" Done"),
     }
 }
 
 // The output that a closing names, by its code.
-fn put_contradicted(out: &mut [u8], to: usize, output: Option<u64>) -> usize {
+fn put_contradicted(out: &mut Writer, output: Option<u64>) {
     match output {
-        Some(code) => put_field(out, to, b" contradicted=", code),
-        None => put_text(out, to, b" contradicted=none"),
+        Some(code) => out.put_field(b" contradicted=", code),
+        None => out.put_text(b" contradicted=none"),
     }
 }
 
 // The same as an item.
-fn put_because(out: &mut [u8], to: usize, output: Option<u64>, points: &[Option<Point>]) -> usize {
-    let to = put_text(out, to, b" because=");
+fn put_because(out: &mut Writer, output: Option<u64>, points: &[Option<Point>]) {
+    out.put_text(b" because=");
     match output {
-        Some(code) => put_literal(out, to, points, code),
-        None => put(out, to, b'-'),
+        Some(code) => put_literal(out, points, code),
+        None => out.put(b'-'),
     }
 }
 
 // After the charge of `close` and `plan` the region, and the output that they name.
 fn put_closed(
-    out: &mut [u8],
-    to: usize,
+    out: &mut Writer,
     call: Call,
     answer: &[u64; ANSWER_WORDS],
     atoms: u64,
     region: &Lists,
     points: &[Option<Point>],
-) -> usize {
+) {
     match call {
         Call::Close => {
-            let to = put_region(out, to, atoms, region.first, region.second, &[]);
-            put_contradicted(out, to, contradicted(answer))
+            put_region(out, atoms, region.first, region.second, &[]);
+            put_contradicted(out, contradicted(answer));
         }
         Call::Plan => {
-            let to = put_region(out, to, atoms, region.first, region.second, points);
-            put_because(out, to, contradicted(answer), points)
+            put_region(out, atoms, region.first, region.second, points);
+            put_because(out, contradicted(answer), points);
         }
-        _ => to,
+        _ => {}
     }
 }
 
 // The line after the ledger's number.
 fn put_answer(
-    out: &mut [u8],
-    to: usize,
+    out: &mut Writer,
     call: Call,
     answer: &[u64; ANSWER_WORDS],
     ledger: &Ledger,
     lists: &Lists,
     points: &[Option<Point>],
-) -> usize {
+) {
     let head = *ledger.head;
-    let to = put_word(out, to, call, answer, ledger.slots, points);
-    let to = put_charge(out, to, answer[2]);
-    let to = put_closed(out, to, call, answer, head[HEAD_ATOMS_AT], lists, points);
-    put_head(out, to, &head)
+    put_word(out, call, answer, ledger.slots, points);
+    put_charge(out, answer[2]);
+    put_closed(out, call, answer, head[HEAD_ATOMS_AT], lists, points);
+    put_head(out, &head);
 }
 
 pub fn act(
     q: Asked,
     ledger: &mut Ledger,
     points: &[Option<Point>],
-    out: &mut [u8],
-) -> Result<usize, LineError> {
+    out: &mut Writer,
+) -> Result<(), LineError> {
     let mut given = [0u64; 2];
     let mut first: List = filled(0);
     let mut second: List = filled(0);
@@ -222,9 +213,11 @@ pub fn act(
         LineError::Malformed,
     )?;
     let refusal = operate(call, &given, ledger, &mut lists, &mut answer);
-    let to = put_call(out, q.to, q.line, q.index);
+    put_call(out, q.line, q.index);
     if refusal != 0 {
-        return Ok(put_refused(out, to, refusal));
+        put_refused(out, refusal);
+        return Ok(());
     }
-    Ok(put_answer(out, to, call, &answer, ledger, &lists, points))
+    put_answer(out, call, &answer, ledger, &lists, points);
+    Ok(())
 }

@@ -1,5 +1,5 @@
 // The calls of the script language on a single ledger, each through the function that C calls.
-// A call is given the line and the ledger's words, and answers the place after the answer line, or that the line is no call.
+// A call is given the line and the ledger's words, and puts the answer line, or says why the line is no call.
 #![tactic(auto)]
 
 mod acting;

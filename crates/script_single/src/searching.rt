@@ -9,23 +9,24 @@ use script_notation::calls::{Asked, LineError};
 use script_notation::ledgers::Ledger;
 use script_notation::memory::{EachRow, List, Numbers};
 use script_notation::regions::read_region;
-use text::{ended, filled, kept, put, put_field, put_list, put_text};
+use text::{Writer, ended, filled, kept};
 use wire::{
     ANSWER_WORDS, CURSOR_WORDS, HEAD_ATOMS_AT, HEAD_TIER_ROWS_AT, HEADER_WORDS, METER_WORDS,
 };
 
 // The line after the ledger's number: how many rows there are, and which; or that it was stopped, which is any case but the first.
-fn put_rows(out: &mut [u8], to: usize, answer: &[u64; ANSWER_WORDS], rows: &[u64]) -> usize {
+fn put_rows(out: &mut Writer, answer: &[u64; ANSWER_WORDS], rows: &[u64]) {
     if answer[0] != 0 {
-        return put_text(out, to, b" Stopped");
+        out.put_text(b" Stopped");
+        return;
     }
-    let to = put_field(out, to, b" ", answer[1]);
-    let to = put(out, to, b' ');
+    out.put_field(b" ", answer[1]);
+    out.put(b' ');
     let n = kept(rows, answer[1] as usize);
-    put_list(out, to, &rows[..n])
+    out.put_list(&rows[..n]);
 }
 
-pub fn candidates(q: Asked, ledger: &mut Ledger, out: &mut [u8]) -> Result<usize, LineError> {
+pub fn candidates(q: Asked, ledger: &mut Ledger, out: &mut Writer) -> Result<(), LineError> {
     let mut meter = [0u64; METER_WORDS];
     let mut answer = [0u64; ANSWER_WORDS];
     let mut atoms: Numbers = filled(0);
@@ -42,34 +43,35 @@ pub fn candidates(q: Asked, ledger: &mut Ledger, out: &mut [u8]) -> Result<usize
     let slots = &mut *ledger.slots;
     let postings = &mut *ledger.postings;
     let refusal = ledger_candidates(head, &mut answer, &mut meter, slots, postings, atoms, rows);
-    let to = put_call(out, q.to, q.line, q.index);
+    put_call(out, q.line, q.index);
     if refusal != 0 {
-        return Ok(put_refused(out, to, refusal));
+        put_refused(out, refusal);
+        return Ok(());
     }
-    let to = put_rows(out, to, &answer, rows);
-    Ok(put_end(out, to, answer[2], ledger.head))
+    put_rows(out, &answer, rows);
+    put_end(out, answer[2], ledger.head);
+    Ok(())
 }
 
 // The line after the ledger's number.
 fn put_output(
-    out: &mut [u8],
-    to: usize,
+    out: &mut Writer,
     answer: &[u64; ANSWER_WORDS],
     cursor: &[u64; CURSOR_WORDS],
     head: &[u64; HEADER_WORDS],
-) -> usize {
+) {
     let to = match Output::from(*answer) {
-        Output::End => put_text(out, to, b" End"),
-        Output::Code(code) => put_field(out, to, b" Output ", code),
-        Output::Stopped => put_text(out, to, b" Stopped"),
+        Output::End => out.put_text(b" End"),
+        Output::Code(code) => out.put_field(b" Output ", code),
+        Output::Stopped => out.put_text(b" Stopped"),
     };
-    let to = put_charge(out, to, answer[2]);
-    let to = put_text(out, to, b" cursor=");
-    let to = put_list(out, to, cursor);
-    put_head(out, to, head)
+    put_charge(out, answer[2]);
+    out.put_text(b" cursor=");
+    out.put_list(cursor);
+    put_head(out, head);
 }
 
-pub fn next(q: Asked, ledger: &Ledger, out: &mut [u8]) -> Result<usize, LineError> {
+pub fn next(q: Asked, ledger: &Ledger, out: &mut Writer) -> Result<(), LineError> {
     let mut given = [0u64; 2];
     let mut meter = [0u64; METER_WORDS];
     let mut cursor = [0u64; CURSOR_WORDS];
@@ -104,9 +106,11 @@ pub fn next(q: Asked, ledger: &Ledger, out: &mut [u8]) -> Result<usize, LineErro
         first,
         second,
     );
-    let to = put_call(out, q.to, q.line, q.index);
+    put_call(out, q.line, q.index);
     if refusal != 0 {
-        return Ok(put_refused(out, to, refusal));
+        put_refused(out, refusal);
+        return Ok(());
     }
-    Ok(put_output(out, to, &answer, &cursor, &head))
+    put_output(out, &answer, &cursor, &head);
+    Ok(())
 }

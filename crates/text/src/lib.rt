@@ -1,4 +1,4 @@
-// Text in and out: the words, numbers and lists of a line, and a buffer of bytes that is written to standard output in large pieces.
+// Text in and out: the words, numbers and lists of a line, and bytes that are written to standard output in large pieces.
 // None asks anything of its caller.
 #![tactic(auto)]
 
@@ -10,10 +10,7 @@ ghost use Rattle.std.specs.Prelude.{◌≡◌, length};
 pub use reading::{
     Listed, ended, join_lines, kept, list, nth, number, numbers, pack, position, value, word,
 };
-pub use writing::{
-    flush, put, put_comma, put_decimal, put_field, put_fields, put_hexadecimal, put_list,
-    put_packed, put_text,
-};
+pub use writing::Writer;
 
 // An array of one value, with its length said: a caller that lends it needs no computed list.
 pub fn filled<T: Copy, const N: usize>(value: T) -> [T; N]

@@ -1,96 +1,102 @@
-// Output: bytes are put into a lent buffer, and written to standard output when it is full. Each function takes the place of the next
-// byte and answers the place after what it put.
+// Output: bytes are kept, and written to standard output in large pieces.
+ghost use Rattle.std.specs.Prelude.{◌≡◌, ◌≤◌};
+
 const STDOUT: i32 = 1;
 
-// Writes the bytes before `at`, and answers the first place.
-pub fn flush(out: &[u8], at: usize) -> usize {
-    if at <= out.len() {
-        io::write_all(STDOUT, &out[0..at]);
-    }
-    0
+const MOST_BYTES: usize = 65536;
+
+// The bytes that were put and are not written yet: they are written when there is room for no more, and by `flush`.
+#[derive(Drop)]
+pub struct Writer {
+    bytes: [u8; MOST_BYTES],
+    count: usize,
+    ghost within: { count ≤ 65536 },
 }
 
-// One byte.
-pub fn put(out: &mut [u8], at: usize, byte: u8) -> usize {
-    if at < out.len() {
-        out[at] = byte;
-        return at + 1;
-    }
-    flush(out, at);
-    if 0 < out.len() {
-        out[0] = byte;
-        return 1;
-    }
-    0
-}
-
-// Every byte of a text.
-pub fn put_text(out: &mut [u8], at: usize, text: &[u8]) -> usize {
-    let mut next = at;
-    for byte in text {
-        next = put(out, next, *byte);
-    }
-    next
-}
-
-// The bytes that a number is made of, the first highest, but for zeros.
-pub fn put_packed(out: &mut [u8], at: usize, packed: u64) -> usize {
-    let mut next = at;
-    for byte in packed.to_be_bytes() {
-        if byte != 0 {
-            next = put(out, next, byte);
+impl Writer {
+    pub fn new() -> Writer {
+        Writer {
+            bytes: io::large_buffer(),
+            count: 0,
         }
     }
-    next
-}
 
-// A number in decimal.
-pub fn put_decimal(out: &mut [u8], at: usize, n: u64) -> usize {
-    let mut digits = [0u8; 20];
-    let k = io::decimal(n, &mut digits);
-    put_text(out, at, &digits[..k])
-}
-
-// A number in hexadecimal, lower case, with no prefix.
-pub fn put_hexadecimal(out: &mut [u8], at: usize, n: u64) -> usize {
-    let mut digits = [0u8; 16];
-    let k = io::hex(n, 1, &mut digits);
-    put_text(out, at, &digits[..k])
-}
-
-// A text and a number.
-pub fn put_field(out: &mut [u8], at: usize, name: &[u8], n: u64) -> usize {
-    let at = put_text(out, at, name);
-    put_decimal(out, at, n)
-}
-
-// Numbers, each after the name that is its word of a text, and a space before each name.
-pub fn put_fields(out: &mut [u8], at: usize, names: &[u8], numbers: &[u64]) -> usize {
-    let mut next = at;
-    for (name, n) in names.split(|byte| *byte == b' ').zip(numbers) {
-        next = put(out, next, b' ');
-        next = put_field(out, next, name, *n);
+    // Writes every byte.
+    pub fn flush(&mut self)
+        ensures { self.new.count ≡ 0 }
+    {
+        io::write_all(STDOUT, &self.bytes[..self.count]);
+        self.count = 0;
     }
-    next
-}
 
-// The comma before an item of a list that is not the first.
-pub fn put_comma(out: &mut [u8], at: usize, later: bool) -> usize {
-    if later {
-        return put(out, at, b',');
+    // One byte.
+    pub fn put(&mut self, byte: u8) {
+        if self.count == MOST_BYTES {
+            self.flush();
+        }
+        self.bytes[self.count] = byte;
+        self.count += 1;
     }
-    at
-}
 
-// Numbers with commas between them, or `-` for none.
-pub fn put_list(out: &mut [u8], at: usize, words: &[u64]) -> usize {
-    let Some((first, others)) = words.split_first() else {
-        return put(out, at, b'-');
-    };
-    let mut next = put_decimal(out, at, *first);
-    for n in others {
-        next = put(out, next, b',');
-        next = put_decimal(out, next, *n);
+    // Every byte of a text.
+    pub fn put_text(&mut self, text: &[u8]) {
+        for byte in text {
+            self.put(*byte);
+        }
     }
-    next
+
+    // The bytes that a number is made of, the first highest, but for zeros.
+    pub fn put_packed(&mut self, packed: u64) {
+        for byte in packed.to_be_bytes() {
+            if byte != 0 {
+                self.put(byte);
+            }
+        }
+    }
+
+    // A number in decimal.
+    pub fn put_decimal(&mut self, n: u64) {
+        let mut digits = [0u8; 20];
+        let k = io::decimal(n, &mut digits);
+        self.put_text(&digits[..k]);
+    }
+
+    // A number in hexadecimal, lower case, with no prefix.
+    pub fn put_hexadecimal(&mut self, n: u64) {
+        let mut digits = [0u8; 16];
+        let k = io::hex(n, 1, &mut digits);
+        self.put_text(&digits[..k]);
+    }
+
+    // A text and a number.
+    pub fn put_field(&mut self, name: &[u8], n: u64) {
+        self.put_text(name);
+        self.put_decimal(n);
+    }
+
+    // Numbers, each after the name that is its word of a text, and a space before each name.
+    pub fn put_fields(&mut self, names: &[u8], numbers: &[u64]) {
+        for (name, n) in names.split(|byte| *byte == b' ').zip(numbers) {
+            self.put(b' ');
+            self.put_field(name, *n);
+        }
+    }
+
+    // The comma before an item of a list that is not the first.
+    pub fn put_comma(&mut self, later: bool) {
+        if later {
+            self.put(b',');
+        }
+    }
+
+    // Numbers with commas between them, or `-` for none.
+    pub fn put_list(&mut self, words: &[u64]) {
+        if words.is_empty() {
+            self.put(b'-');
+        }
+        for (i, n) in words.iter().enumerate() {
+            self.put_comma(0 < i);
+            self.put_decimal(*n);
+        }
+    }
 }
