@@ -5,7 +5,7 @@ use crate::literals::{Ending, gather, items};
 use crate::memory::Literals;
 use crate::points::Point;
 use crate::regions::{read_region, region_of};
-use text::{Writer, ended, filled, kept};
+use text::{ended, filled, kept};
 
 // The two lists, and the source of a row, 0 where there is none.
 #[derive(Drop)]
