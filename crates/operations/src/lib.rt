@@ -14,8 +14,8 @@ use lists::fill_zero;
 use meter::{Capture, Meter, Sharing, Stopped};
 use model::{
     BeginAnswer, BeginResult, DecideAnswer, DecideResult, DeduceAnswer, DeduceResult, Deduction,
-    Header, HitAnswer, HitResult, LearningLimits, Literal, MakeAnswer, MakeResult, Mark, NextAnswer,
-    NextResult, OutputCursor, POSTING_WORDS, SLOT_WORDS,
+    Header, HitAnswer, HitResult, LearningLimits, Literal, MakeAnswer, MakeResult, Mark,
+    NextAnswer, NextResult, OutputCursor, POSTING_WORDS, SLOT_WORDS,
 };
 use row_deduce::{cursor_ok, deduction, next_publication_output};
 use words::is_region;
