@@ -15,8 +15,9 @@ use postings_search::candidates;
 use transfers::{deliver, seed};
 use wire::{
     ANSWER_WORDS, CURSOR_WORDS, HEADER_WORDS, LIMITS_WORDS, METER_WORDS, candidates_reply,
-    close_reply, cursor_of, decide_reply, deduce_reply, done_reply, header_of, limits_of, make_reply, meter_of, next_reply, offer_reply, put_answer, put_cursor, put_header,
-    put_made, put_meter, transfer_reply,
+    close_reply, cursor_of, decide_reply, deduce_reply, done_reply, header_of, limits_of,
+    make_reply, meter_of, next_reply, offer_reply, put_answer, put_cursor, put_header, put_made,
+    put_meter, transfer_reply,
 };
 
 // Make: the fresh header, every slot and posting 0; refused by 1 or 2.

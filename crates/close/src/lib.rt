@@ -36,8 +36,9 @@ fn answer_of(end: Result<(), Halt>) -> CloseAnswer
 }
 
 // Closes a region under the rows of a ledger: refused by Limits, Lengths or Contents, or by Region if there is no region over the
-// ledger's atoms; Closed if no row forces or requires a literal that the region lacks, Conflict if a row decides against it, Stopped if a tick was not made. Conflict and
-// Stopped keep what was decided. Beside it the contradicted output of the last Require that was acted on. Both scratches end as zeros.
+// ledger's atoms; Closed if no row forces or requires a literal that the region lacks, Conflict if a row decides against it, Stopped if a
+// tick was not made. Conflict and Stopped keep what was decided. Beside it the contradicted output of the last Require that was acted on.
+// Both scratches end as zeros.
 pub fn close(
     header: Header,
     slots: &mut [u64],

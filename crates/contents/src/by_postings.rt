@@ -1,5 +1,6 @@
 // The postings of the rows in slots, counted and compared with lent words, with no sort and no room of its own.
-ghost use Rattle.std.specs.Prelude.{◌≡◌, not, true, false, ◌/◌, ◌%◌, ◌*◌, ◌+◌, ◌≤◌, ◌<◌, eqb, leb, ltb, length, get_or};
+ghost use Rattle.std.specs.Prelude.{◌≡◌, not, true, false, ◌/◌, ◌%◌, ◌*◌, ◌+◌, ◌≤◌, ◌<◌};
+ghost use Rattle.std.specs.Prelude.{eqb, leb, ltb, length, get_or};
 ghost use Rattle.std.specs.Int.Bits.{bit_or};
 ghost use Rattle.std.specs.Int.Count.{ones};
 ghost use Rattle.lists.specs.Lists.{same, sort_of, pad};

@@ -5,10 +5,10 @@
 pub use close::close;
 pub use meter::{Account, Capture, Meter, Sharing};
 pub use model::{
-    BeginResult, CandidatesAnswer, CandidatesResult, CloseAnswer, CloseResult,
-    DecideResult, DeduceAnswer, DeduceResult, Deduction, Header, HitResult, LearningLimits, Literal,
-    MakeResult, Mark, NextAnswer, NextResult, OfferAnswer, OfferResult, OutputCursor, Refusal,
-    TransferAnswer, TransferResult,
+    BeginResult, CandidatesAnswer, CandidatesResult, CloseAnswer, CloseResult, DecideResult,
+    DeduceAnswer, DeduceResult, Deduction, Header, HitResult, LearningLimits, Literal, MakeResult,
+    Mark, NextAnswer, NextResult, OfferAnswer, OfferResult, OutputCursor, Refusal, TransferAnswer,
+    TransferResult,
 };
 pub use offer::offer;
 pub use operations::{begin, decide, deduce, hit, make, next_output};

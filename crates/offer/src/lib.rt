@@ -143,8 +143,8 @@ fn capture(
 }
 
 // Offers a row to a ledger: refused by Limits, Lengths, Contents, by Row if the lists are no row over its atoms within its limits, or by
-// Source if the source is neither 0, Founded, nor 1, a Tip; Shut if it takes no offers; Stopped or Declined where a read is not paid; Subsumed, and the position
-// of the row that says as much; or Added, and its own.
+// Source if the source is neither 0, Founded, nor 1, a Tip; Shut if it takes no offers; Stopped or Declined where a read is not paid;
+// Subsumed, and the position of the row that says as much; or Added, and its own.
 pub fn offer(
     header: Header,
     slots: &mut [u64],

@@ -7,7 +7,8 @@ ghost use Rattle.model.specs.Operations.{make, hit, deduce, next_answer, next_ou
 ghost use Rattle.contents.specs.Lent.{lent};
 ghost use Rattle.row_deduce.specs.Walks.{walked};
 ghost use Rattle.row_deduce.specs.Publication.{next_of};
-ghost use Rattle.operations.specs.Ends.{unpriced, under, unpriced_decision, make_end, hit_end, refused_by, deduced_by, deduce_end, output_end, begin_end, decide_end};
+ghost use Rattle.operations.specs.Ends.{unpriced, under, unpriced_decision, make_end, hit_end, refused_by, deduced_by, deduce_end};
+ghost use Rattle.operations.specs.Ends.{output_end, begin_end, decide_end};
 
 use contents::{accept, limits_ok};
 use lists::fill_zero;
@@ -162,8 +163,8 @@ fn deduce_done(found: Result<Deduction, Stopped>, before: Meter, meter: Meter) -
     }
 }
 
-// What the row at a position says of a region: refused by Limits, Lengths, Contents, by Position if there is no such row, by Region if there is no region over
-// the ledger's atoms; Stopped, or the deduction.
+// What the row at a position says of a region: refused by Limits, Lengths, Contents, by Position if there is no such row, by Region if
+// there is no region over the ledger's atoms; Stopped, or the deduction.
 pub fn deduce(
     header: Header,
     slots: &[u64],
@@ -204,8 +205,8 @@ fn next_answer(found: Result<Option<Literal>, Stopped>) -> NextAnswer
     }
 }
 
-// The next output of the row at a position, with the cursor past it: refused as `deduce`, and by Cursor if the cursor is none of that row's;
-// Stopped, End, or the output.
+// The next output of the row at a position, with the cursor past it: refused as `deduce`, and by Cursor if the cursor is none of that
+// row's; Stopped, End, or the output.
 pub fn next_output(
     header: Header,
     slots: &[u64],

@@ -172,8 +172,8 @@ fn delivered(
     }
 }
 
-// Delivers a tier's rows to a store: refused for the tier, then the store, by Limits, Lengths or Contents, or by Atoms if they are over different numbers;
-// Done, also after a row Declined, or Stopped. The tier's postings are only read.
+// Delivers a tier's rows to a store: refused for the tier, then the store, by Limits, Lengths or Contents, or by Atoms if they are over
+// different numbers; Done, also after a row Declined, or Stopped. The tier's postings are only read.
 pub fn deliver(
     tier: Header,
     tier_slots: &mut [u64],

@@ -129,8 +129,8 @@ fn seeded(
     }
 }
 
-// Seeds a tier from a store: refused for the tier, then the store, by Limits, Lengths or Contents, or by Atoms if they are over different numbers;
-// Done, also after a row Declined, or Stopped. The store's slices are only read.
+// Seeds a tier from a store: refused for the tier, then the store, by Limits, Lengths or Contents, or by Atoms if they are over different
+// numbers; Done, also after a row Declined, or Stopped. The store's slices are only read.
 pub fn seed(
     tier: Header,
     tier_slots: &mut [u64],

@@ -5,15 +5,16 @@
 ghost use Rattle.std.specs.Prelude.{◌≡◌};
 ghost use Rattle.wire.specs.Words.{limits_in, mark_words, mark_in, header_words, header_in, meter_words, meter_in, cursor_words};
 ghost use Rattle.wire.specs.Words.{cursor_in};
-ghost use Rattle.model.specs.Answers.{number_of, replied, refused as refused_by, answered as answered_by, named as named_by, flag_word, make_reply};
-ghost use Rattle.model.specs.Answers.{made_header, offer_reply, hit_reply, begin_reply, deduce_reply, next_reply, candidates_reply, close_reply};
+ghost use Rattle.model.specs.Answers.{number_of, replied, refused as refused_by, answered as answered_by, named as named_by, flag_word};
+ghost use Rattle.model.specs.Answers.{make_reply, made_header, offer_reply, hit_reply, begin_reply, deduce_reply, next_reply};
+ghost use Rattle.model.specs.Answers.{candidates_reply, close_reply};
 ghost use Rattle.model.specs.Answers.{contradicted_reply, transfer_reply, deduction_reply, decide_reply};
 ghost use Rattle.wire.specs.Replies.{reply_words, close_words, answer_words, made_words};
 
 use meter::{Capture, Meter, Sharing};
 use model::{
-    CandidatesAnswer, CloseAnswer, DeduceAnswer, Deduction, Header, LearningLimits,
-    Literal, Mark, NextAnswer, OfferAnswer, OutputCursor, Refusal, TransferAnswer,
+    CandidatesAnswer, CloseAnswer, DeduceAnswer, Deduction, Header, LearningLimits, Literal, Mark,
+    NextAnswer, OfferAnswer, OutputCursor, Refusal, TransferAnswer,
 };
 
 // The words of the limits, the header, the meter, the cursor, and an answer.
