@@ -56,7 +56,10 @@ impl Codes {
         }
     }
 
-    pub fn as_slice(&self) -> &[u64] {
+    // All of them.
+    pub fn as_slice(&self) -> &[u64]
+        ensures { length result.now ≤ max_outputs }
+    {
         &self.list[..self.count]
     }
 }

@@ -1,5 +1,7 @@
 // The two lists that a call ends with, as words: codes, the atoms of a region, or the items of `rule`, `tip` and `plan`; and behind the
 // codes of `offer` their source.
+ghost use Rattle.std.specs.Prelude.{◌≤◌, length, IfSome};
+
 use crate::calls::Call;
 use crate::literals::{Ending, gather, items};
 use crate::memory::Literals;
@@ -30,7 +32,9 @@ fn read_codes<'a>(
     at: usize,
     first: &'a mut [u64],
     second: &'a mut [u64],
-) -> Option<Lists<'a>> {
+) -> Option<Lists<'a>>
+    ensures { IfSome result (λ l. (length l.first.now ≤ length first.old) × (length l.second.now ≤ length second.old)) }
+{
     let c = text::list(line, at, first)?;
     let o = text::list(line, c.at, second)?;
     let (source, end) = read_source(line, o.at)?;
@@ -54,7 +58,9 @@ fn read_rule<'a>(
     source: u64,
     first: &'a mut [u64],
     second: &'a mut [u64],
-) -> Option<Lists<'a>> {
+) -> Option<Lists<'a>>
+    ensures { IfSome result (λ l. (length l.first.now ≤ length first.old) × (length l.second.now ≤ length second.old)) }
+{
     let mut conditions: Literals = filled(0);
     let mut outputs: Literals = filled(0);
     let Ending::Arrow(at) = items(line, at, points, true, &mut conditions)? else {
@@ -80,7 +86,9 @@ fn read_plan<'a>(
     atoms: u64,
     first: &'a mut [u64],
     second: &'a mut [u64],
-) -> Option<Lists<'a>> {
+) -> Option<Lists<'a>>
+    ensures { IfSome result (λ l. (length l.first.now ≤ length first.old) × (length l.second.now ≤ length second.old)) }
+{
     let mut set: Literals = filled(0);
     let Ending::Line = items(line, at, points, false, &mut set)? else {
         return None;
@@ -98,7 +106,9 @@ pub fn read_lists<'a>(
     atoms: u64,
     first: &'a mut [u64],
     second: &'a mut [u64],
-) -> Option<Lists<'a>> {
+) -> Option<Lists<'a>>
+    ensures { IfSome result (λ l. (length l.first.now ≤ length first.old) × (length l.second.now ≤ length second.old)) }
+{
     match call {
         Call::Offer => read_codes(line, at, first, second),
         Call::Rule => read_rule(line, at, points, 0, first, second),

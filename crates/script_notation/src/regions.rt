@@ -1,5 +1,5 @@
 // The regions of a line: lists of atoms held and cut, as words, and back.
-ghost use Rattle.std.specs.Prelude.{◌≤◌, length};
+ghost use Rattle.std.specs.Prelude.{◌≤◌, length, IfSome};
 
 use crate::arguments::Lists;
 use crate::literals::CODES;
@@ -67,7 +67,9 @@ fn region<'a>(
     held_fit: bool,
     cut: &'a mut [u64],
     cut_fit: bool,
-) -> Lists<'a> {
+) -> Lists<'a>
+    ensures { (length result.first.now ≤ length held.old) × (length result.second.now ≤ length cut.old) }
+{
     let n = word_count(atoms, held, held_fit);
     let m = word_count(atoms, cut, cut_fit);
     Lists {
@@ -84,7 +86,9 @@ pub fn read_region<'a>(
     atoms: u64,
     held: &'a mut [u64],
     cut: &'a mut [u64],
-) -> Option<Lists<'a>> {
+) -> Option<Lists<'a>>
+    ensures { IfSome result (λ l. (length l.first.now ≤ length held.old) × (length l.second.now ≤ length cut.old)) }
+{
     let h = read_set(line, at, atoms, held)?;
     let c = read_set(line, h.at, atoms, cut)?;
     if !ended(line, c.at) {
@@ -122,7 +126,9 @@ pub fn region_of<'a>(
     set: &[u64],
     held: &'a mut [u64],
     cut: &'a mut [u64],
-) -> Lists<'a> {
+) -> Lists<'a>
+    ensures { (length result.first.now ≤ length held.old) × (length result.second.now ≤ length cut.old) }
+{
     let fit = mark_codes(atoms, set, held, cut);
     region(atoms, held, fit, cut, fit)
 }

@@ -44,8 +44,16 @@ pub fn ended(s: &[u8], at: usize) -> bool {
 }
 
 // The n-th word of a text, the first for 0; an empty one where there are fewer.
-pub fn nth(text: &[u8], n: usize) -> &[u8] {
-    text.split(|byte| *byte == b' ').nth(n).unwrap_or(&[])
+pub fn nth(text: &[u8], n: usize) -> &[u8]
+    ensures { length result.now ≤ length text.now }
+{
+    let mut at = 0;
+    for _ in 0..n {
+        let (_, after) = word(text, at);
+        at = after;
+    }
+    let (word, _) = word(text, at);
+    word
 }
 
 // Bytes as a number, the first highest; of more than eight the last eight count.
