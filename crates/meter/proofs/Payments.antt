@@ -18,7 +18,7 @@ use Rattle.meter.specs.Verdict as verdict
 use Rattle.meter.specs.Read.{Read}
 use Rattle.meter.specs.Read as read
 use Rattle.meter.specs.Meter.{and_then, pay_one, pay, judged}
-use Rattle.meter.specs.Results.{unpaid_end, read_end, judged_end, verdict_of, WhereYes}
+use Rattle.meter.specs.Results.{unpaid_end, read_end, judged_end, verdict_of}
 use Rattle.meter.proofs.Laws.{pay-add, pay-left, pay-suc}
 
 -- what a `?` returns is the error that it met
@@ -138,24 +138,3 @@ ask-both false c n k a m = go (pay n a m) ∙ ap (λ (x : ℕ). judged false (pa
     go (read.Paid p q) = refl
     go (read.Declined p q) = refl
     go (read.Stopped p q) = refl
-
--- ---- what is told where a question says Yes
-pub where-all : (v : Verdict) {P : Type 0} → P → WhereYes v P
-where-all verdict.Yes p = p
-where-all verdict.No p = tt
-where-all verdict.Declined p = tt
-where-all verdict.Stopped p = tt
-
-pub where-map : (v : Verdict) {P Q : Type 0} → (P → Q) → WhereYes v P → WhereYes v Q
-where-map verdict.Yes f p = f p
-where-map verdict.No f p = tt
-where-map verdict.Declined f p = tt
-where-map verdict.Stopped f p = tt
-
--- nothing where it is not answered
-pub where-unpaid : (P : Type 0) {r : Result Bool Unpaid} {e : Unpaid} → r ≡ Err e → WhereYes (verdict_of r) P
-where-unpaid P {r} {e} h = rw h (go e)
-  where
-    go : (e : Unpaid) → WhereYes (verdict_of (Err e)) P
-    go unpaid.Declined = tt
-    go unpaid.Stopped = tt

@@ -1,5 +1,5 @@
--- 01, Meter: what a function's result and the state after it say in the words of specs/Meter. "0 means Declined without a tick; else a tick";
--- a read that is not paid ends the question that it was paid for. Assumes nothing.
+-- 01, Meter: what a function's result and the state after it say in the words of specs/Meter. "0 means Declined without a tick; else a
+-- tick"; a read that is not paid ends the question that it was paid for. Assumes nothing.
 use Rattle.std.specs.Prelude.{Bool, Result, Ok, Err}
 use Rattle.meter.specs.declared.Meter.{Meter}
 use Rattle.meter.specs.declared.Purse.{Purse}
@@ -34,10 +34,3 @@ verdict_of (Err unpaid.Stopped) = verdict.Stopped
 
 abbrev pub judged_end : Result Bool Unpaid → Purse → Judged
 judged_end r p = record { verdict = verdict_of r; account = p.account; meter = p.meter }
-
--- what is told where a question says Yes
-abbrev pub WhereYes : Verdict → Type 0 → Type 0
-WhereYes verdict.Yes P = P
-WhereYes verdict.No P = Unit {0}
-WhereYes verdict.Declined P = Unit {0}
-WhereYes verdict.Stopped P = Unit {0}

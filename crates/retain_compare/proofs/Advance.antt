@@ -120,7 +120,8 @@ module _ (most : ℕ) (p₀ : Row) (es : List Entry) (old : List ℕ) (a₀ : Ac
       reads_here = ap (λ (xs : List Entry). pay (first_reads most p xs) a m) (sym (drop-cons es i no-entry l)) ∙ s.reads
 
       -- the row subsumes the proposal
-      pub advance-found : (u : Purse) → judged_end (Ok true) u ≡ beside most r p a m → comparison_end (Ok (Some i)) u ≡ comparison whole cost
+      pub advance-found : (u : Purse) → judged_end (Ok true) u ≡ beside most r p a m
+          → comparison_end (Ok (Some i)) u ≡ comparison whole cost
       advance-found u h =
           let b = answered (subsumes r p) true (row_reads most r p) a m u h in
           let f : whole ≡ found i

@@ -63,7 +63,8 @@ module _ (p : Row) (es : List Entry) (old : List ℕ) (a₀ : Account) (m₀ : M
         ∙ ap (λ (b : Bool). sweep_reads b p row + left (suc i)) (sym (s.ahead i (omega arith))))
 
     pub sweep-turn : (after : List ℕ) {b : Account} {k : Meter} → i / 64 < length marks
-        → read.Paid b k ≡ pay (sweep_reads (has marks i) p row) a m → after ≡ swept_marks (has marks i) marks i p row → Sweep after b k (i + 1)
+        → read.Paid b k ≡ pay (sweep_reads (has marks i) p row) a m → after ≡ swept_marks (has marks i) marks i p row
+        → Sweep after b k (i + 1)
     sweep-turn after {b} {k} w paid e =
         record {
           far = omega arith;
@@ -78,7 +79,8 @@ module _ (p : Row) (es : List Entry) (old : List ℕ) (a₀ : Account) (m₀ : M
         before : (j : ℕ) → j < i + 1 → (j ≡ i) ⊎ (j ≡ i → ⊥)
             → has (swept_marks (has marks i) marks i p row) j ≡ (has old j || subsumes p (get_or es j no-entry).row)
         before j b (inl q) =
-            subst (λ (k : ℕ). has (swept_marks (has marks i) marks i p row) k ≡ (has old k || subsumes p (get_or es k no-entry).row)) (sym q)
+            subst (λ (k : ℕ). has (swept_marks (has marks i) marks i p row) k ≡ (has old k || subsumes p (get_or es k no-entry).row))
+            (sym q)
             (swept-here p row marks i w (has marks i) refl ∙ ap (λ (x : Bool). x || subsumes p row) (s.ahead i (omega arith)))
         before j b (inr n) =
             let k : j < i = omega arith in

@@ -1,5 +1,5 @@
-// A proposal beside the rows of a tier: the rows that it joins or dominates, or a row that subsumes it. Every read is paid for from a purse,
-// and one that is not paid ends the comparison. No row changes.
+// A proposal beside the rows of a tier: the rows that it joins or dominates, or a row that subsumes it. Every read is paid for from a
+// purse, and one that is not paid ends the comparison. No row changes.
 #![tactic(auto)]
 
 ghost use Rattle.std.specs.Prelude.{◌≡◌, true, false, ℕ, ◌*◌, ◌≤◌, ◌/◌, ◌<◌, length, OnOk};
@@ -20,8 +20,8 @@ ghost use Rattle.retain_compare.specs.Turns.{WhereReplaces, both_passes, compare
 use meter::{Purse, Unpaid};
 use model::SLOT_WORDS;
 
-// The second pass at one position, which is marked if the proposal p subsumes the row. A row that is marked already costs nothing, any other
-// one read and those of the question.
+// The second pass at one position, which is marked if the proposal p subsumes the row. A row that is marked already costs nothing, any
+// other one read and those of the question.
 fn sweep_row(
     row: &[u64],
     position: u64,

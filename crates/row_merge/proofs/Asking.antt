@@ -28,7 +28,8 @@ use Rattle.meter.proofs.Payments.{ask-one, paid-one, on_yes, ask-both}
 abbrev pub alike : List ℕ → List ℕ → Account → Meter → Judged
 alike xs ys a m = judged (same xs ys) (pay (same_reads xs ys) a m)
 
-pub alike-end : (ys : List ℕ) (a : Account) (m : Meter) {l : List ℕ} → [] ≡ l → length l ≡ length ys → judged true (read.Paid a m) ≡ alike l ys a m
+pub alike-end : (ys : List ℕ) (a : Account) (m : Meter) {l : List ℕ} → [] ≡ l → length l ≡ length ys
+    → judged true (read.Paid a m) ≡ alike l ys a m
 unfolding same same_reads pay
 alike-end ys a m {l} e f = none ys (omega (arith, ap length e)) ∙ ap (λ (q : List ℕ). alike q ys a m) e
   where
@@ -77,7 +78,8 @@ module _ (a : Account) (m : Meter) where
 
   module _ {p : Account} {q : Meter} (e : read.Paid p q ≡ pay_one a m) where
     -- one read of as many as the count asks
-    counted : (l : List ℕ) (b : Bool) (n k : ℕ) → b ≡ leb (length l) k → suc n ≡ suc (min (length l) k) → judged b (pay n p q) ≡ counting l k a m
+    counted : (l : List ℕ) (b : Bool) (n k : ℕ) → b ≡ leb (length l) k → suc n ≡ suc (min (length l) k)
+        → judged b (pay n p q) ≡ counting l k a m
     counted l b n k f z = ap (judged b) (paid-one n a m e) ∙ ap₂ (λ (b : Bool) (n : ℕ). judged b (pay n a m)) f z
 
     pub count-end : (k : ℕ) {l : List ℕ} → [] ≡ l → judged true (read.Paid p q) ≡ counting l k a m

@@ -84,13 +84,13 @@ module _ (ws us : List ℕ) (p : Proposed ws) (more : length (row_in ws).outputs
 module _ (ws ps : List ℕ) (w : Laid ws) (p : Proposed ps) {ro : Side} (e : ro ≡ output_side ws) where
   -- the union of the side with the part of the proposal is that of the rows
   pub sides-union : union (list_of ws ro)
-      (mid_of (body_at + get_or ps conditions_at 0) (body_at + get_or ps conditions_at 0 + get_or ps outputs_at 0 - (body_at + get_or ps conditions_at 0))
-      ps)
+      (mid_of (body_at + get_or ps conditions_at 0)
+      (body_at + get_or ps conditions_at 0 + get_or ps outputs_at 0 - (body_at + get_or ps conditions_at 0)) ps)
       ≡ (grown (row_in ws) (row_in ps)).outputs
   unfolding grown
   sides-union =
-      let n : body_at + get_or ps conditions_at 0 + get_or ps outputs_at 0 - (body_at + get_or ps conditions_at 0) ≡ get_or ps outputs_at 0 =
-      omega arith in
+      let n : body_at + get_or ps conditions_at 0 + get_or ps outputs_at 0 - (body_at + get_or ps conditions_at 0) ≡ get_or ps outputs_at 0
+      = omega arith in
       ap₂ union (ap (list_of ws) e ∙ w.outputs) (ap (λ (k : ℕ). mid_of (body_at + get_or ps conditions_at 0) k ps) n ∙ outputs-at ps p)
 
 -- a part at the front of a list

@@ -62,7 +62,8 @@ put-proposal cs os =
 
 -- the counts, then the conditions, then the outputs
 module _ (ws x cs os : List ℕ) (at : ℕ) (few : length cs ≤ max_conditions) (many : length os ≤ max_outputs)
-    (b : ws ≡ blank_of (length cs) (length os)) (e : at ≡ body_at + length cs) (f : x ≡ put 0 cs (mid_of body_at (length ws - body_at) ws)) where
+    (b : ws ≡ blank_of (length cs) (length os)) (e : at ≡ body_at + length cs)
+    (f : x ≡ put 0 cs (mid_of body_at (length ws - body_at) ws)) where
   abbrev half : List ℕ
   half = put_mid body_at (length ws - body_at) ws x
 

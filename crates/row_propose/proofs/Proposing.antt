@@ -6,8 +6,8 @@ use Prim.Native.Nat.{ℕ, suc, ◌+◌, ◌-◌, ◌*◌, ◌≤◌}
 use native.Mathlib.Omega.{arith}
 use lib.ListN.{length, get_or, take, drop, replicate, length-append, length-replicate}
 use Rattle.lists.specs.Lists.{pad, below}
-use Rattle.model.specs.Records.{Row, max_conditions, max_outputs, slot_words, is_row, conditions_at, outputs_at, total_groups_at, condition_groups_at}
-use Rattle.model.specs.Records.{body_at}
+use Rattle.model.specs.Records.{Row, max_conditions, max_outputs, slot_words, is_row, conditions_at, outputs_at}
+use Rattle.model.specs.Records.{total_groups_at, condition_groups_at, body_at}
 use Rattle.model.specs.Slots.{row_in}
 use Rattle.model.proofs.Rows.{row-parts, row_more}
 use Rattle.slots.specs.Layout.{proposal, Laid}

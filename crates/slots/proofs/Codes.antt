@@ -9,7 +9,7 @@ use native.Mathlib.Omega.{arith}
 use lib.Bits.{bit_and, bit_or, or_lt}
 use lib.Dec.{eqb}
 use Rattle.lists.specs.Lists.{select, range}
-use Rattle.lists.proofs.Ranges.{select-ext, select-nowhere, select-next}
+use Rattle.lists.proofs.Ranges.{select-nowhere, select-next}
 use Rattle.lists.proofs.Bools.{or-none, or_right}
 use Rattle.words.specs.Bit.{test_bit, first_bit}
 use Rattle.words.specs.Literal.{atom, is_present, word_of, bit_of}
@@ -27,7 +27,8 @@ codes-select x p a = refl
 
 -- the two codes of place i of word x: their word, sign and bit
 module _ (x i : ℕ) (l : i < 64) where
-  pub absent-parts : (word_of (atom (2 * (64 * x + i))) ≡ x) × (is_present (2 * (64 * x + i)) ≡ false) × (bit_of (atom (2 * (64 * x + i))) ≡ i)
+  pub absent-parts : (word_of (atom (2 * (64 * x + i))) ≡ x) × (is_present (2 * (64 * x + i)) ≡ false)
+      × (bit_of (atom (2 * (64 * x + i))) ≡ i)
   unfolding word_of atom is_present bit_of
   absent-parts =
       let h : 2 * (64 * x + i) / 2 ≡ 64 * x + i = omega arith in
@@ -46,7 +47,8 @@ module _ (x i : ℕ) (l : i < 64) where
       let b : (64 * x + i) % 64 ≡ i = omega arith in
       (ap (λ (k : ℕ). k / 64) h ∙ w, ap (λ (k : ℕ). eqb k 1) s, ap (λ (k : ℕ). k % 64) h ∙ b)
 
-chosen_at : (p a z i : ℕ) (s : Bool) → is_present z ≡ s → bit_of (atom z) ≡ i → chosen_by p a z ≡ test_bit (elim s [ true ↦ p | false ↦ a ]) i
+chosen_at : (p a z i : ℕ) (s : Bool) → is_present z ≡ s → bit_of (atom z) ≡ i
+    → chosen_by p a z ≡ test_bit (elim s [ true ↦ p | false ↦ a ]) i
 unfolding chosen_by
 chosen_at p a z i s e f = ap₂ (λ (b : Bool) (j : ℕ). test_bit (elim b [ true ↦ p | false ↦ a ]) j) e f
 
@@ -67,17 +69,6 @@ by_place P x even odd z l m = ⊎_elim (λ s. at0 s) (λ s. at1 s) (parity z)
 
     at1 : z % 2 ≡ 1 → P z
     at1 s = let e : 2 * (64 * x + (z / 2 - 64 * x)) + 1 ≡ z = omega arith in subst P e (odd (z / 2 - 64 * x) (omega arith))
-
--- equal bits, equal codes
-pub codes-ext : (x p a q b : ℕ) → ((i : ℕ) → i < 64 → (test_bit p i ≡ test_bit q i) × (test_bit a i ≡ test_bit b i))
-    → codes_of x p a ≡ codes_of x q b
-codes-ext x p a q b h =
-    codes-select x p a
-    ∙ select-ext (chosen_by p a) (chosen_by q b) (2 * 64) (2 * 64 * x)
-    (by_place (λ z. chosen_by p a z ≡ chosen_by q b z) x
-    (λ i l. chosen-absent x p a i l ∙ (h i l).1 ∙ sym (chosen-absent x q b i l))
-    (λ i l. chosen-present x p a i l ∙ (h i l).0 ∙ sym (chosen-present x q b i l)))
-    ∙ sym (codes-select x q b)
 
 -- no bit, no code
 pub codes-none : (x p a : ℕ) → bit_or a p ≡ 0 → codes_of x p a ≡ []

@@ -42,7 +42,8 @@ valid-at (suc p) (e ∷ es) d v h = valid-at p es d v.1 (omega arith)
 pub valid-blocks : (es : List Entry) → AllValid es → Blocks slot_of slot_words es
 valid-blocks es v i d l = slot-length (get_or es i d) (valid-at i es d v l)
 
-pub slot-at : (tier p : ℕ) (es : List Entry) (d : Entry) → AllValid es → p < length es → slot_at (slots_of tier es) p ≡ slot_of (get_or es p d)
+pub slot-at : (tier p : ℕ) (es : List Entry) (d : Entry) → AllValid es → p < length es
+    → slot_at (slots_of tier es) p ≡ slot_of (get_or es p d)
 unfolding slots_of pad
 slot-at tier p es d v l = block_at slot_of slot_words es p d _ (valid-blocks es v) l
 

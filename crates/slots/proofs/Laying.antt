@@ -21,7 +21,8 @@ use Rattle.slots.proofs.Sides.{scalar, grouped, condition-scalar, condition-pack
 module _ (ws : List ℕ) where
   abbrev single : Row
   single =
-      row_of (take (get_or ws conditions_at 0) (drop body_at ws)) (take (get_or ws outputs_at 0) (drop (get_or ws conditions_at 0) (drop body_at ws)))
+      row_of (take (get_or ws conditions_at 0) (drop body_at ws))
+      (take (get_or ws outputs_at 0) (drop (get_or ws conditions_at 0) (drop body_at ws)))
 
   abbrev several : Row
   several =
@@ -118,7 +119,8 @@ laid-packed {w} ws l c z f lc lo =
       first = subst (SoundWide w ws) (sym (condition-packed ws z))
           (sound-grouped ws body_at (get_or ws condition_groups_at 0) (omega arith) (λ g h. f g (omega arith)));
       second = subst (SoundWide w ws) (sym (output-packed ws z))
-          (sound-grouped ws (body_at + group_length * get_or ws condition_groups_at 0) (get_or ws total_groups_at 0 - get_or ws condition_groups_at 0)
+          (sound-grouped ws (body_at + group_length * get_or ws condition_groups_at 0)
+          (get_or ws total_groups_at 0 - get_or ws condition_groups_at 0)
           (omega arith)
           (λ g h. let e : body_at + group_length * (get_or ws condition_groups_at 0 + g)
           ≡ body_at + group_length * get_or ws condition_groups_at 0 + group_length * g = omega arith in

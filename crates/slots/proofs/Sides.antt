@@ -31,7 +31,8 @@ module _ (ws : List ℕ) where
       → output_side ws
       ≡ (elim b as (λ k. Side) [
         | true ↦ scalar (body_at + get_or ws conditions_at 0) (get_or ws outputs_at 0)
-        | false ↦ grouped (body_at + group_length * get_or ws condition_groups_at 0) (get_or ws total_groups_at 0 - get_or ws condition_groups_at 0)
+        | false ↦ grouped (body_at + group_length * get_or ws condition_groups_at 0)
+            (get_or ws total_groups_at 0 - get_or ws condition_groups_at 0)
       ])
   unfolding output_side
   output-by b e = rw (e, output_side)
@@ -42,9 +43,11 @@ module _ (ws : List ℕ) where
   pub condition-packed : (get_or ws total_groups_at 0 ≡ 0 → ⊥) → condition_side ws ≡ grouped body_at (get_or ws condition_groups_at 0)
   condition-packed f = condition-by false (ne_eqb (get_or ws total_groups_at 0) 0 f)
 
-  pub output-scalar : get_or ws total_groups_at 0 ≡ 0 → output_side ws ≡ scalar (body_at + get_or ws conditions_at 0) (get_or ws outputs_at 0)
+  pub output-scalar : get_or ws total_groups_at 0 ≡ 0
+      → output_side ws ≡ scalar (body_at + get_or ws conditions_at 0) (get_or ws outputs_at 0)
   output-scalar e = output-by true (eq-eqb (get_or ws total_groups_at 0) 0 e)
 
   pub output-packed : (get_or ws total_groups_at 0 ≡ 0 → ⊥)
-      → output_side ws ≡ grouped (body_at + group_length * get_or ws condition_groups_at 0) (get_or ws total_groups_at 0 - get_or ws condition_groups_at 0)
+      → output_side ws
+      ≡ grouped (body_at + group_length * get_or ws condition_groups_at 0) (get_or ws total_groups_at 0 - get_or ws condition_groups_at 0)
   output-packed f = output-by false (ne_eqb (get_or ws total_groups_at 0) 0 f)

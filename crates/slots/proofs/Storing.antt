@@ -68,7 +68,8 @@ module _ (e : Entry) where
   unfolding slot_of pad
   slot-outputs = refl
 
-  slot-forms : get_or (slot_of e) total_groups_at 0 ≡ if_packed r (group_count r) × get_or (slot_of e) condition_groups_at 0 ≡ if_packed r (length gc)
+  slot-forms : get_or (slot_of e) total_groups_at 0 ≡ if_packed r (group_count r)
+      × get_or (slot_of e) condition_groups_at 0 ≡ if_packed r (length gc)
   unfolding slot_of pad
   slot-forms = (refl, refl)
 
@@ -211,7 +212,8 @@ module _ (n : ℕ) (e : Entry) (ok : T (is_row n e.row)) where
         (grouped-of n ws body_at (get_or ws condition_groups_at 0) cs part (fits-codes 0 cs (groups-fit 0 e.row.conditions v.conditions))
         (groups-headed (2 * n) e.row.conditions (row_under n e.row ok).0) first),
     subst (λ (s : Side). Grouped n ws s os) (sym (output-packed ws some))
-        (grouped-of n ws (body_at + group_length * get_or ws condition_groups_at 0) (get_or ws total_groups_at 0 - get_or ws condition_groups_at 0) os
+        (grouped-of n ws (body_at + group_length * get_or ws condition_groups_at 0)
+        (get_or ws total_groups_at 0 - get_or ws condition_groups_at 0) os
         rest (fits-codes 0 os (groups-fit 0 e.row.outputs v.outputs))
         (groups-headed (2 * n) e.row.outputs (row_under n e.row ok).1) second),
   )
@@ -245,7 +247,8 @@ module _ (n : ℕ) (e : Entry) (ok : T (is_row n e.row)) where
           subst (WordsAt ws (body_at + group_length * g)) (get_or-append cs os [] g l)
           (slot-words e k g (let x = length-append cs os in omega arith))
 
-      second : (g : ℕ) → g < length os → WordsAt ws (body_at + group_length * get_or ws condition_groups_at 0 + group_length * g) (get_or os g [])
+      second : (g : ℕ) → g < length os
+          → WordsAt ws (body_at + group_length * get_or ws condition_groups_at 0 + group_length * g) (get_or os g [])
       second g l =
           let q = part in
           let at : body_at + group_length * (length cs + g) ≡ body_at + group_length * get_or ws condition_groups_at 0 + group_length * g =
@@ -285,7 +288,8 @@ module _ {w : ℕ} (n : ℕ) (ws : List ℕ) (s : StoredWide w n ws) where
 
   -- no atom of a group of conditions has both signs
   pub conditions-apart : packed (row_in ws) ≡ true → (g : ℕ) → g < length (groups (row_in ws).conditions)
-      → bit_and (get_or ws ((condition_side ws).base + group_length * g + 1) 0) (get_or ws ((condition_side ws).base + group_length * g + 2) 0) ≡ 0
+      → bit_and (get_or ws ((condition_side ws).base + group_length * g + 1) 0)
+      (get_or ws ((condition_side ws).base + group_length * g + 2) 0) ≡ 0
   conditions-apart k g l =
       let here = (grouped-stored k).0.words g l in
       let v = valid-of n (row_in ws) s.row in

@@ -6,7 +6,7 @@ use Rattle.meter.proofs.Payments.{passed}
 use Rattle.model.specs.Slots.{entries_in}
 use Rattle.model.proofs.Slots.{entries-length}
 use Rattle.retain_compare.proofs.Holding.{held-laid, held-row}
-use Rattle.retain_compare.proofs.Sweep.{sweep-start, sweep-turn, sweep-unpaid, sweep-paid, sweep-marks}
+use Rattle.retain_compare.proofs.Sweep.{sweep-turn, sweep-unpaid, sweep-paid, sweep-marks}
 use Rattle.retain_compare.proofs.second_pass.Goals.{At-loop-i, After-sweep_row}
 use Rattle.retain_compare.proofs.second_pass.Goals as goal
 
@@ -15,9 +15,6 @@ count c = entries-length c.args.rows c.args.slots.now
 
 within : (c : After-sweep_row) → c.loop-i.i < length (entries_in c.args.rows c.args.slots.now)
 within c = omega (arith, count (goal.at.After-sweep_row c).At-loop-i, c.loop-i-test.true)
-
-pub loop-i-init : goal.loop-i-init
-loop-i-init c = sweep-start _ _ _ _ _
 
 pub sweep_row-requires-clause-fact_1 : goal.sweep_row-requires-clause-fact_1
 sweep_row-requires-clause-fact_1 c = held-laid c.args.rows c.loop-i.i c.args.slots.now c.requires.fact_1 c.loop-i-test.true

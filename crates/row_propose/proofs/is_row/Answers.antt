@@ -14,11 +14,12 @@ returns-then-most_outputs-outputs c =
 pub returns-then-not-ascends : goal.returns-then-not-ascends
 returns-then-not-ascends c =
     let a = c.args in
-    row-codes a.atoms _ _ _ _ c.if-most_conditions-conditions.false c.if-most_outputs-outputs.false (sym (c.if-not-ascends.true) ∙ c.ascends.ensures)
+    row-codes a.atoms _ _ _ _ c.if-most_conditions-conditions.false c.if-most_outputs-outputs.false
+    (sym c.if-not-ascends.true ∙ c.ascends.ensures)
 
 pub returns : goal.returns
 returns c =
     let a = c.args in
     c.ascends-2.ensures
     ∙ row-codes a.atoms _ _ _ _ c.if-most_conditions-conditions.false c.if-most_outputs-outputs.false
-    (sym (c.if-not-ascends.false) ∙ c.ascends.ensures)
+    (sym c.if-not-ascends.false ∙ c.ascends.ensures)
