@@ -21,7 +21,8 @@ use model::{
 };
 use words::{WORD_BITS, locate};
 
-// How a row stands in its slot: all its groups, and those of its conditions. Both 0: scalar.
+// How a row stands in its slot: all its groups, and those of its conditions. Both 0: scalar. Two numbers and no Option: they are the
+// slot's own two words, which the clauses of `form_of` and `write_head` name.
 #[derive(Clone, Copy)]
 pub struct Form {
     pub total: u64,
@@ -118,6 +119,7 @@ fn enter(out: &mut [u64], at: usize, code: u64)
 }
 
 // 0 if a code of word `index` joins the group at `at`; 1 if it begins one: there is none at `at`, or one of another word.
+// A number and no bool: it counts groups, and `pack` multiplies by it without a branch.
 fn begins(out: &[u64], at: usize, index: u64) -> usize
     ensures { result ≡ begun out.now at index }
 {

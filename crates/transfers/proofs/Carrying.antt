@@ -56,8 +56,8 @@ module _ (n c : ℕ) {x : Progress} (p : TransferState) (slots postings : List �
 
   -- a tick apart
   pub carried-ticked : (m : Meter) (y : Progress)
-      → Carried n c y (record { header = p.header; purse = record { account = p.purse.account; meter = m }; added = p.added }) slots postings
-      (ticked v m y)
+      → Carried n c y (record { header = p.header; purse = record { account = p.purse.account; meter = m }; added = p.added })
+      slots postings (ticked v m y)
   unfolding ticked
   carried-ticked m y = record
       { stood = h.stood; account = h.account; meter = refl; added = h.added; progress = refl; over = h.over; few = h.few }
@@ -133,8 +133,8 @@ carried-start p slots postings s z = record {
 }
 
 -- ---- a row of the giver's slots can be received
-pub ready_at : (n i rows : ℕ) (p : TransferState) (slots postings given : List ℕ) (v : Transfer) (o : ℕ) → Carried n i whole p slots postings v
-    → RowsOver n rows given → o ≤ max_outputs → i < rows → Ready p slots postings (slot_at given i) o
+pub ready_at : (n i rows : ℕ) (p : TransferState) (slots postings given : List ℕ) (v : Transfer) (o : ℕ)
+    → Carried n i whole p slots postings v → RowsOver n rows given → o ≤ max_outputs → i < rows → Ready p slots postings (slot_at given i) o
 ready_at n i rows p slots postings given v o h g m l = record {
   atoms = n;
   count = i;

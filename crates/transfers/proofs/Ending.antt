@@ -21,7 +21,8 @@ use Rattle.model.specs.declared.TransferAnswer.{TransferAnswer}
 use Rattle.model.specs.declared.TransferResult.{TransferResult}
 use Rattle.model.specs.Records.{saturating_add, with_account, with_seeded, with_deliveries}
 use Rattle.model.specs.Slots.{entries_in}
-use Rattle.model.specs.Transfers.{Transfer, starting, seed_rows, mark_for, seeding, marked, seeded_tier, seeded_store, Delivery, deliver_rows}
+use Rattle.model.specs.Transfers.{Transfer, starting, seed_rows, mark_for, seeding, marked, seeded_tier, seeded_store, Delivery}
+use Rattle.model.specs.Transfers.{deliver_rows}
 use Rattle.model.specs.Transfers.{delivering, delivered_tier, delivered_store}
 use Rattle.model.specs.Transfers.{Progress, whole, declined, stopped}
 use Rattle.model.specs.Refusals.{Lent, refusal, accepts, ledger_in, lent_of}
@@ -119,14 +120,6 @@ unfolding transfer_answer
 answer-is (Ok a) = refl
 answer-is (Err Declined) = refl
 answer-is (Err Stopped) = refl
-
--- a seeding that is not whole
-pub mark-stays : {A : Type 0} (r : Result A Unpaid) {e : Unpaid} (store h : Header) → r ≡ Err e → h ≡ marked_by (progress_of r) store h
-mark-stays {A} r {e} store h q = rw q (go e)
-  where
-    go : (e : Unpaid) → h ≡ marked_by (progress_of {A = A} (Err e)) store h
-    go Declined = refl
-    go Stopped = refl
 
 module _ {A : Type 0} (p : TransferState) (end : Result A Unpaid) (h : Header) (m : Meter) {a : TransferAnswer} {s k : ℕ}
     (ea : a ≡ answer_of end) (ek : k ≡ made m p.purse.meter) where
@@ -256,7 +249,8 @@ module _ (t s : Header) (ts tp ss sp : List ℕ) (m : Meter) where
 
     is-end : transfer_refusal T S ≡ none → seed T S m ≡ end_of (seeded_tier (ledger_in S) v) (seeded_store (ledger_in S) v) v m
     unfolding seed
-    is-end e = rw (e, seed) (ap (λ (u : Transfer). end_of (seeded_tier (ledger_in S) u) (seeded_store (ledger_in S) u) u m) (sym the-seeding))
+    is-end e =
+        rw (e, seed) (ap (λ (u : Transfer). end_of (seeded_tier (ledger_in S) u) (seeded_store (ledger_in S) u) u m) (sym the-seeding))
 
     pub seed-done : transfer_refusal T S ≡ none → S ≡ lent_of (ledger_in S) → {end : TransferResult} → end ≡ seeded_by p r s m
         → transfer_end end ws ps ss sp ≡ (seed T S m).seen
@@ -321,7 +315,8 @@ module _ (t s : Header) (ts tp ss sp : List ℕ) (m : Meter) where
 
     is-over : transfer_refusal T S ≡ none → deliver T S m ≡ end_of (delivered_tier (ledger_in T) over) (delivered_store over) w m
     unfolding deliver
-    is-over e = rw (e, deliver) (ap (λ (d : Delivery). end_of (delivered_tier (ledger_in T) d) (delivered_store d) d.1 m) (sym the-delivery))
+    is-over e =
+        rw (e, deliver) (ap (λ (d : Delivery). end_of (delivered_tier (ledger_in T) d) (delivered_store d) d.1 m) (sym the-delivery))
 
     pub deliver-done : transfer_refusal T S ≡ none → {end : TransferResult} → end ≡ delivered_by p r t m
         → transfer_end end xs tp ws ps ≡ (deliver T S m).seen

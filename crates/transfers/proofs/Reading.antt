@@ -41,9 +41,11 @@ end-unpaid h slots postings a source t outputs hits r p {e} d f =
     go : (e : Unpaid)
         → retain_end (Err e) h slots postings p ≡ received_end (lent h slots postings) source t outputs hits (unpaid_end e p)
     go Declined =
-        ap (λ (x : Lent). record { outcome = Declines; ledger = x; account = p.account; meter = p.meter }) (accepted-lent h slots postings a)
+        ap (λ (x : Lent). record { outcome = Declines; ledger = x; account = p.account; meter = p.meter })
+        (accepted-lent h slots postings a)
     go Stopped =
-        ap (λ (x : Lent). record { outcome = Stops; ledger = x; account = p.account; meter = p.meter }) (accepted-lent h slots postings a)
+        ap (λ (x : Lent). record { outcome = Stops; ledger = x; account = p.account; meter = p.meter })
+        (accepted-lent h slots postings a)
 
 -- ---- the row of a slot as a proposal
 module _ (n : ℕ) (row : List ℕ) (s : Stored n row) (p : List ℕ) (q : p ≡ proposal (row_in row)) where

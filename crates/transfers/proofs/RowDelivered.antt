@@ -7,7 +7,6 @@ use native.Mathlib.Omega.{arith}
 use lib.Dec.{eqb, ltb}
 use lib.ListN.{length, get_or, take, drop, length-append}
 use lib.Seq.{get_or-take, get_or-drop}
-use borrow.Author.Tests.{eq-eqb, ne_eqb, lt-ltb, le-ltb}
 use Rattle.std.specs.Prelude.{Result, Ok, Err}
 use Rattle.lists.specs.Lists.{adjust}
 use Rattle.meter.specs.declared.Meter.{Meter}
@@ -23,7 +22,8 @@ use Rattle.model.specs.Records.{Entry, Ledger, saturating_add, literals, with_hi
 use Rattle.model.specs.Records.{conditions_at, hits_at, unshared_at, delivered_at, slot_words}
 use Rattle.model.specs.Slots.{row_in, entry_in}
 use Rattle.model.specs.Retention.{Retention}
-use Rattle.model.specs.Transfers.{Progress, whole, declined, stopped, Transfer, Delivery, ticked, receive, change_at, passes_over, deliver_rows}
+use Rattle.model.specs.Transfers.{Progress, whole, declined, stopped, Transfer, Delivery, ticked, receive, change_at}
+use Rattle.model.specs.Transfers.{passes_over, deliver_rows}
 use Rattle.slots.specs.Layout.{Stored, Laid, slot_at}
 use Rattle.slots.proofs.Rows.{slot-code}
 use Rattle.contents.specs.Lent.{lent}
@@ -55,7 +55,8 @@ module _ (row : List ℕ) where
           ap (λ (k : ℕ). (eqb (get_or row delivered_at 0) 1 && eqb (get_or row unshared_at 0) 0)
           || (ltb limits.share_conditions k && ltb (get_or row hits_at 0) limits.share_hits)) l.condition_count
 
-      pub passes-shared : (eqb (get_or row delivered_at 0) 1 && eqb (get_or row unshared_at 0) 0) ≡ true → true ≡ passes_over limits (entry_in row)
+      pub passes-shared : (eqb (get_or row delivered_at 0) 1 && eqb (get_or row unshared_at 0) 0) ≡ true
+          → true ≡ passes_over limits (entry_in row)
       passes-shared e = sym (passes-is ∙ ap (λ (b : Bool). b || narrow) e)
 
       pub passes-narrow : (eqb (get_or row delivered_at 0) 1 && eqb (get_or row unshared_at 0) 0) ≡ false
@@ -82,7 +83,8 @@ keeps-shared i ws e done rest q t postings h s =
 module _ {n c : ℕ} {x : Progress} {y : TransferState} {ws ps : List ℕ} (i : ℕ) (ts : List ℕ) (e : Entry) {u : Transfer} {d : Delivery} where
   -- the entry stays as it is, or is delivered
   pub stays-so : d ≡ (e ∷ [], u) → Carried n c x y ws ps u → Handed n c x y ws ps i ts ts e d
-  stays-so q h = subst (Handed n c x y ws ps i ts ts e) (sym q) (record { carried = h; one = refl; keeps = λ done rest l t postings k s. s })
+  stays-so q h =
+      subst (Handed n c x y ws ps i ts ts e) (sym q) (record { carried = h; one = refl; keeps = λ done rest l t postings k s. s })
 
   pub shared-out-so : {xs : List ℕ} → d ≡ (with_delivered 0 e ∷ [], u) → xs ≡ shared_out i ts → Carried n c x y ws ps u
       → Handed n c x y ws ps i ts xs e d
@@ -93,7 +95,8 @@ module _ {n c : ℕ} {x : Progress} {y : TransferState} {ws ps : List ℕ} (i : 
 
 -- ---- a row handed over
 word-five : (ws : List ℕ) (i : ℕ) → get_or ws (slot_words * i + unshared_at) 0 ≡ get_or (slot_at ws i) unshared_at 0
-word-five ws i = sym (get_or-take slot_words (drop (slot_words * i) ws) unshared_at 0 (omega arith) ∙ get_or-drop (slot_words * i) ws unshared_at 0)
+word-five ws i =
+    sym (get_or-take slot_words (drop (slot_words * i) ws) unshared_at 0 (omega arith) ∙ get_or-drop (slot_words * i) ws unshared_at 0)
 
 module _ (n c : ℕ) (p : TransferState) (slots postings : List ℕ) (v : Transfer) (h : Carried n c whole p slots postings v) (ts : List ℕ)
     (i : ℕ) (limits : LearningLimits)
@@ -192,14 +195,16 @@ module _ (p : TransferState) (m : Meter) where
       ticks : tick_of v.meter ≡ tick.Ticked m
       ticks = ap tick_of (sym h.meter) ∙ sym e
 
-      pub row-passed : passes_over limits (entry_in (take ((slot_words * i + slot_words) - slot_words * i) (drop (slot_words * i) ts))) ≡ true
-          → Handed n (suc c) whole at slots postings i ts ts x (deliver_rows limits (x ∷ []) v)
+      abbrev given : List ℕ
+      given = take ((slot_words * i + slot_words) - slot_words * i) (drop (slot_words * i) ts)
+
+      pub row-passed : passes_over limits (entry_in given) ≡ true → Handed n (suc c) whole at slots postings i ts ts x (deliver_rows limits (x ∷ []) v)
       row-passed b =
           stays-so i ts x (deliver-past limits x v m ticks
           (ap (λ (r : List ℕ). passes_over limits (entry_in r)) (sym (slot-code ts i)) ∙ b))
           (carried-up n c at slots postings _ (carried-ticked n c p slots postings v h m whole) (suc c) (omega arith))
 
-      pub row-handed : passes_over limits (entry_in (take ((slot_words * i + slot_words) - slot_words * i) (drop (slot_words * i) ts))) ≡ false
+      pub row-handed : passes_over limits (entry_in given) ≡ false
           → {z : Progress} {y : TransferState} {ws ps xs : List ℕ}
           → ((n c : ℕ) (u : Transfer) → Carried n c whole at slots postings u → Handed n (suc c) z y ws ps i ts xs x (handed limits x u))
           → Handed n (suc c) z y ws ps i ts xs x (deliver_rows limits (x ∷ []) v)

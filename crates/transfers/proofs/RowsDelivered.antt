@@ -10,7 +10,7 @@ use Rattle.meter.specs.declared.Unpaid.{Unpaid}
 use Rattle.meter.specs.declared.Unpaid.TheVariants.{Declined, Stopped}
 use Rattle.model.specs.declared.LearningLimits.{LearningLimits}
 use Rattle.model.specs.declared.Header.{Header}
-use Rattle.model.specs.Records.{Entry, Ledger, slot_words, max_rows}
+use Rattle.model.specs.Records.{Entry, Ledger, slot_words}
 use Rattle.model.specs.Slots.{entry_in, entries_in}
 use Rattle.model.specs.Transfers.{Progress, whole, Transfer, Delivery, deliver_rows}
 use Rattle.slots.specs.Layout.{slot_at}

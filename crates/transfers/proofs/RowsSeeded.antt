@@ -18,8 +18,8 @@ use Rattle.transfers.proofs.Seeds.{onward_by, seed-end, seed-split}
 use Rattle.transfers.proofs.Carrying.{carried-up, ready_at}
 
 -- a row of the giver's slots, as the code lends it
-pub row-ready : (n i rows : ℕ) (p : TransferState) (slots postings given : List ℕ) (v : Transfer) (o : ℕ) → Carried n i whole p slots postings v
-    → RowsOver n rows given → o ≤ max_outputs → i < rows
+pub row-ready : (n i rows : ℕ) (p : TransferState) (slots postings given : List ℕ) (v : Transfer) (o : ℕ)
+    → Carried n i whole p slots postings v → RowsOver n rows given → o ≤ max_outputs → i < rows
     → Ready p slots postings (take ((slot_words * i + slot_words) - slot_words * i) (drop (slot_words * i) given)) o
 row-ready n i rows p slots postings given v o h g m l =
     subst (λ (row : List ℕ). Ready p slots postings row o) (sym (slot-code given i)) (ready_at n i rows p slots postings given v o h g m l)
@@ -75,5 +75,6 @@ module _ (limits : LearningLimits) (mark : ℕ) (es : List Entry) (v₀ : Transf
       seeding-stop {A} y u q h rows l =
           let f = seed_rows limits mark (drop (i + 1) es) in
           let w = seed_rows limits mark (e ∷ []) s.state in
-          rw q (subst (Carried n rows (progress_of {A = A} (Err u)) r ws ps) (sym (next e at (progress_of {A = A} (Err u)) r ws ps h ∙ ended u w f))
+          let x : Progress = progress_of {A = A} (Err u) in
+          rw q (subst (Carried n rows x r ws ps) (sym (next e at x r ws ps h ∙ ended u w f))
           (carried-up n (suc i) r ws ps w h rows (omega arith)))

@@ -95,10 +95,7 @@ pub struct ReplyWords {
 pub fn flag_word(b: bool) -> u64
     ensures { result ≡ flag_word b }
 {
-    if b {
-        return 1;
-    }
-    0
+    u64::from(b)
 }
 
 // The limits in their words.

@@ -3,7 +3,6 @@ use mathlib.Core.Path.{◌≡◌, sym, ◌∙◌}
 use mathlib.Core.Bool.{true}
 use mathlib.Core.List.{[]}
 use mathlib.Core.Option.{none}
-use borrow.Author.Tests.{not-false}
 use Rattle.model.specs.declared.Refusal.TheVariants.{Row, Source}
 use Rattle.model.specs.Refusals.{refusal, accepts}
 use Rattle.model.specs.Operations.{fits_offer, offer_tests}
@@ -67,7 +66,8 @@ returns-then-source-gt1 c =
 pub returns-then-not-can_capture : goal.returns-then-not-can_capture
 returns-then-not-can_capture c =
     let a = c.args in
-    offer-shut a.header a.slots.now a.postings.now a.conditions.now a.outputs.now a.source a.work (passes (goal.at.returns-then-not-can_capture c).Else-source-gt1)
+    offer-shut a.header a.slots.now a.postings.now a.conditions.now a.outputs.now a.source a.work
+    (passes (goal.at.returns-then-not-can_capture c).Else-source-gt1)
     _ _ c.unoffered-then-not-can_capture.ensures c.can_capture.ensures (c.if-not-can_capture.true)
 
 pub capture-requires : goal.capture-requires

@@ -1,5 +1,4 @@
 -- `hand_over` meets its contract, by the answer of `receive`. Assumes nothing.
-use native.Mathlib.Omega.{arith}
 use mathlib.Core.Path.{sym, subst, ◌∙◌}
 use Rattle.meter.proofs.Payments.{passed}
 use Rattle.slots.specs.Layout.{Stored}

@@ -1,7 +1,6 @@
 -- `receive` meets its contract: one read, one a literal, then `retain`. Assumes nothing.
 use native.Mathlib.Omega.{arith}
 use mathlib.Core.Path.{◌≡◌, refl, ◌∙◌}
-use mathlib.Core.List.{List}
 use Prim.Native.Nat.{ℕ, suc, ◌<◌}
 use lib.ListN.{length}
 use Rattle.meter.specs.Meter.{pay}

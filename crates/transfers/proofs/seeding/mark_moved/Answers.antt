@@ -5,13 +5,9 @@ use Rattle.meter.specs.declared.Unpaid.{Unpaid}
 use Rattle.model.specs.Records.{with_mark}
 use Rattle.transfers.specs.Transfer.{progress_of}
 use Rattle.transfers.specs.Ends.{marked_by}
-use Rattle.transfers.proofs.Ending.{mark-stays}
 use Rattle.transfers.proofs.seeding.mark_moved.Goals as goal
 
 pub returns-in-Ok : goal.returns-in-Ok
 unfolding with_mark
 returns-in-Ok c =
     ap (λ (r : Result (Unit {0}) Unpaid). marked_by (progress_of r) c.args.store c.args.header) (sym c.in-Ok.is)
-
-pub returns-in-Err : goal.returns-in-Err
-returns-in-Err c = mark-stays c.args.end c.args.store c.args.header c.in-Err.is

@@ -17,9 +17,6 @@ module _ (t : Start) where
 pub bounds-row-6 : goal.bounds-row-6
 bounds-row-6 c = omega (arith, long (goal.at.bounds-row-6 c).Start)
 
-pub bounds-row-4 : goal.bounds-row-4
-bounds-row-4 c = omega (arith, long (goal.at.bounds-row-4 c).Start)
-
 pub returns-in_err-tick : goal.returns-in_err-tick
 returns-in_err-tick c n m v h =
     row-halted n m c.args.transfer.now _ _ v h c.args.row.now c.args.limits c.args.mark c.if-row-mark.true _ _

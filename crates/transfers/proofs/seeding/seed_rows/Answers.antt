@@ -31,18 +31,6 @@ loop-i-init c =
     seeding-start (h t).limits c.args.mark (es t) (v₀ t) (h t).limits.atoms _ _ _
     (carried-start c.args.transfer.now _ _ c.requires.fact_1 c.requires.fact_3)
 
-pub overflow_mul-a : goal.overflow_mul-a
-overflow_mul-a c = let g = c.requires.fact_2 in omega (arith, g.few)
-
-pub overflow_add-e : goal.overflow_add-e
-overflow_add-e c = let g = c.requires.fact_2 in omega (arith, g.few)
-
-pub offset_bounds-given-a : goal.offset_bounds-given-a
-offset_bounds-given-a c = let g = c.requires.fact_2 in omega (arith, g.few)
-
-pub slice_bounds-seed_row-end : goal.slice_bounds-seed_row-end
-slice_bounds-seed_row-end c = let g = c.requires.fact_2 in omega (arith, g.long)
-
 pub seed_row-requires : goal.seed_row-requires
 seed_row-requires c =
     let s = c.loop-i.invariant in
