@@ -8,6 +8,7 @@ use Rattle.meter.specs.declared.Meter.{Meter}
 use Rattle.meter.specs.Meter.{made}
 use Rattle.model.specs.declared.Deduction.{Deduction}
 use Rattle.model.specs.declared.Deduction.TheVariants.{Nothing}
+use Rattle.model.specs.declared.OutputCursor.{OutputCursor}
 use Rattle.model.specs.declared.DeduceAnswer.TheVariants as deduce-answer
 use Rattle.model.specs.declared.MakeResult.{MakeResult}
 use Rattle.model.specs.declared.HitResult.{HitResult}
@@ -40,6 +41,10 @@ hit_end r slots postings = record { answer = replied hit_reply r.answer; ledger 
 -- refused: nothing deduced, no tick made
 abbrev pub refused_by : Refusal → Meter → DeduceResult
 refused_by r m = record { answer = Err r; deduction = Nothing; meter = m; ticks = 0 }
+
+-- refused: the cursor stays, no tick made
+abbrev pub unmoved_by : Refusal → OutputCursor → Meter → NextResult
+unmoved_by r k m = record { answer = Err r; cursor = k; meter = m; ticks = 0 }
 
 -- done or stopped, as the row's own deduction was, with the ticks made since the meter stood at m
 abbrev pub deduced_by : Meter → Walked Deduction → DeduceResult

@@ -7,7 +7,7 @@ ghost use Rattle.model.specs.Operations.{make, hit, deduce, next_answer, next_ou
 ghost use Rattle.contents.specs.Lent.{lent};
 ghost use Rattle.row_deduce.specs.Walks.{walked};
 ghost use Rattle.row_deduce.specs.Publication.{next_of};
-ghost use Rattle.operations.specs.Ends.{unpriced, under, unpriced_decision, make_end, hit_end, refused_by, deduced_by, deduce_end};
+ghost use Rattle.operations.specs.Ends.{unpriced, under, unpriced_decision, make_end, hit_end, refused_by, unmoved_by, deduced_by, deduce_end};
 ghost use Rattle.operations.specs.Ends.{output_end, begin_end, decide_end};
 
 use contents::{accept, limits_ok};
@@ -205,6 +205,18 @@ fn next_answer(found: Result<Option<Literal>, Stopped>) -> NextAnswer
     }
 }
 
+// A next output that was refused: the cursor stays, and no tick is made.
+fn next_refused(refusal: Refusal, cursor: OutputCursor, work: Meter) -> NextResult
+    ensures { result ≡ unmoved_by refusal cursor work }
+{
+    NextResult {
+        answer: Err(refusal),
+        cursor,
+        meter: work,
+        ticks: 0,
+    }
+}
+
 // The next output of the row at a position, with the cursor past it: refused as `deduce`, and by Cursor if the cursor is none of that
 // row's; Stopped, End, or the output.
 pub fn next_output(
@@ -222,38 +234,18 @@ pub fn next_output(
         work }
 {
     if let Err(refusal) = accept(header, slots, postings, true) {
-        return NextResult {
-            answer: Err(refusal),
-            cursor,
-            meter: work,
-            ticks: 0,
-        };
+        return next_refused(refusal, cursor, work);
     }
     if header.rows <= position {
-        return NextResult {
-            answer: Err(Refusal::Position),
-            cursor,
-            meter: work,
-            ticks: 0,
-        };
+        return next_refused(Refusal::Position, cursor, work);
     }
     if !is_region(header.limits.atoms, held, cut) {
-        return NextResult {
-            answer: Err(Refusal::Region),
-            cursor,
-            meter: work,
-            ticks: 0,
-        };
+        return next_refused(Refusal::Region, cursor, work);
     }
     let a = SLOT_WORDS * (position as usize);
     let e = a + SLOT_WORDS;
     if !cursor_ok(&slots[a..e], cursor) {
-        return NextResult {
-            answer: Err(Refusal::Cursor),
-            cursor,
-            meter: work,
-            ticks: 0,
-        };
+        return next_refused(Refusal::Cursor, cursor, work);
     }
     let mut meter = work;
     let mut past = cursor;

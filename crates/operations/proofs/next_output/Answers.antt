@@ -24,7 +24,8 @@ pub returns-in-Err : goal.returns-in-Err
 returns-in-Err c =
     let a = c.args in
     let s = lent a.header a.slots.now a.postings.now in
-    next-refused a.header a.slots.now a.postings.now a.position a.held.now a.cut.now a.work a.cursor _
+    ap output_end c.next_refused.ensures
+    ∙ next-refused a.header a.slots.now a.postings.now a.position a.held.now a.cut.now a.work a.cursor _
     (accept-refused s true
     ((position_ok s a.position, 5) ∷ (region_ok s a.held.now a.cut.now, 6)
     ∷ (cursor_ok (row_at a.position (ledger_in s)) a.cursor, 8) ∷ []) _ c.in-Err.ensures)
@@ -33,7 +34,8 @@ pub returns-then-header-position : goal.returns-then-header-position
 returns-then-header-position c =
     let a = c.args in
     let s = lent a.header a.slots.now a.postings.now in
-    next-refused a.header a.slots.now a.postings.now a.position a.held.now a.cut.now a.work a.cursor refuse.Position
+    ap output_end c.next_refused-then-header-position.ensures
+    ∙ next-refused a.header a.slots.now a.postings.now a.position a.held.now a.cut.now a.work a.cursor refuse.Position
     (accept-passed s true
     ((position_ok s a.position, 5) ∷ (region_ok s a.held.now a.cut.now, 6)
     ∷ (cursor_ok (row_at a.position (ledger_in s)) a.cursor, 8) ∷ []) c.in_default.ensures
@@ -44,7 +46,8 @@ pub returns-then-not-is_region : goal.returns-then-not-is_region
 returns-then-not-is_region c =
     let a = c.args in
     let s = lent a.header a.slots.now a.postings.now in
-    next-refused a.header a.slots.now a.postings.now a.position a.held.now a.cut.now a.work a.cursor refuse.Region
+    ap output_end c.next_refused-then-not-is_region.ensures
+    ∙ next-refused a.header a.slots.now a.postings.now a.position a.held.now a.cut.now a.work a.cursor refuse.Region
     (accept-passed s true
     ((position_ok s a.position, 5) ∷ (region_ok s a.held.now a.cut.now, 6)
     ∷ (cursor_ok (row_at a.position (ledger_in s)) a.cursor, 8) ∷ []) c.in_default.ensures
@@ -102,7 +105,8 @@ pub returns-then-not-cursor_ok : goal.returns-then-not-cursor_ok
 returns-then-not-cursor_ok c =
     let a = c.args in
     let s = lent a.header a.slots.now a.postings.now in
-    next-refused a.header a.slots.now a.postings.now a.position a.held.now a.cut.now a.work a.cursor refuse.Cursor
+    ap output_end c.next_refused-then-not-cursor_ok.ensures
+    ∙ next-refused a.header a.slots.now a.postings.now a.position a.held.now a.cut.now a.work a.cursor refuse.Cursor
     (accept-passed s true
     ((position_ok s a.position, 5) ∷ (region_ok s a.held.now a.cut.now, 6)
     ∷ (cursor_ok (row_at a.position (ledger_in s)) a.cursor, 8) ∷ []) c.in_default.ensures
