@@ -1,4 +1,4 @@
-// Whole slices: zeroed, tested for zeros, copied, compared.
+// Whole slices: zeroed, tested for zeros, copied.
 ghost use Rattle.std.specs.Prelude.{◌≡◌, ◌≤◌, length};
 ghost use Rattle.lists.specs.Lists.{same, zeroed, put};
 
@@ -15,13 +15,6 @@ pub fn all_zero(s: &[u64]) -> bool
     ensures { result ≡ same s.now (zeroed s.now) }
 {
     s.iter().fold(0, |bits, x| bits | *x) == 0
-}
-
-// Whether the two slices hold the same words; false if their lengths differ.
-pub fn equal(a: &[u64], b: &[u64]) -> bool
-    ensures { result ≡ same a.now b.now }
-{
-    a == b
 }
 
 // The first words of dst become those of src.
