@@ -32,6 +32,9 @@ const NOWHERE: usize = PACKED + SIDE * MAX_GROUPS;
 // The place of no row, past all of these: a table of places holds plain numbers, two bytes for each of MAX_ROWS rows.
 const NO_ROW: u16 = 65535;
 
+// A place for each row.
+type Places = [u16; MAX_ROWS as usize];
+
 // The slots of more rows than these do not stay in a small cache from one walk to the next.
 const MANY_ROWS: usize = 1024;
 
@@ -207,10 +210,9 @@ fn first_place(slot: &[u64], many: bool) -> u16
 }
 
 // The first places of the rows, and how many postings they have at most.
-fn mark_rows(slots: &[u64], rows: usize, places: &mut [u16]) -> usize
+fn mark_rows(slots: &[u64], rows: usize, places: &mut Places) -> usize
     requires fact_1 { Rows rows slots.now }
-    requires fact_2 { length places.old ≡ max_rows }
-    requires fact_3 { Marked 0 slots.now places.old }
+    requires fact_2 { Marked 0 slots.now places.old }
     ensures lower_bound { (length (postings_of (rows_in rows slots.now)) ≤ result) × (result ≤ posting_words * rows) }
     ensures marked { Marked rows slots.now places.new }
 {
@@ -266,12 +268,11 @@ fn group_steps(slot: &[u64], place: usize, atom: u64) -> usize
 
 // Whether the posting of a row laid out code by code is seen at the row's place, which moves on, or at the next one: one output further
 // on, since both signs of an output are two codes and one posting.
-fn sees_code(slots: &[u64], rows: usize, places: &mut [u16], posting: u64, place: usize) -> bool
+fn sees_code(slots: &[u64], rows: usize, places: &mut Places, posting: u64, place: usize) -> bool
     requires fact_1 { Rows rows slots.now }
-    requires fact_2 { length places.old ≡ max_rows }
-    requires fact_3 { Marked rows slots.now places.old }
-    requires fact_4 { place ≡ get_or places.old (posting % max_rows) 0 }
-    requires fact_5 { place < packed_from }
+    requires fact_2 { Marked rows slots.now places.old }
+    requires fact_3 { place ≡ get_or places.old (posting % max_rows) 0 }
+    requires fact_4 { place < packed_from }
     ensures bound { result ≡ true → max_rows ≤ posting → 1 ≤ times posting (postings_of (rows_in rows slots.now)) }
     ensures marked { Marked rows slots.now places.new }
 {
@@ -289,12 +290,11 @@ fn sees_code(slots: &[u64], rows: usize, places: &mut [u16], posting: u64, place
 }
 
 // The same of a packed row: at the next place each side has moved on by one group where it is behind.
-fn sees_group(slots: &[u64], rows: usize, places: &mut [u16], posting: u64, place: usize) -> bool
+fn sees_group(slots: &[u64], rows: usize, places: &mut Places, posting: u64, place: usize) -> bool
     requires fact_1 { Rows rows slots.now }
-    requires fact_2 { length places.old ≡ max_rows }
-    requires fact_3 { Marked rows slots.now places.old }
-    requires fact_4 { place ≡ get_or places.old (posting % max_rows) 0 }
-    requires fact_5 { (packed_from ≤ place) × (place < nowhere) }
+    requires fact_2 { Marked rows slots.now places.old }
+    requires fact_3 { place ≡ get_or places.old (posting % max_rows) 0 }
+    requires fact_4 { (packed_from ≤ place) × (place < nowhere) }
     ensures bound { result ≡ true → 1 ≤ times posting (postings_of (rows_in rows slots.now)) }
     ensures marked { Marked rows slots.now places.new }
 {
@@ -313,10 +313,9 @@ fn sees_group(slots: &[u64], rows: usize, places: &mut [u16], posting: u64, plac
 
 // Whether the posting is seen where it should stand in its row if all postings so far were those of the rows. A yes is sure but for atom
 // 0, a no says nothing.
-fn sees(slots: &[u64], rows: usize, places: &mut [u16], posting: u64) -> bool
+fn sees(slots: &[u64], rows: usize, places: &mut Places, posting: u64) -> bool
     requires fact_1 { Rows rows slots.now }
-    requires fact_2 { length places.old ≡ max_rows }
-    requires fact_3 { Marked rows slots.now places.old }
+    requires fact_2 { Marked rows slots.now places.old }
     ensures bound { result ≡ true → max_rows ≤ posting → 1 ≤ times posting (postings_of (rows_in rows slots.now)) }
     ensures marked { Marked rows slots.now places.new }
 {
@@ -338,11 +337,10 @@ struct Walk {
 }
 
 // Walks on while each word is above the one before it and seen. This is where the time goes, and nothing else is done in this loop.
-fn walk_on(words: &[u64], slots: &[u64], rows: usize, places: &mut [u16], from: Walk) -> Walk
+fn walk_on(words: &[u64], slots: &[u64], rows: usize, places: &mut Places, from: Walk) -> Walk
     requires fact_1 { Rows rows slots.now }
-    requires fact_2 { length places.old ≡ max_rows }
-    requires fact_3 { Marked rows slots.now places.old }
-    requires fact_4 { Walked words.now (postings_of (rows_in rows slots.now)) from.at from.last.word from.last.times }
+    requires fact_2 { Marked rows slots.now places.old }
+    requires fact_3 { Walked words.now (postings_of (rows_in rows slots.now)) from.at from.last.word from.last.times }
     ensures walked { Walked words.now (postings_of (rows_in rows slots.now)) result.at result.last.word result.last.times }
     ensures at_le_at { from.at ≤ result.at }
     ensures marked { Marked rows slots.now places.new }
@@ -369,11 +367,10 @@ fn walk_on(words: &[u64], slots: &[u64], rows: usize, places: &mut [u16], from: 
 
 // Whether the words, no fewer than the first rows have postings, are those postings ascending: they ascend, and none stands more often
 // than its row is posted under its atom. What is not seen is looked for along its row.
-fn are_ascending(words: &[u64], slots: &[u64], rows: usize, places: &mut [u16]) -> bool
+fn are_ascending(words: &[u64], slots: &[u64], rows: usize, places: &mut Places) -> bool
     requires fact_1 { Rows rows slots.now }
     requires fact_2 { length (postings_of (rows_in rows slots.now)) ≤ length words.now }
-    requires fact_3 { length places.old ≡ max_rows }
-    requires fact_4 { Marked rows slots.now places.old }
+    requires fact_3 { Marked rows slots.now places.old }
     ensures { result ≡ same words.now (sort_of (postings_of (rows_in rows slots.now))) }
 {
     let start = Walk {
@@ -402,11 +399,10 @@ fn are_ascending(words: &[u64], slots: &[u64], rows: usize, places: &mut [u16]) 
 
 // Whether the first words are the postings of the first rows, ascending, and the others 0. There are no more postings than words, and if
 // fewer, the last of these words is no 0.
-fn are_filed(words: &[u64], slots: &[u64], rows: usize, places: &mut [u16], n: usize) -> bool
+fn are_filed(words: &[u64], slots: &[u64], rows: usize, places: &mut Places, n: usize) -> bool
     requires fact_1 { Rows rows slots.now }
     requires fact_2 { Ended (length (postings_of (rows_in rows slots.now))) words.now n }
-    requires fact_3 { length places.old ≡ max_rows }
-    requires fact_4 { Marked rows slots.now places.old }
+    requires fact_3 { Marked rows slots.now places.old }
     ensures { result
         ≡ same words.now (pad (length words.now) (postings_due false (rows_in rows slots.now))) }
 {

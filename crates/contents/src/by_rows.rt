@@ -24,6 +24,9 @@ use words::{MAX_WORD, MAX_WORDS, WORD_BITS};
 // So many words are tested for 0 at a time.
 const BLOCK: usize = 64;
 
+// A place for each remainder of an atom by MAX_ROWS.
+type Places = [u32; MAX_ROWS as usize];
+
 // A place from which on every word is 0, whole blocks before the end.
 fn zeros_from(words: &[u64]) -> usize
     ensures { (result ≤ length words.now) × (all_zero (drop result words.now) ≡ true) }
@@ -52,9 +55,8 @@ pub fn used(words: &[u64]) -> usize
 }
 
 // Whether the words ascend. The place of an atom is then that of its first posting.
-fn note_places(words: &[u64], places: &mut [u32]) -> bool
-    requires fact_1 { length words.now ≤ 4294967295 }
-    requires fact_2 { length places.old ≡ max_rows }
+fn note_places(words: &[u64], places: &mut Places) -> bool
+    requires { length words.now ≤ 4294967295 }
     ensures { result ≡ true → Sorted words.now }
 {
     let mut least = MAX_WORD;
@@ -71,11 +73,10 @@ fn note_places(words: &[u64], places: &mut [u32]) -> bool
 }
 
 // Whether the posting of an atom at a position stands at the atom's place, which then moves past it.
-fn finds(words: &[u64], places: &mut [u32], atom: u64, position: u64) -> bool
+fn finds(words: &[u64], places: &mut Places, atom: u64, position: u64) -> bool
     requires fact_1 { length words.now ≤ 4294967295 }
-    requires fact_2 { length places.old ≡ max_rows }
-    requires fact_3 { position < max_rows }
-    requires fact_4 { atom < atoms_wide code_bits }
+    requires fact_2 { position < max_rows }
+    requires fact_3 { atom < atoms_wide code_bits }
     ensures { result ≡ true → Grown words.now places.old places.new position (λ a. is a atom) }
 {
     let at = (atom % MAX_ROWS) as usize;
@@ -93,15 +94,14 @@ fn finds(words: &[u64], places: &mut [u32], atom: u64, position: u64) -> bool
 // Finds the posting so, unless its atom was found last: both signs of an output have one posting. The number found, if what is due is.
 fn find_new(
     words: &[u64],
-    places: &mut [u32],
+    places: &mut Places,
     last: Option<u64>,
     atom: u64,
     position: u64,
 ) -> Option<usize>
     requires fact_1 { length words.now ≤ 4294967295 }
-    requires fact_2 { length places.old ≡ max_rows }
-    requires fact_3 { position < max_rows }
-    requires fact_4 { atom < atoms_wide code_bits }
+    requires fact_2 { position < max_rows }
+    requires fact_3 { atom < atoms_wide code_bits }
     ensures { IfSome result (λ n. (n ≡ new_count last atom)
         × Grown words.now places.old places.new position (new_atom last atom)) }
 {
@@ -115,11 +115,10 @@ fn find_new(
 }
 
 // The same for the atoms of codes.
-fn find_codes(words: &[u64], places: &mut [u32], codes: &[u64], position: u64) -> Option<usize>
+fn find_codes(words: &[u64], places: &mut Places, codes: &[u64], position: u64) -> Option<usize>
     requires fact_1 { length words.now ≤ 4294967295 }
-    requires fact_2 { length places.old ≡ max_rows }
-    requires fact_3 { position < max_rows }
-    requires fact_4 { Each (λ v. v < codes_wide code_bits) codes.now }
+    requires fact_2 { position < max_rows }
+    requires fact_3 { Each (λ v. v < codes_wide code_bits) codes.now }
     ensures { IfSome result (λ n. (n ≡ length (distinct (shifted 1 codes.now)))
         × Grown words.now places.old places.new position (λ a. one_if (has_atom a codes.now))) }
 {
@@ -135,11 +134,10 @@ fn find_codes(words: &[u64], places: &mut [u32], codes: &[u64], position: u64) -
 }
 
 // Whether the postings of the atoms of word x that have a bit stand at their places, which then move past them.
-fn finds_bits(words: &[u64], places: &mut [u32], x: u64, bits: u64, position: u64) -> bool
+fn finds_bits(words: &[u64], places: &mut Places, x: u64, bits: u64, position: u64) -> bool
     requires fact_1 { length words.now ≤ 4294967295 }
-    requires fact_2 { length places.old ≡ max_rows }
-    requires fact_3 { position < max_rows }
-    requires fact_4 { x < words_wide code_bits }
+    requires fact_2 { position < max_rows }
+    requires fact_3 { x < words_wide code_bits }
     ensures { result ≡ true
         → Grown words.now places.old places.new position (λ a. one_if (has_bit x bits a)) }
 {
@@ -158,15 +156,14 @@ fn finds_bits(words: &[u64], places: &mut [u32], x: u64, bits: u64, position: u6
 // The same for the atoms of a group.
 fn finds_group(
     words: &[u64],
-    places: &mut [u32],
+    places: &mut Places,
     x: u64,
     present: u64,
     absent: u64,
     position: u64,
 ) -> bool
     requires fact_1 { length words.now ≤ 4294967295 }
-    requires fact_2 { length places.old ≡ max_rows }
-    requires fact_3 { position < max_rows }
+    requires fact_2 { position < max_rows }
     ensures { result ≡ true
         → Grown words.now places.old places.new position (λ a. one_if (has_atom a (codes_of x present absent))) }
 {
@@ -177,10 +174,9 @@ fn finds_group(
 }
 
 // The same for the atoms of groups.
-fn finds_groups(words: &[u64], places: &mut [u32], groups: &[u64], position: u64) -> bool
+fn finds_groups(words: &[u64], places: &mut Places, groups: &[u64], position: u64) -> bool
     requires fact_1 { length words.now ≤ 4294967295 }
-    requires fact_2 { length places.old ≡ max_rows }
-    requires fact_3 { position < max_rows }
+    requires fact_2 { position < max_rows }
     ensures { result ≡ true
         → Grown words.now places.old places.new position
         (λ a. one_if (has_atom a (ungroup groups.now))) }
@@ -194,11 +190,10 @@ fn finds_groups(words: &[u64], places: &mut [u32], groups: &[u64], position: u64
 }
 
 // Finds the postings of the row in a slot, at its position: their number, if all stand at their places.
-fn find_row(words: &[u64], places: &mut [u32], slot: &[u64], position: u64) -> Option<usize>
+fn find_row(words: &[u64], places: &mut Places, slot: &[u64], position: u64) -> Option<usize>
     requires fact_1 { length words.now ≤ 4294967295 }
-    requires fact_2 { length places.old ≡ max_rows }
-    requires fact_3 { position < max_rows }
-    requires fact_4 { LaidOut slot.now }
+    requires fact_2 { position < max_rows }
+    requires fact_3 { LaidOut slot.now }
     ensures { IfSome result (λ n. (n ≡ length (posted_atoms (row_in slot.now)))
         × Grown words.now places.old places.new position (λ a. times a (posted_atoms (row_in slot.now)))) }
 {
@@ -222,10 +217,9 @@ fn find_row(words: &[u64], places: &mut [u32], slot: &[u64], position: u64) -> O
 }
 
 // The same for the first rows. Where their number is that of the words, no posting is due more often than it stands among the words.
-fn find_rows(words: &[u64], places: &mut [u32], slots: &[u64], rows: usize) -> Option<usize>
+fn find_rows(words: &[u64], places: &mut Places, slots: &[u64], rows: usize) -> Option<usize>
     requires fact_1 { length words.now ≤ 4294967295 }
-    requires fact_2 { length places.old ≡ max_rows }
-    requires fact_3 { Rows rows slots.now }
+    requires fact_2 { Rows rows slots.now }
     ensures { IfSome result (λ n. (n ≡ length (postings_of (rows_in rows slots.now)))
         × ((v : ℕ) → times v (postings_of (rows_in rows slots.now)) ≤ times v words.now)) }
 {

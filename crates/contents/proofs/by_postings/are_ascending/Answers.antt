@@ -52,12 +52,12 @@ returns-then-posted_less c =
     sym (same-no _ _ (walked_many _ _ _ _ _ _ c.loop-word.invariant.walked (inside s) above (met at_run)
     (subst (λ (x : ℕ). times x w < c.next-run.result.times) (sym (is_word s)) few)))
 
-pub walk_on-walk-requires-in-Some-clause-fact_4 : goal.walk_on-walk-requires-in-Some-clause-fact_4
-walk_on-walk-requires-in-Some-clause-fact_4 c =
-    let at_run = (goal.at.walk_on-walk-requires-in-Some-clause-fact_4 c).After-next-run in
-    let s = (goal.at.walk_on-walk-requires-in-Some-clause-fact_4 c).In-Some in
+pub walk_on-walk-requires-in-Some-clause-fact_3 : goal.walk_on-walk-requires-in-Some-clause-fact_3
+walk_on-walk-requires-in-Some-clause-fact_3 c =
+    let at_run = (goal.at.walk_on-walk-requires-in-Some-clause-fact_3 c).After-next-run in
+    let s = (goal.at.walk_on-walk-requires-in-Some-clause-fact_3 c).In-Some in
     let few = ltb-false _ c.next-run.result.times (sym c.if-posted_less.ensures) in
-    let w = due (goal.at.walk_on-walk-requires-in-Some-clause-fact_4 c).At-loop-word in
+    let w = due (goal.at.walk_on-walk-requires-in-Some-clause-fact_3 c).At-loop-word in
     let e = ap (λ r. r.word) c.next-run.ensures ∙ word_after c.loop-word.walk.last c.in-Some.word.now in
     subst (λ (x : ℕ). Walked c.args.words.now w (c.loop-word.walk.at + 1) x c.next-run.result.times) (is_word s ∙ sym e)
     (walked_more _ _ _ _ _ _ c.loop-word.invariant.walked (inside s) (omega (arith, is_word s, c.if-x-walk.false)) (met at_run)

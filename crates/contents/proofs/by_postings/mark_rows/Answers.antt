@@ -9,7 +9,7 @@ use Rattle.contents.proofs.by_postings.mark_rows.Goals as goal
 pub loop-p-init : goal.loop-p-init
 loop-p-init c =
     let t = total-start c.args.rows c.args.slots.now c.requires.fact_1 in
-    (omega arith, omega arith, c.requires.fact_3)
+    (omega arith, omega arith, c.requires.fact_2)
 
 pub literal_count-count-requires : goal.literal_count-count-requires
 literal_count-count-requires c =

@@ -16,7 +16,7 @@ lies : (c : After-slot_at-slot) → LaidOut c.slot_at-slot.result.now
 lies c =
     let a = c.args in
     let r = c.requires in
-    lent-row a.rows a.slots.now a.places.now r.fact_1 r.fact_3 a.posting a.place r.fact_4 (omega (arith, r.fact_5)) _
+    lent-row a.rows a.slots.now a.places.now r.fact_1 r.fact_2 a.posting a.place r.fact_3 (omega (arith, r.fact_4)) _
     c.slot_at-slot.ensures.slot
 
 once : (c : After-slot_at-slot) → let a = c.args in
@@ -25,7 +25,7 @@ once : (c : After-slot_at-slot) → let a = c.args in
 once c =
     let a = c.args in
     let r = c.requires in
-    posted-once a.rows a.slots.now a.places.now r.fact_1 r.fact_3 a.posting a.place r.fact_4 (omega (arith, r.fact_5)) _
+    posted-once a.rows a.slots.now a.places.now r.fact_1 r.fact_2 a.posting a.place r.fact_3 (omega (arith, r.fact_4)) _
     c.slot_at-slot.ensures.slot
 
 pub code_steps-steps-requires-clause-fact_1 : goal.code_steps-steps-requires-clause-fact_1

@@ -15,7 +15,7 @@ lies : (c : After-slot_at-slot) → LaidOut c.slot_at-slot.result.now
 lies c =
     let a = c.args in
     let r = c.requires in
-    lent-row a.rows a.slots.now a.places.now r.fact_1 r.fact_3 a.posting a.place r.fact_4 r.fact_5.1 _ c.slot_at-slot.ensures.slot
+    lent-row a.rows a.slots.now a.places.now r.fact_1 r.fact_2 a.posting a.place r.fact_3 r.fact_4.1 _ c.slot_at-slot.ensures.slot
 
 once : (c : After-slot_at-slot) → let a = c.args in
     1 ≤ times (a.posting / max_rows) (posted_atoms (row_in c.slot_at-slot.result.now))
@@ -23,7 +23,7 @@ once : (c : After-slot_at-slot) → let a = c.args in
 once c =
     let a = c.args in
     let r = c.requires in
-    posted-once a.rows a.slots.now a.places.now r.fact_1 r.fact_3 a.posting a.place r.fact_4 r.fact_5.1 _ c.slot_at-slot.ensures.slot
+    posted-once a.rows a.slots.now a.places.now r.fact_1 r.fact_2 a.posting a.place r.fact_3 r.fact_4.1 _ c.slot_at-slot.ensures.slot
 
 pub has_group-requires-clause-fact_1 : goal.has_group-requires-clause-fact_1
 has_group-requires-clause-fact_1 c = lies (goal.at.has_group-requires-clause-fact_1 c).After-slot_at-slot

@@ -23,12 +23,12 @@ loop-code-init c =
           (λ k. has-nothing k a.codes.now);
     }
 
-pub find_new-requires-clause-fact_4 : goal.find_new-requires-clause-fact_4
-find_new-requires-clause-fact_4 c =
+pub find_new-requires-clause-fact_3 : goal.find_new-requires-clause-fact_3
+find_new-requires-clause-fact_3 c =
     let a = c.args in
     let i = c.loop-code.code-index in
     let b : get_or a.codes.now i 0 < codes_wide code_bits =
-    each_at (λ v. v < codes_wide code_bits) a.codes.now i c.requires.fact_4 c.loop-code-test.true in
+    each_at (λ v. v < codes_wide code_bits) a.codes.now i c.requires.fact_3 c.loop-code-test.true in
     omega arith
 
 pub overflow_add-count : goal.overflow_add-count
