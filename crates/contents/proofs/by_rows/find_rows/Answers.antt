@@ -24,8 +24,8 @@ loop-p-init c = record {
   met = λ v h. absurd (omega arith);
 }
 
-pub find_row-requires-clause-fact_3 : goal.find_row-requires-clause-fact_3
-find_row-requires-clause-fact_3 c =
+pub find_row-requires : goal.find_row-requires
+find_row-requires c =
     holds-code c.args.rows c.args.slots.now c.requires.fact_2 c.loop-p.p c.slot_at.ensures.slot c.loop-p-test.true
 
 pub overflow_add-count : goal.overflow_add-count

@@ -3,7 +3,7 @@ use native.Mathlib.Omega.{arith}
 use lib.Bits.{and_le_r}
 use Rattle.contents.proofs.Places.{bits-step, bits-end}
 use borrow.Author.Rules.{rules}
-use Rattle.contents.proofs.by_rows.finds_bits.Goals as goal
+use Rattle.contents.proofs.by_rows.Search.finds_bits.Goals as goal
 
 pub loop-left-preserved : goal.loop-left-preserved
 loop-left-preserved c =
@@ -12,7 +12,7 @@ loop-left-preserved c =
     let t = c.loop-left-test.true in (
       search rules,
       omega (arith, and_le_r n (n - 1), c.loop-left.invariant.1),
-      bits-step a.words.now a.places.now c.loop-left.places a.position a.x a.bits n _ c.loop-left.invariant.1 (omega (arith, t))
+      bits-step a.self.words.now a.places.now c.loop-left.places a.self.position a.x a.bits n _ c.loop-left.invariant.1 (omega (arith, t))
           c.loop-left.invariant.2
           (c.finds.ensures (c.if-not-finds.false)),
     )
@@ -20,5 +20,5 @@ loop-left-preserved c =
 pub returns : goal.returns
 returns c =
     let a = c.args in
-    λ e. bits-end a.words.now a.places.now c.loop-left.places a.position a.x a.bits c.loop-left.left c.loop-left-test.false
+    λ e. bits-end a.self.words.now a.places.now c.loop-left.places a.self.position a.x a.bits c.loop-left.left c.loop-left-test.false
     c.loop-left.invariant.2

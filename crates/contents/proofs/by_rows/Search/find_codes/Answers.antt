@@ -5,8 +5,8 @@ use Rattle.words.specs.Literal.{code_bits, codes_wide}
 use Rattle.contents.specs.Lent.{has_atom, one_if}
 use Rattle.contents.specs.Placed.{Grown}
 use Rattle.contents.proofs.Places.{grown-none, has-nothing, last_has, codes-step, new_count-le, later-start, later-at, later-end}
-use Rattle.contents.proofs.by_rows.find_codes.Goals.{In_ok-found}
-use Rattle.contents.proofs.by_rows.find_codes.Goals as goal
+use Rattle.contents.proofs.by_rows.Search.find_codes.Goals.{In_ok-found}
+use Rattle.contents.proofs.by_rows.Search.find_codes.Goals as goal
 
 one-here : (c : In_ok-found) → c.in_ok-found.found ≤ 1
 one-here c =
@@ -19,16 +19,16 @@ loop-code-init c =
       few = omega arith;
       sum = omega (arith, later-start a.codes.now);
       grown =
-          grown-none a.words.now a.position a.places.now (λ k. one_if (has_atom k (take 0 a.codes.now)))
+          grown-none a.self.words.now a.self.position a.places.now (λ k. one_if (has_atom k (take 0 a.codes.now)))
           (λ k. has-nothing k a.codes.now);
     }
 
-pub find_new-requires-clause-fact_3 : goal.find_new-requires-clause-fact_3
-find_new-requires-clause-fact_3 c =
+pub find_new-requires : goal.find_new-requires
+find_new-requires c =
     let a = c.args in
     let i = c.loop-code.code-index in
     let b : get_or a.codes.now i 0 < codes_wide code_bits =
-    each_at (λ v. v < codes_wide code_bits) a.codes.now i c.requires.fact_3 c.loop-code-test.true in
+    each_at (λ v. v < codes_wide code_bits) a.codes.now i c.requires c.loop-code-test.true in
     omega arith
 
 pub overflow_add-count : goal.overflow_add-count
@@ -47,7 +47,9 @@ loop-code-preserved c =
       met = last_has a.codes.now i t;
       few = omega (arith, one-here c, v.few);
       sum = omega (arith, w.0, later-at c.loop-code.last a.codes.now i t, v.sum);
-      grown = codes-step a.codes.now i t a.words.now a.places.now c.loop-code.places _ a.position c.loop-code.last v.met v.grown w.1;
+      grown =
+          codes-step a.codes.now i t a.self.words.now a.places.now c.loop-code.places _ a.self.position c.loop-code.last
+          v.met v.grown w.1;
     }
 
 pub returns : goal.returns
@@ -55,6 +57,6 @@ returns c =
     let a = c.args in
     let l = c.loop-code in (
       omega (arith, later-end l.last a.codes.now l.code-index c.loop-code-test.false, l.invariant.sum),
-      subst (λ (cs : List ℕ). Grown a.words.now a.places.now l.places a.position (λ k. one_if (has_atom k cs)))
+      subst (λ (cs : List ℕ). Grown a.self.words.now a.places.now l.places a.self.position (λ k. one_if (has_atom k cs)))
           (take_all l.code-index a.codes.now c.loop-code-test.false) l.invariant.grown,
     )
