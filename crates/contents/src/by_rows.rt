@@ -99,7 +99,8 @@ impl Search<'_> {
         true
     }
 
-    // Finds the posting so, unless its atom was found last: both signs of an output have one posting. The number found, if what is due is.
+    // Finds the posting so, unless its atom was found last: both signs of an output have one posting. The number found, if what is due
+    // is.
     fn find_new(self, places: &mut Places, last: Option<u64>, atom: u64) -> Option<usize>
         requires { atom < atoms_wide code_bits }
         ensures { IfSome result (λ n. (n ≡ new_count last atom)

@@ -9,11 +9,11 @@ use Rattle.model.specs.Postings.{postings_of}
 use Rattle.slots.specs.Layout.{rows_in}
 use Rattle.contents.specs.Marked.{Walked}
 use Rattle.contents.proofs.Marks.{walked-small, walked-back, walked_more, walked_many, walked_end}
-use Rattle.contents.proofs.by_postings.are_ascending.Goals.{In-Some, At-loop-word, After-next-run}
-use Rattle.contents.proofs.by_postings.are_ascending.Goals as goal
+use Rattle.contents.proofs.by_postings.FirstRows.are_ascending.Goals.{In-Some, At-loop-word, After-next-run}
+use Rattle.contents.proofs.by_postings.FirstRows.are_ascending.Goals as goal
 
 abbrev due : At-loop-word → List ℕ
-due c = let a = c.args in postings_of (rows_in a.rows a.slots.now)
+due c = let a = c.args in postings_of (rows_in a.self.rows a.self.slots.now)
 
 -- the word at hand
 inside : (c : In-Some) → c.loop-word.walk.at < length c.args.words.now
@@ -52,12 +52,12 @@ returns-then-posted_less c =
     sym (same-no _ _ (walked_many _ _ _ _ _ _ c.loop-word.invariant.walked (inside s) above (met at_run)
     (subst (λ (x : ℕ). times x w < c.next-run.result.times) (sym (is_word s)) few)))
 
-pub walk_on-walk-requires-in-Some-clause-fact_3 : goal.walk_on-walk-requires-in-Some-clause-fact_3
-walk_on-walk-requires-in-Some-clause-fact_3 c =
-    let at_run = (goal.at.walk_on-walk-requires-in-Some-clause-fact_3 c).After-next-run in
-    let s = (goal.at.walk_on-walk-requires-in-Some-clause-fact_3 c).In-Some in
+pub walk_on-walk-requires-in-Some-clause-fact_2 : goal.walk_on-walk-requires-in-Some-clause-fact_2
+walk_on-walk-requires-in-Some-clause-fact_2 c =
+    let at_run = (goal.at.walk_on-walk-requires-in-Some-clause-fact_2 c).After-next-run in
+    let s = (goal.at.walk_on-walk-requires-in-Some-clause-fact_2 c).In-Some in
     let few = ltb-false _ c.next-run.result.times (sym c.if-posted_less.ensures) in
-    let w = due (goal.at.walk_on-walk-requires-in-Some-clause-fact_3 c).At-loop-word in
+    let w = due (goal.at.walk_on-walk-requires-in-Some-clause-fact_2 c).At-loop-word in
     let e = ap (λ r. r.word) c.next-run.ensures ∙ word_after c.loop-word.walk.last c.in-Some.word.now in
     subst (λ (x : ℕ). Walked c.args.words.now w (c.loop-word.walk.at + 1) x c.next-run.result.times) (is_word s ∙ sym e)
     (walked_more _ _ _ _ _ _ c.loop-word.invariant.walked (inside s) (omega (arith, is_word s, c.if-x-walk.false)) (met at_run)
@@ -66,4 +66,4 @@ walk_on-walk-requires-in-Some-clause-fact_3 c =
 pub returns : goal.returns
 returns c =
     let l = ltb-false c.loop-word.walk.at (length c.args.words.now) (sym c.in_default.ensures.lookup.0) in
-    sym (same-yes _ _ (walked_end _ _ _ _ _ c.loop-word.invariant.walked l c.requires.fact_2))
+    sym (same-yes _ _ (walked_end _ _ _ _ _ c.loop-word.invariant.walked l c.requires.fact_1))

@@ -3,14 +3,14 @@ use Rattle.model.specs.Postings.{postings_of}
 use Rattle.slots.specs.Layout.{rows_in}
 use Rattle.contents.specs.Marked.{Walked}
 use Rattle.contents.proofs.Marks.{walked-above}
-use Rattle.contents.proofs.by_postings.walk_on.Goals as goal
+use Rattle.contents.proofs.by_postings.FirstRows.walk_on.Goals as goal
 
 pub loop-at-preserved : goal.loop-at-preserved
 loop-at-preserved c =
     let a = c.args in
     let v = c.loop-at.invariant in
     let w = c.loop-at.walk in
-    let due : List ℕ = postings_of (rows_in a.rows a.slots.now) in
+    let due : List ℕ = postings_of (rows_in a.self.rows a.self.slots.now) in
     let far = subst (λ (i : ℕ). Walked a.words.now due i w.last.word w.last.times) v.at v.walked in record {
       at = refl;
       marked = c.sees.ensures.marked;
