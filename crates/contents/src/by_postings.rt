@@ -5,10 +5,11 @@ ghost use Rattle.std.specs.Int.Bits.{bit_or};
 ghost use Rattle.std.specs.Int.Count.{ones};
 ghost use Rattle.lists.specs.Lists.{same, sort_of, pad};
 ghost use Rattle.lists.specs.Counts.{times};
+ghost use Rattle.words.specs.Literal.{atoms_wide, code_bits};
 ghost use Rattle.model.specs.Records.{posting_words, slot_words, max_rows, total_groups_at};
 ghost use Rattle.model.specs.Slots.{row_in, codes_of, ungroup};
 ghost use Rattle.model.specs.Postings.{postings_of};
-ghost use Rattle.slots.specs.Layout.{rows_in, Rows};
+ghost use Rattle.slots.specs.Layout.{rows_in, Rows, RowsOver};
 ghost use Rattle.contents.specs.Lent.{LaidOut, posted_atoms, postings_due, atom_count, has_atom, one_if, top};
 ghost use Rattle.contents.specs.Marked.{Form, Marked, Walked, Ended, packed_from, nowhere};
 
@@ -31,6 +32,9 @@ const NOWHERE: usize = PACKED + SIDE * MAX_GROUPS;
 
 // The place of no row, past all of these: a table of places holds plain numbers, two bytes for each of MAX_ROWS rows.
 const NO_ROW: u16 = 65535;
+
+// A place for each row.
+type Places = [u16; MAX_ROWS as usize];
 
 // The slots of more rows than these do not stay in a small cache from one walk to the next.
 const MANY_ROWS: usize = 1024;
@@ -76,18 +80,6 @@ fn posting_count(slot: &[u64]) -> usize
     let from = BODY_AT + GROUP_WORDS * (slot[CONDITION_GROUPS_AT] as usize);
     let end = BODY_AT + GROUP_WORDS * (slot[TOTAL_GROUPS_AT] as usize);
     nc + atom_count(&slot[from..end])
-}
-
-// How many postings the first rows have.
-fn posting_total(slots: &[u64], rows: usize) -> usize
-    requires { Rows rows slots.now }
-    ensures { result ≡ length (postings_of (rows_in rows slots.now)) }
-{
-    let mut count: usize = 0;
-    for p in 0..rows {
-        count += posting_count(slot_at(slots, p));
-    }
-    count
 }
 
 // A word with the highest bit exactly if the code is of the atom.
@@ -163,23 +155,6 @@ fn has_atom(slot: &[u64], atom: u64) -> bool
     groups_have(&slot[BODY_AT..end], atom)
 }
 
-// Whether a posting stands less than so often among those of the first rows.
-// Nearly every posting is asked for once, and that takes one look along its row.
-fn posted_less(slots: &[u64], rows: usize, posting: u64, often: u64) -> bool
-    requires { Rows rows slots.now }
-    ensures { result ≡ ltb (times posting (postings_of (rows_in rows slots.now))) often }
-{
-    let p = (posting % MAX_ROWS) as usize;
-    if rows <= p {
-        return 0 < often;
-    }
-    let slot = slot_at(slots, p);
-    if often == 1 {
-        return !has_atom(slot, posting / MAX_ROWS);
-    }
-    times_posted(slot, posting / MAX_ROWS) < often
-}
-
 // How many postings the row in a slot has at most: one for each literal.
 fn literal_count(slot: &[u64]) -> usize
     requires { LaidOut slot.now }
@@ -204,23 +179,6 @@ fn first_place(slot: &[u64], many: bool) -> u16
         return (SIDE * slot[CONDITIONS_AT] as usize) as u16;
     }
     (PACKED + SIDE * slot[CONDITION_GROUPS_AT] as usize) as u16
-}
-
-// The first places of the rows, and how many postings they have at most.
-fn mark_rows(slots: &[u64], rows: usize, places: &mut [u16]) -> usize
-    requires fact_1 { Rows rows slots.now }
-    requires fact_2 { length places.old ≡ max_rows }
-    requires fact_3 { Marked 0 slots.now places.old }
-    ensures lower_bound { (length (postings_of (rows_in rows slots.now)) ≤ result) × (result ≤ posting_words * rows) }
-    ensures marked { Marked rows slots.now places.new }
-{
-    let mut count: usize = 0;
-    for p in 0..rows {
-        let slot = slot_at(slots, p);
-        count += literal_count(slot);
-        places[p] = first_place(slot, MANY_ROWS < rows);
-    }
-    count
 }
 
 // Looks for an atom among the codes of the row in a slot at a place a side: 1 for the first, SIDE for the second, 0 where it is at
@@ -264,72 +222,6 @@ fn group_steps(slot: &[u64], place: usize, atom: u64) -> usize
     first + SIDE * second
 }
 
-// Whether the posting of a row laid out code by code is seen at the row's place, which moves on, or at the next one: one output further
-// on, since both signs of an output are two codes and one posting.
-fn sees_code(slots: &[u64], rows: usize, places: &mut [u16], posting: u64, place: usize) -> bool
-    requires fact_1 { Rows rows slots.now }
-    requires fact_2 { length places.old ≡ max_rows }
-    requires fact_3 { Marked rows slots.now places.old }
-    requires fact_4 { place ≡ get_or places.old (posting % max_rows) 0 }
-    requires fact_5 { place < packed_from }
-    ensures bound { result ≡ true → max_rows ≤ posting → 1 ≤ times posting (postings_of (rows_in rows slots.now)) }
-    ensures marked { Marked rows slots.now places.new }
-{
-    let p = (posting % MAX_ROWS) as usize;
-    let slot = slot_at(slots, p);
-    let steps = code_steps(slot, place, posting / MAX_ROWS);
-    if 0 < steps {
-        places[p] = ((place + steps) % PACKED) as u16;
-        return true;
-    }
-    let next = (place + SIDE) % PACKED;
-    let more = code_steps(slot, next, posting / MAX_ROWS);
-    places[p] = ((next + more) % PACKED) as u16;
-    0 < more
-}
-
-// The same of a packed row: at the next place each side has moved on by one group where it is behind.
-fn sees_group(slots: &[u64], rows: usize, places: &mut [u16], posting: u64, place: usize) -> bool
-    requires fact_1 { Rows rows slots.now }
-    requires fact_2 { length places.old ≡ max_rows }
-    requires fact_3 { Marked rows slots.now places.old }
-    requires fact_4 { place ≡ get_or places.old (posting % max_rows) 0 }
-    requires fact_5 { (packed_from ≤ place) × (place < nowhere) }
-    ensures bound { result ≡ true → 1 ≤ times posting (postings_of (rows_in rows slots.now)) }
-    ensures marked { Marked rows slots.now places.new }
-{
-    let p = (posting % MAX_ROWS) as usize;
-    let slot = slot_at(slots, p);
-    if has_group(slot, place, posting / MAX_ROWS) {
-        return true;
-    }
-    let next = place + group_steps(slot, place, posting / MAX_ROWS);
-    places[p] = next as u16;
-    if NOWHERE <= next {
-        return false;
-    }
-    has_group(slot, next, posting / MAX_ROWS)
-}
-
-// Whether the posting is seen where it should stand in its row if all postings so far were those of the rows. A yes is sure but for atom
-// 0, a no says nothing.
-fn sees(slots: &[u64], rows: usize, places: &mut [u16], posting: u64) -> bool
-    requires fact_1 { Rows rows slots.now }
-    requires fact_2 { length places.old ≡ max_rows }
-    requires fact_3 { Marked rows slots.now places.old }
-    ensures bound { result ≡ true → max_rows ≤ posting → 1 ≤ times posting (postings_of (rows_in rows slots.now)) }
-    ensures marked { Marked rows slots.now places.new }
-{
-    let place = places[(posting % MAX_ROWS) as usize] as usize;
-    if place < PACKED {
-        return sees_code(slots, rows, places, posting, place);
-    }
-    if NOWHERE <= place {
-        return false;
-    }
-    sees_group(slots, rows, places, posting, place)
-}
-
 // How far a walk along the postings has come, the last word met and how often it was met in a row.
 #[derive(Clone, Copy)]
 struct Walk {
@@ -337,97 +229,207 @@ struct Walk {
     last: Run,
 }
 
-// Walks on while each word is above the one before it and seen. This is where the time goes, and nothing else is done in this loop.
-fn walk_on(words: &[u64], slots: &[u64], rows: usize, places: &mut [u16], from: Walk) -> Walk
-    requires fact_1 { Rows rows slots.now }
-    requires fact_2 { length places.old ≡ max_rows }
-    requires fact_3 { Marked rows slots.now places.old }
-    requires fact_4 { Walked words.now (postings_of (rows_in rows slots.now)) from.at from.last.word from.last.times }
-    ensures walked { Walked words.now (postings_of (rows_in rows slots.now)) result.at result.last.word result.last.times }
-    ensures at_le_at { from.at ≤ result.at }
-    ensures marked { Marked rows slots.now places.new }
-{
-    let mut walk = from;
-    for at in from.at..words.len() {
-        let x = words[at];
-        if x <= walk.last.word {
-            break;
-        }
-        if !sees(slots, rows, places, x) {
-            break;
-        }
-        if x < MAX_ROWS {
-            break;
-        }
-        walk = Walk {
-            at: at + 1,
-            last: Run { word: x, times: 1 },
-        };
-    }
-    walk
+// The first rows in slots, over as many atoms as codes have.
+#[derive(Clone, Copy)]
+struct FirstRows<'a> {
+    slots: &'a [u64],
+    rows: usize,
+    ghost held: { RowsOver (atoms_wide code_bits) rows slots.now },
 }
 
-// Whether the words, no fewer than the first rows have postings, are those postings ascending: they ascend, and none stands more often
-// than its row is posted under its atom. What is not seen is looked for along its row.
-fn are_ascending(words: &[u64], slots: &[u64], rows: usize, places: &mut [u16]) -> bool
-    requires fact_1 { Rows rows slots.now }
-    requires fact_2 { length (postings_of (rows_in rows slots.now)) ≤ length words.now }
-    requires fact_3 { length places.old ≡ max_rows }
-    requires fact_4 { Marked rows slots.now places.old }
-    ensures { result ≡ same words.now (sort_of (postings_of (rows_in rows slots.now))) }
-{
-    let start = Walk {
-        at: 0,
-        last: Run { word: 0, times: 0 },
-    };
-    let mut walk = walk_on(words, slots, rows, places, start);
-    // A while: each turn goes on from where the walk stopped.
-    while let Some(word) = words.get(walk.at) {
-        let x = *word;
-        if x < walk.last.word {
+impl FirstRows<'_> {
+    // How many postings the first rows have.
+    fn posting_total(self) -> usize
+        ensures { result ≡ length (postings_of (rows_in self.entry.rows self.entry.slots.now)) }
+    {
+        let mut count: usize = 0;
+        for p in 0..self.rows {
+            count += posting_count(slot_at(self.slots, p));
+        }
+        count
+    }
+
+    // Whether a posting stands less than so often among those of the first rows.
+    // Nearly every posting is asked for once, and that takes one look along its row.
+    fn posted_less(self, posting: u64, often: u64) -> bool
+        ensures { result ≡ ltb (times posting (postings_of (rows_in self.entry.rows self.entry.slots.now))) often }
+    {
+        let p = (posting % MAX_ROWS) as usize;
+        if self.rows <= p {
+            return 0 < often;
+        }
+        let slot = slot_at(self.slots, p);
+        if often == 1 {
+            return !has_atom(slot, posting / MAX_ROWS);
+        }
+        times_posted(slot, posting / MAX_ROWS) < often
+    }
+
+    // The first places of the rows, and how many postings they have at most.
+    fn mark_rows(self, places: &mut Places) -> usize
+        requires { Marked 0 self.slots.now places.old }
+        ensures lower_bound { (length (postings_of (rows_in self.entry.rows self.entry.slots.now)) ≤ result)
+            × (result ≤ posting_words * self.entry.rows) }
+        ensures marked { Marked self.entry.rows self.entry.slots.now places.new }
+    {
+        let mut count: usize = 0;
+        for p in 0..self.rows {
+            let slot = slot_at(self.slots, p);
+            count += literal_count(slot);
+            places[p] = first_place(slot, MANY_ROWS < self.rows);
+        }
+        count
+    }
+
+    // Whether the posting of a row laid out code by code is seen at the row's place, which moves on, or at the next one: one output
+    // further on, since both signs of an output are two codes and one posting.
+    fn sees_code(self, places: &mut Places, posting: u64, place: usize) -> bool
+        requires fact_1 { Marked self.rows self.slots.now places.old }
+        requires fact_2 { place ≡ get_or places.old (posting % max_rows) 0 }
+        requires fact_3 { place < packed_from }
+        ensures bound { result ≡ true → max_rows ≤ posting
+            → 1 ≤ times posting (postings_of (rows_in self.entry.rows self.entry.slots.now)) }
+        ensures marked { Marked self.entry.rows self.entry.slots.now places.new }
+    {
+        let p = (posting % MAX_ROWS) as usize;
+        let slot = slot_at(self.slots, p);
+        let steps = code_steps(slot, place, posting / MAX_ROWS);
+        if 0 < steps {
+            places[p] = ((place + steps) % PACKED) as u16;
+            return true;
+        }
+        let next = (place + SIDE) % PACKED;
+        let more = code_steps(slot, next, posting / MAX_ROWS);
+        places[p] = ((next + more) % PACKED) as u16;
+        0 < more
+    }
+
+    // The same of a packed row: at the next place each side has moved on by one group where it is behind.
+    fn sees_group(self, places: &mut Places, posting: u64, place: usize) -> bool
+        requires fact_1 { Marked self.rows self.slots.now places.old }
+        requires fact_2 { place ≡ get_or places.old (posting % max_rows) 0 }
+        requires fact_3 { (packed_from ≤ place) × (place < nowhere) }
+        ensures bound { result ≡ true → 1 ≤ times posting (postings_of (rows_in self.entry.rows self.entry.slots.now)) }
+        ensures marked { Marked self.entry.rows self.entry.slots.now places.new }
+    {
+        let p = (posting % MAX_ROWS) as usize;
+        let slot = slot_at(self.slots, p);
+        if has_group(slot, place, posting / MAX_ROWS) {
+            return true;
+        }
+        let next = place + group_steps(slot, place, posting / MAX_ROWS);
+        places[p] = next as u16;
+        if NOWHERE <= next {
             return false;
         }
-        let run = walk.last.next(x);
-        if posted_less(slots, rows, x, run.times) {
+        has_group(slot, next, posting / MAX_ROWS)
+    }
+
+    // Whether the posting is seen where it should stand in its row if all postings so far were those of the rows. A yes is sure but for
+    // atom 0, a no says nothing.
+    fn sees(self, places: &mut Places, posting: u64) -> bool
+        requires { Marked self.rows self.slots.now places.old }
+        ensures bound { result ≡ true → max_rows ≤ posting
+            → 1 ≤ times posting (postings_of (rows_in self.entry.rows self.entry.slots.now)) }
+        ensures marked { Marked self.entry.rows self.entry.slots.now places.new }
+    {
+        let place = places[(posting % MAX_ROWS) as usize] as usize;
+        if place < PACKED {
+            return self.sees_code(places, posting, place);
+        }
+        if NOWHERE <= place {
             return false;
         }
-        let next = Walk {
-            at: walk.at + 1,
-            last: run,
-        };
-        walk = walk_on(words, slots, rows, places, next);
+        self.sees_group(places, posting, place)
     }
-    true
-}
 
-// Whether the first words are the postings of the first rows, ascending, and the others 0. There are no more postings than words, and if
-// fewer, the last of these words is no 0.
-fn are_filed(words: &[u64], slots: &[u64], rows: usize, places: &mut [u16], n: usize) -> bool
-    requires fact_1 { Rows rows slots.now }
-    requires fact_2 { Ended (length (postings_of (rows_in rows slots.now))) words.now n }
-    requires fact_3 { length places.old ≡ max_rows }
-    requires fact_4 { Marked rows slots.now places.old }
-    ensures { result
-        ≡ same words.now (pad (length words.now) (postings_due false (rows_in rows slots.now))) }
-{
-    if !are_ascending(&words[0..n], slots, rows, places) {
-        return false;
-    }
-    all_zero(&words[n..])
-}
-
-// How many words the postings of the first rows take, or more if the last of these is no 0. Where no output stands in both signs there
-// are as many postings as literals, and none is looked at to count them.
-fn posting_end(words: &[u64], slots: &[u64], rows: usize, most: usize) -> usize
-    requires { (Rows rows slots.now) × ((length (postings_of (rows_in rows slots.now)) ≤ most) × (most ≤ length words.now)) }
-    ensures { Ended (length (postings_of (rows_in rows slots.now))) words.now result }
-{
-    if 0 < most {
-        if words[most - 1] != 0 {
-            return most;
+    // Walks on while each word is above the one before it and seen. This is where the time goes, and nothing else is done in this loop.
+    fn walk_on(self, words: &[u64], places: &mut Places, from: Walk) -> Walk
+        requires fact_1 { Marked self.rows self.slots.now places.old }
+        requires fact_2 { Walked words.now (postings_of (rows_in self.rows self.slots.now)) from.at from.last.word from.last.times }
+        ensures walked { Walked words.now (postings_of (rows_in self.entry.rows self.entry.slots.now)) result.at result.last.word
+            result.last.times }
+        ensures at_le_at { from.at ≤ result.at }
+        ensures marked { Marked self.entry.rows self.entry.slots.now places.new }
+    {
+        let mut walk = from;
+        for at in from.at..words.len() {
+            let x = words[at];
+            if x <= walk.last.word {
+                break;
+            }
+            if !self.sees(places, x) {
+                break;
+            }
+            if x < MAX_ROWS {
+                break;
+            }
+            walk = Walk {
+                at: at + 1,
+                last: Run { word: x, times: 1 },
+            };
         }
+        walk
     }
-    posting_total(slots, rows)
+
+    // Whether the words, no fewer than the first rows have postings, are those postings ascending: they ascend, and none stands more often
+    // than its row is posted under its atom. What is not seen is looked for along its row.
+    fn are_ascending(self, words: &[u64], places: &mut Places) -> bool
+        requires fact_1 { length (postings_of (rows_in self.rows self.slots.now)) ≤ length words.now }
+        requires fact_2 { Marked self.rows self.slots.now places.old }
+        ensures { result ≡ same words.now (sort_of (postings_of (rows_in self.entry.rows self.entry.slots.now))) }
+    {
+        let start = Walk {
+            at: 0,
+            last: Run { word: 0, times: 0 },
+        };
+        let mut walk = self.walk_on(words, places, start);
+        // A while: each turn goes on from where the walk stopped.
+        while let Some(word) = words.get(walk.at) {
+            let x = *word;
+            if x < walk.last.word {
+                return false;
+            }
+            let run = walk.last.next(x);
+            if self.posted_less(x, run.times) {
+                return false;
+            }
+            let next = Walk {
+                at: walk.at + 1,
+                last: run,
+            };
+            walk = self.walk_on(words, places, next);
+        }
+        true
+    }
+
+    // Whether the first words are the postings of the first rows, ascending, and the others 0. There are no more postings than words,
+    // and if fewer, the last of these words is no 0.
+    fn are_filed(self, words: &[u64], places: &mut Places, n: usize) -> bool
+        requires fact_1 { Ended (length (postings_of (rows_in self.rows self.slots.now))) words.now n }
+        requires fact_2 { Marked self.rows self.slots.now places.old }
+        ensures { result
+            ≡ same words.now (pad (length words.now) (postings_due false (rows_in self.entry.rows self.entry.slots.now))) }
+    {
+        if !self.are_ascending(&words[0..n], places) {
+            return false;
+        }
+        all_zero(&words[n..])
+    }
+
+    // How many words the postings of the first rows take, or more if the last of these is no 0. Where no output stands in both signs there
+    // are as many postings as literals, and none is looked at to count them.
+    fn posting_end(self, words: &[u64], most: usize) -> usize
+        requires { (length (postings_of (rows_in self.rows self.slots.now)) ≤ most) × (most ≤ length words.now) }
+        ensures { Ended (length (postings_of (rows_in self.entry.rows self.entry.slots.now))) words.now result }
+    {
+        if 0 < most {
+            if words[most - 1] != 0 {
+                return most;
+            }
+        }
+        self.posting_total()
+    }
 }
 
 // Whether the words are the postings of the first rows, ascending, and 0 after them.
@@ -438,7 +440,8 @@ pub fn are_postings(words: &[u64], slots: &[u64], rows: usize) -> bool
         ≡ same words.now (pad (length words.now) (postings_due false (rows_in rows slots.now))) }
 {
     let mut places = [NO_ROW; MAX_ROWS as usize];
-    let most = mark_rows(slots, rows, &mut places);
-    let n = posting_end(words, slots, rows, most);
-    are_filed(words, slots, rows, &mut places, n)
+    let first = FirstRows { slots, rows };
+    let most = first.mark_rows(&mut places);
+    let n = first.posting_end(words, most);
+    first.are_filed(words, &mut places, n)
 }

@@ -24,6 +24,9 @@ use words::{MAX_WORD, MAX_WORDS, WORD_BITS};
 // So many words are tested for 0 at a time.
 const BLOCK: usize = 64;
 
+// A place for each remainder of an atom by MAX_ROWS.
+type Places = [u32; MAX_ROWS as usize];
+
 // A place from which on every word is 0, whole blocks before the end.
 fn zeros_from(words: &[u64]) -> usize
     ensures { (result ≤ length words.now) × (all_zero (drop result words.now) ≡ true) }
@@ -52,9 +55,8 @@ pub fn used(words: &[u64]) -> usize
 }
 
 // Whether the words ascend. The place of an atom is then that of its first posting.
-fn note_places(words: &[u64], places: &mut [u32]) -> bool
-    requires fact_1 { length words.now ≤ 4294967295 }
-    requires fact_2 { length places.old ≡ max_rows }
+fn note_places(words: &[u64], places: &mut Places) -> bool
+    requires { length words.now ≤ 4294967295 }
     ensures { result ≡ true → Sorted words.now }
 {
     let mut least = MAX_WORD;
@@ -70,168 +72,149 @@ fn note_places(words: &[u64], places: &mut [u32]) -> bool
     true
 }
 
-// Whether the posting of an atom at a position stands at the atom's place, which then moves past it.
-fn finds(words: &[u64], places: &mut [u32], atom: u64, position: u64) -> bool
-    requires fact_1 { length words.now ≤ 4294967295 }
-    requires fact_2 { length places.old ≡ max_rows }
-    requires fact_3 { position < max_rows }
-    requires fact_4 { atom < atoms_wide code_bits }
-    ensures { result ≡ true → Grown words.now places.old places.new position (λ a. is a atom) }
-{
-    let at = (atom % MAX_ROWS) as usize;
-    let i = places[at] as usize;
-    if words.len() <= i {
-        return false;
-    }
-    if words[i] != atom * MAX_ROWS + position {
-        return false;
-    }
-    places[at] = (i + 1) as u32;
-    true
-}
-
-// Finds the posting so, unless its atom was found last: both signs of an output have one posting. The number found, if what is due is.
-fn find_new(
-    words: &[u64],
-    places: &mut [u32],
-    last: Option<u64>,
-    atom: u64,
+// Words that are searched for the postings of the row at a position.
+#[derive(Clone, Copy)]
+struct Search<'a> {
+    words: &'a [u64],
     position: u64,
-) -> Option<usize>
-    requires fact_1 { length words.now ≤ 4294967295 }
-    requires fact_2 { length places.old ≡ max_rows }
-    requires fact_3 { position < max_rows }
-    requires fact_4 { atom < atoms_wide code_bits }
-    ensures { IfSome result (λ n. (n ≡ new_count last atom)
-        × Grown words.now places.old places.new position (new_atom last atom)) }
-{
-    if last == Some(atom) {
-        return Some(0);
-    }
-    if !finds(words, places, atom, position) {
-        return None;
-    }
-    Some(1)
+    ghost few: { length words.now ≤ 4294967295 },
+    ghost low: { position < max_rows },
 }
 
-// The same for the atoms of codes.
-fn find_codes(words: &[u64], places: &mut [u32], codes: &[u64], position: u64) -> Option<usize>
-    requires fact_1 { length words.now ≤ 4294967295 }
-    requires fact_2 { length places.old ≡ max_rows }
-    requires fact_3 { position < max_rows }
-    requires fact_4 { Each (λ v. v < codes_wide code_bits) codes.now }
-    ensures { IfSome result (λ n. (n ≡ length (distinct (shifted 1 codes.now)))
-        × Grown words.now places.old places.new position (λ a. one_if (has_atom a codes.now))) }
-{
-    let mut last: Option<u64> = None;
-    let mut count: usize = 0;
-    for code in codes {
-        let atom = *code / 2;
-        let found = find_new(words, places, last, atom, position)?;
-        last = Some(atom);
-        count += found;
-    }
-    Some(count)
-}
-
-// Whether the postings of the atoms of word x that have a bit stand at their places, which then move past them.
-fn finds_bits(words: &[u64], places: &mut [u32], x: u64, bits: u64, position: u64) -> bool
-    requires fact_1 { length words.now ≤ 4294967295 }
-    requires fact_2 { length places.old ≡ max_rows }
-    requires fact_3 { position < max_rows }
-    requires fact_4 { x < words_wide code_bits }
-    ensures { result ≡ true
-        → Grown words.now places.old places.new position (λ a. one_if (has_bit x bits a)) }
-{
-    let mut left = bits;
-    // A while: no index is counted, the bits that are left are.
-    while left != 0 {
-        let atom = WORD_BITS * x + u64::trailing_zeros(left) as u64;
-        if !finds(words, places, atom, position) {
+impl Search<'_> {
+    // Whether the posting of an atom stands at the atom's place, which then moves past it.
+    fn finds(self, places: &mut Places, atom: u64) -> bool
+        requires { atom < atoms_wide code_bits }
+        ensures { result ≡ true → Grown self.entry.words.now places.old places.new self.entry.position (λ a. is a atom) }
+    {
+        let at = (atom % MAX_ROWS) as usize;
+        let i = places[at] as usize;
+        if self.words.len() <= i {
             return false;
         }
-        left = left & (left - 1);
-    }
-    true
-}
-
-// The same for the atoms of a group.
-fn finds_group(
-    words: &[u64],
-    places: &mut [u32],
-    x: u64,
-    present: u64,
-    absent: u64,
-    position: u64,
-) -> bool
-    requires fact_1 { length words.now ≤ 4294967295 }
-    requires fact_2 { length places.old ≡ max_rows }
-    requires fact_3 { position < max_rows }
-    ensures { result ≡ true
-        → Grown words.now places.old places.new position (λ a. one_if (has_atom a (codes_of x present absent))) }
-{
-    if MAX_WORDS <= x {
-        return false;
-    }
-    finds_bits(words, places, x, present | absent, position)
-}
-
-// The same for the atoms of groups.
-fn finds_groups(words: &[u64], places: &mut [u32], groups: &[u64], position: u64) -> bool
-    requires fact_1 { length words.now ≤ 4294967295 }
-    requires fact_2 { length places.old ≡ max_rows }
-    requires fact_3 { position < max_rows }
-    ensures { result ≡ true
-        → Grown words.now places.old places.new position
-        (λ a. one_if (has_atom a (ungroup groups.now))) }
-{
-    for group in groups.chunks_exact(GROUP_WORDS) {
-        if !finds_group(words, places, group[0], group[1], group[2], position) {
+        if self.words[i] != atom * MAX_ROWS + self.position {
             return false;
         }
+        places[at] = (i + 1) as u32;
+        true
     }
-    true
-}
 
-// Finds the postings of the row in a slot, at its position: their number, if all stand at their places.
-fn find_row(words: &[u64], places: &mut [u32], slot: &[u64], position: u64) -> Option<usize>
-    requires fact_1 { length words.now ≤ 4294967295 }
-    requires fact_2 { length places.old ≡ max_rows }
-    requires fact_3 { position < max_rows }
-    requires fact_4 { LaidOut slot.now }
-    ensures { IfSome result (λ n. (n ≡ length (posted_atoms (row_in slot.now)))
-        × Grown words.now places.old places.new position (λ a. times a (posted_atoms (row_in slot.now)))) }
-{
-    let nc = slot[CONDITIONS_AT] as usize;
-    if slot[TOTAL_GROUPS_AT] == 0 {
-        let from = BODY_AT + nc;
-        let end = from + slot[OUTPUTS_AT] as usize;
-        find_codes(words, places, &slot[BODY_AT..from], position)?;
-        let n = find_codes(words, places, &slot[from..end], position)?;
-        return Some(nc + n);
+    // Finds the posting so, unless its atom was found last: both signs of an output have one posting. The number found, if what is due
+    // is.
+    fn find_new(self, places: &mut Places, last: Option<u64>, atom: u64) -> Option<usize>
+        requires { atom < atoms_wide code_bits }
+        ensures { IfSome result (λ n. (n ≡ new_count last atom)
+            × Grown self.entry.words.now places.old places.new self.entry.position (new_atom last atom)) }
+    {
+        if last == Some(atom) {
+            return Some(0);
+        }
+        if !self.finds(places, atom) {
+            return None;
+        }
+        Some(1)
     }
-    let from = BODY_AT + GROUP_WORDS * (slot[CONDITION_GROUPS_AT] as usize);
-    let end = BODY_AT + GROUP_WORDS * (slot[TOTAL_GROUPS_AT] as usize);
-    if !finds_groups(words, places, &slot[BODY_AT..from], position) {
-        return None;
+
+    // The same for the atoms of codes.
+    fn find_codes(self, places: &mut Places, codes: &[u64]) -> Option<usize>
+        requires { Each (λ v. v < codes_wide code_bits) codes.now }
+        ensures { IfSome result (λ n. (n ≡ length (distinct (shifted 1 codes.now)))
+            × Grown self.entry.words.now places.old places.new self.entry.position (λ a. one_if (has_atom a codes.now))) }
+    {
+        let mut last: Option<u64> = None;
+        let mut count: usize = 0;
+        for code in codes {
+            let atom = *code / 2;
+            let found = self.find_new(places, last, atom)?;
+            last = Some(atom);
+            count += found;
+        }
+        Some(count)
     }
-    if !finds_groups(words, places, &slot[from..end], position) {
-        return None;
+
+    // Whether the postings of the atoms of word x that have a bit stand at their places, which then move past them.
+    fn finds_bits(self, places: &mut Places, x: u64, bits: u64) -> bool
+        requires { x < words_wide code_bits }
+        ensures { result ≡ true
+            → Grown self.entry.words.now places.old places.new self.entry.position (λ a. one_if (has_bit x bits a)) }
+    {
+        let mut left = bits;
+        // A while: no index is counted, the bits that are left are.
+        while left != 0 {
+            let atom = WORD_BITS * x + u64::trailing_zeros(left) as u64;
+            if !self.finds(places, atom) {
+                return false;
+            }
+            left = left & (left - 1);
+        }
+        true
     }
-    Some(nc + atom_count(&slot[from..end]))
+
+    // The same for the atoms of a group.
+    fn finds_group(self, places: &mut Places, x: u64, present: u64, absent: u64) -> bool
+        ensures { result ≡ true
+            → Grown self.entry.words.now places.old places.new self.entry.position (λ a. one_if (has_atom a (codes_of x present absent))) }
+    {
+        if MAX_WORDS <= x {
+            return false;
+        }
+        self.finds_bits(places, x, present | absent)
+    }
+
+    // The same for the atoms of groups.
+    fn finds_groups(self, places: &mut Places, groups: &[u64]) -> bool
+        ensures { result ≡ true
+            → Grown self.entry.words.now places.old places.new self.entry.position
+            (λ a. one_if (has_atom a (ungroup groups.now))) }
+    {
+        for group in groups.chunks_exact(GROUP_WORDS) {
+            if !self.finds_group(places, group[0], group[1], group[2]) {
+                return false;
+            }
+        }
+        true
+    }
+
+    // Finds the postings of the row in a slot: their number, if all stand at their places.
+    fn find_row(self, places: &mut Places, slot: &[u64]) -> Option<usize>
+        requires { LaidOut slot.now }
+        ensures { IfSome result (λ n. (n ≡ length (posted_atoms (row_in slot.now)))
+            × Grown self.entry.words.now places.old places.new self.entry.position (λ a. times a (posted_atoms (row_in slot.now)))) }
+    {
+        let nc = slot[CONDITIONS_AT] as usize;
+        if slot[TOTAL_GROUPS_AT] == 0 {
+            let from = BODY_AT + nc;
+            let end = from + slot[OUTPUTS_AT] as usize;
+            self.find_codes(places, &slot[BODY_AT..from])?;
+            let n = self.find_codes(places, &slot[from..end])?;
+            return Some(nc + n);
+        }
+        let from = BODY_AT + GROUP_WORDS * (slot[CONDITION_GROUPS_AT] as usize);
+        let end = BODY_AT + GROUP_WORDS * (slot[TOTAL_GROUPS_AT] as usize);
+        if !self.finds_groups(places, &slot[BODY_AT..from]) {
+            return None;
+        }
+        if !self.finds_groups(places, &slot[from..end]) {
+            return None;
+        }
+        Some(nc + atom_count(&slot[from..end]))
+    }
 }
 
 // The same for the first rows. Where their number is that of the words, no posting is due more often than it stands among the words.
-fn find_rows(words: &[u64], places: &mut [u32], slots: &[u64], rows: usize) -> Option<usize>
+fn find_rows(words: &[u64], places: &mut Places, slots: &[u64], rows: usize) -> Option<usize>
     requires fact_1 { length words.now ≤ 4294967295 }
-    requires fact_2 { length places.old ≡ max_rows }
-    requires fact_3 { Rows rows slots.now }
+    requires fact_2 { Rows rows slots.now }
     ensures { IfSome result (λ n. (n ≡ length (postings_of (rows_in rows slots.now)))
         × ((v : ℕ) → times v (postings_of (rows_in rows slots.now)) ≤ times v words.now)) }
 {
     let mut count: usize = 0;
     for p in 0..rows {
-        let found = find_row(words, places, slot_at(slots, p), p as u64)?;
+        let row = Search {
+            words,
+            position: p as u64,
+        };
+        let found = row.find_row(places, slot_at(slots, p))?;
         count += found;
     }
     Some(count)
