@@ -3,3 +3,4 @@ pub mod Deciding
 pub mod Publishing
 pub mod Standing
 pub mod Acting
+pub mod Closed

@@ -157,8 +157,6 @@ pub record Publishes (n : ℕ) (slot held₀ cut₀ : List ℕ) (m₀ : Meter) (
   pub pointed : Pointed (row_in slot) k
   pub good : Good (row_in slot) k
   pub whole : T (is_region n (region held cut))
-  pub held_long : length held ≡ length held₀
-  pub cut_long : length cut ≡ length cut₀
   pub counted : Counted n c₀ c (region held₀ cut₀) (region held cut)
   pub rest : (l : Beside) → publish (suc (left (row_in slot) k)) n (row_in slot) k (state l held cut m)
       ≡ publish (suc (length (row_in slot).outputs)) n (row_in slot) start_cursor (state l held₀ cut₀ m₀)
@@ -196,8 +194,6 @@ module _ (n : ℕ) (slot : List ℕ) (st : Stored n slot) where
         pointed = pointed-start row;
         good = start-good row;
         whole = t;
-        held_long = refl;
-        cut_long = refl;
         counted = counted-none n c (region held cut);
         rest = λ l. fuel-any (suc (left row start_cursor)) (suc (length row.outputs)) start_cursor held cut m l (start-good row) t
             (omega arith) (omega arith);
@@ -270,10 +266,9 @@ module _ (n : ℕ) (slot : List ℕ) (st : Stored n slot) where
       pub publish-on : (held' cut' : List ℕ) (c' : ℕ)
           → ((l : Beside) (m : Meter) → going (state l held' cut' m) ≡ decide_on n o (state l held cut m))
           → Counted n c c' (region held cut) (region held' cut') → T (is_region n (region held' cut'))
-          → length held' ≡ length held → length cut' ≡ length cut
           → Publishes n slot held₀ cut₀ m₀ c₀ held' cut' m' c' k'
       unfolding on_going
-      publish-on held' cut' c' d counted whole x y =
+      publish-on held' cut' c' d counted whole =
           let good : Good row k' =
           subst (Good row) (sym cursor-is)
           (next-gives (region held cut) row k m (ascending-asc row.outputs rising) w.good).cursor in
@@ -282,8 +277,6 @@ module _ (n : ℕ) (slot : List ℕ) (st : Stored n slot) where
             pointed = subst (Pointed row) (sym cursor-is) (pointed-next n row st.row st.atoms (region held cut) k m w.pointed);
             good = good;
             whole = whole;
-            held_long = x ∙ w.held_long;
-            cut_long = y ∙ w.cut_long;
             counted = counted-both n c₀ c c' (region held₀ cut₀) (region held cut) (region held' cut') w.counted counted;
             rest = λ l.
                 fuel-any (suc (left row k')) (left row k) k' held' cut' m' l good whole (omega arith) less

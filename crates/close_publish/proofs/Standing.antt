@@ -1,5 +1,5 @@
 -- What a closing knows of its words: the slot of a row, and what a hit or a decision keeps. Assumes nothing.
-use mathlib.Core.Path.{◌≡◌, sym, ap, ◌∙◌, subst}
+use mathlib.Core.Path.{◌≡◌, refl, sym, ap, ◌∙◌, subst}
 use mathlib.Core.Logic.{◌⊎◌, inl, inr}
 use mathlib.Core.Bool.{Bool, true, false}
 use mathlib.Core.List.{List, [], map}
@@ -61,6 +61,10 @@ module _ {n : ℕ} (rows p : ℕ) (ws : List ℕ) (k : Held n rows ws) (l : p < 
   pub hit-rows : rows_in rows (hit_words p ws) ≡ rows_in rows ws
   unfolding rows_in
   hit-rows = ap (map (λ e. e.row)) hit-entries ∙ map-adjust hit_entry (λ e. e.row) p es hit-row
+
+pub standing : (n rows : ℕ) (slots held cut : List ℕ) → Held n rows slots → T (is_region n (region held cut))
+    → Standing n rows (rows_in rows slots) slots held cut
+standing n rows slots held cut h t = record { holds = h; same = refl; region = t }
 
 module _ (n rows : ℕ) (rs : List Row) (slots held cut : List ℕ) (s : Standing n rows rs slots held cut) where
   -- the slot that the code lends

@@ -13,7 +13,7 @@ ghost use Rattle.close_rounds.specs.Running.{Running};
 ghost use Rattle.close_rounds.specs.Rounds.{state_in, one_round, Under};
 
 use close_note::in_order;
-use close_publish::{Halt, act};
+use close_publish::{Closing, Halt};
 use meter::Meter;
 use model::{CandidatesAnswer, Header, Literal};
 use postings::candidates;
@@ -43,22 +43,17 @@ fn round(
     ensures logged { IfOk result (λ d. Logs atoms 0 noted.old (region held.old cut.old) d
         noted.new (region held.new cut.new)) }
 {
-    let mut decided: usize = 0;
+    let mut closing = Closing {
+        atoms,
+        held,
+        cut,
+        noted,
+        decided: 0,
+    };
     for position in positions {
-        act(
-            atoms,
-            rows,
-            slots,
-            *position as usize,
-            held,
-            cut,
-            noted,
-            &mut decided,
-            contradicted,
-            meter,
-        )?;
+        closing.act(rows, slots, *position as usize, contradicted, meter)?;
     }
-    Ok(decided)
+    Ok(closing.decided)
 }
 
 // One round: the candidates for the atoms in the first `given` words of `noted` are read. If it goes on, the atoms decided in it are the

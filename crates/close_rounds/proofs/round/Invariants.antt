@@ -1,13 +1,16 @@
--- `close_rounds::round`. What is left of the round, run from here, is the whole round run from the start; beside it stand the atoms noted.
+-- `close_rounds::round`. What is left of the round, run from here, is the whole round run from the start; beside it goes the closing.
 -- Assumes nothing.
-use Rattle.words.specs.Region.{region}
-use Rattle.close_note.proofs.Logging.{Logging}
+use mathlib.Core.Path.{◌≡◌}
+use Rattle.close_publish.specs.Closed.{Goes}
 use Rattle.close_rounds.proofs.Reading.{Reading}
 use Rattle.close_rounds.proofs.round.Given as goal
 
 abbrev pub invariant-loop-position : goal.invariant-loop-position
 invariant-loop-position l = record {
-  reads : Reading l.atoms l.rows l.positions l.initial.slots l.initial.held l.initial.cut l.initial.meter l.initial.contradicted
-      l.slots l.held l.cut l.meter l.contradicted l.position-index;
-  logging : Logging l.atoms 0 l.initial.noted (region l.initial.held l.initial.cut) l.decided l.noted (region l.held l.cut);
+  reads : Reading l.atoms l.rows l.positions l.initial.slots l.initial.closing.held.now l.initial.closing.cut.now l.initial.meter
+      l.initial.contradicted l.slots l.closing.held.now l.closing.cut.now l.meter l.contradicted l.position-index;
+  goes : Goes l.initial.closing l.closing;
+  held : l.closing.held.ghost_name ≡ l.initial.closing.held.ghost_name;
+  cut : l.closing.cut.ghost_name ≡ l.initial.closing.cut.ghost_name;
+  noted : l.closing.noted.ghost_name ≡ l.initial.closing.noted.ghost_name;
 }
