@@ -98,6 +98,7 @@ fn code_groups(codes: &[u64], shift: u32, atoms: u64) -> Option<usize>
         return None;
     }
     let mut count: usize = 1;
+    // By position, from the end, as run_count is.
     for i in (1..codes.len()).rev() {
         let x = codes[i - 1];
         let y = codes[i];

@@ -82,7 +82,7 @@ pub const HEAD_MARK_BORN_AT: usize = 24;
 pub const HEAD_FOUNDED_AT: usize = 25;
 
 // An answer as numbers: `refusal` is the number of a refusal, or 0; then `case` and `value` say which answer it is, and `contradicted`
-// is the code of the output that it names, or 0.
+// is the code of the output that it names, or 0. 0 in the place of a refusal, and cases by number, are what C is handed.
 #[derive(Clone, Copy)]
 pub struct ReplyWords {
     pub refusal: u64,
