@@ -229,7 +229,8 @@ struct Walk {
     last: Run,
 }
 
-// The first rows in slots, over as many atoms as codes have.
+// The first rows in slots, over as many atoms as codes have. The places are lent beside them: a struct that holds both would have to
+// promise at each step that its rows stay the same.
 #[derive(Clone, Copy)]
 struct FirstRows<'a> {
     slots: &'a [u64],

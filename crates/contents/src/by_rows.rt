@@ -72,7 +72,8 @@ fn note_places(words: &[u64], places: &mut Places) -> bool
     true
 }
 
-// Words that are searched for the postings of the row at a position.
+// Words that are searched for the postings of the row at a position. The places are lent beside it: a struct that holds them too would
+// have to promise at each step that its words stay the same.
 #[derive(Clone, Copy)]
 struct Search<'a> {
     words: &'a [u64],

@@ -17,17 +17,17 @@ step : (c : After-posting_count-count) → let a = c.args in
     × (length (postings_from p (rows_from a.self.rows a.self.slots.now p))
     ≡ n + length (postings_from (p + 1) (rows_from a.self.rows a.self.slots.now (p + 1))))
 step c =
-    total-step c.args.self.rows c.args.self.slots.now (rows-some _ _ c.args.self.held) c.loop-p.p _ c.slot_at.ensures.slot c.loop-p-test.true
+    total-step _ _ (rows-some c.args.self.held) c.loop-p.p _ c.slot_at.ensures.slot c.loop-p-test.true
     c.posting_count-count.ensures
 
 pub loop-p-init : goal.loop-p-init
 loop-p-init c =
     let a = c.args in
-    (search rules, omega (arith, total-start a.self.rows a.self.slots.now (rows-some _ _ c.args.self.held)))
+    (search rules, omega (arith, total-start _ _ (rows-some a.self.held)))
 
 pub posting_count-count-requires : goal.posting_count-count-requires
 posting_count-count-requires c =
-    holds-code c.args.self.rows c.args.self.slots.now (rows-some _ _ c.args.self.held) c.loop-p.p c.slot_at.ensures.slot c.loop-p-test.true
+    holds-code _ _ (rows-some c.args.self.held) c.loop-p.p c.slot_at.ensures.slot c.loop-p-test.true
 
 pub overflow_add-count : goal.overflow_add-count
 overflow_add-count c =
@@ -44,4 +44,4 @@ pub returns : goal.returns
 returns c =
     let a = c.args in
     let l = c.loop-p in
-    omega (arith, total-end a.self.rows a.self.slots.now (rows-some _ _ c.args.self.held) l.p c.loop-p-test.false, l.invariant.1)
+    omega (arith, total-end _ _ (rows-some a.self.held) l.p c.loop-p-test.false, l.invariant.1)

@@ -1,4 +1,5 @@
--- `contents::by_postings::FirstRows::posting_total`. The loop: what is counted, and the postings of the rows left, make the whole. Assumes nothing.
+-- `contents::by_postings::FirstRows::posting_total`. The loop: what is counted, and the postings of the rows left, make the whole.
+-- Assumes nothing.
 use mathlib.Core.Path.{◌≡◌}
 use Prim.Native.Nat.{◌+◌, ◌*◌, ◌≤◌}
 use lib.ListN.{length}
@@ -11,4 +12,5 @@ use Rattle.contents.proofs.by_postings.FirstRows.posting_total.Given as goal
 abbrev pub invariant-loop-p : goal.invariant-loop-p
 invariant-loop-p l =
     (l.count ≤ posting_words * l.p)
-    × (l.count + length (postings_from l.p (rows_from l.self.rows l.self.slots.now l.p)) ≡ length (postings_of (rows_in l.self.rows l.self.slots.now)))
+    × (l.count + length (postings_from l.p (rows_from l.self.rows l.self.slots.now l.p))
+    ≡ length (postings_of (rows_in l.self.rows l.self.slots.now)))

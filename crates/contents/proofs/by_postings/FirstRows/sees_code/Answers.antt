@@ -17,7 +17,7 @@ lies : (c : After-slot_at-slot) → LaidOut c.slot_at-slot.result.now
 lies c =
     let a = c.args in
     let r = c.requires in
-    lent-row a.self.rows a.self.slots.now a.places.now (rows-some _ _ a.self.held) r.fact_1 a.posting a.place r.fact_2 (omega (arith, r.fact_3)) _
+    lent-row _ _ _ (rows-some a.self.held) r.fact_1 a.posting a.place r.fact_2 (omega (arith, r.fact_3)) _
     c.slot_at-slot.ensures.slot
 
 once : (c : After-slot_at-slot) → let a = c.args in
@@ -26,7 +26,7 @@ once : (c : After-slot_at-slot) → let a = c.args in
 once c =
     let a = c.args in
     let r = c.requires in
-    posted-once a.self.rows a.self.slots.now a.places.now (rows-some _ _ a.self.held) r.fact_1 a.posting a.place r.fact_2 (omega (arith, r.fact_3)) _
+    posted-once _ _ _ (rows-some a.self.held) r.fact_1 a.posting a.place r.fact_2 (omega (arith, r.fact_3)) _
     c.slot_at-slot.ensures.slot
 
 pub code_steps-steps-requires-clause-fact_1 : goal.code_steps-steps-requires-clause-fact_1

@@ -16,7 +16,7 @@ lies : (c : After-slot_at-slot) → LaidOut c.slot_at-slot.result.now
 lies c =
     let a = c.args in
     let r = c.requires in
-    lent-row a.self.rows a.self.slots.now a.places.now (rows-some _ _ a.self.held) r.fact_1 a.posting a.place r.fact_2 r.fact_3.1 _ c.slot_at-slot.ensures.slot
+    lent-row _ _ _ (rows-some a.self.held) r.fact_1 a.posting a.place r.fact_2 r.fact_3.1 _ c.slot_at-slot.ensures.slot
 
 once : (c : After-slot_at-slot) → let a = c.args in
     1 ≤ times (a.posting / max_rows) (posted_atoms (row_in c.slot_at-slot.result.now))
@@ -24,7 +24,7 @@ once : (c : After-slot_at-slot) → let a = c.args in
 once c =
     let a = c.args in
     let r = c.requires in
-    posted-once a.self.rows a.self.slots.now a.places.now (rows-some _ _ a.self.held) r.fact_1 a.posting a.place r.fact_2 r.fact_3.1 _ c.slot_at-slot.ensures.slot
+    posted-once _ _ _ (rows-some a.self.held) r.fact_1 a.posting a.place r.fact_2 r.fact_3.1 _ c.slot_at-slot.ensures.slot
 
 pub has_group-requires-clause-fact_1 : goal.has_group-requires-clause-fact_1
 has_group-requires-clause-fact_1 c = lies (goal.at.has_group-requires-clause-fact_1 c).After-slot_at-slot
