@@ -14,14 +14,14 @@ goes-start c w = record {
   atoms = refl;
   whole = w.whole;
   logged = logs-none c.atoms c.decided c.noted.now (region_of c) w.room;
-  held_long = refl;
-  cut_long = refl;
-  noted_long = refl;
+  held = record { name = refl; long = refl };
+  cut = record { name = refl; long = refl };
+  noted = record { name = refl; long = refl };
 }
 
 module _ (c d : Closing) (w : Closes c) (g : Goes c d) where
   logging : Logging c.atoms c.decided c.noted.now (region_of c) d.decided d.noted.now (region_of d)
-  logging = record { logs = g.logged; long = g.noted_long }
+  logging = record { logs = g.logged; long = g.noted.long }
 
   pub goes-closes : Closes d
   goes-closes = record {
@@ -36,9 +36,9 @@ module _ (c d : Closing) (w : Closes c) (g : Goes c d) where
     whole = subst (λ (n : ℕ). T (is_region n (region_of e))) g.atoms h.whole;
     logged = logs-both c.atoms c.decided c.noted.now (region_of c) w.room d.decided d.noted.now (region_of d) logging _ _ _
         (subst (λ (n : ℕ). Logs n d.decided d.noted.now (region_of d) e.decided e.noted.now (region_of e)) g.atoms h.logged);
-    held_long = h.held_long ∙ g.held_long;
-    cut_long = h.cut_long ∙ g.cut_long;
-    noted_long = h.noted_long ∙ g.noted_long;
+    held = record { name = h.held.name ∙ g.held.name; long = h.held.long ∙ g.held.long };
+    cut = record { name = h.cut.name ∙ g.cut.name; long = h.cut.long ∙ g.cut.long };
+    noted = record { name = h.noted.name ∙ g.noted.name; long = h.noted.long ∙ g.noted.long };
   }
 
   -- what is decided in the later one, over the atoms of the first

@@ -19,8 +19,7 @@ use Rattle.meter.specs.declared.Meter.{Meter}
 use Rattle.model.specs.Closing.{going, conflict, decide_on, decides}
 use Rattle.model.specs.Priority.{Contains}
 use Rattle.model.proofs.Priority.Earning.{decides-none, decides-anew, decides-both}
-use Rattle.close_note.specs.Noting.{after_mark, Room, Logs}
-use Rattle.close_note.proofs.Logging.{logs-none}
+use Rattle.close_note.specs.Noting.{after_mark}
 use Rattle.close_publish.specs.Turns.{Beside, state, Counted}
 
 -- words that are sound where there was a region are one
@@ -73,18 +72,11 @@ module _ (n : ℕ) (held cut : List ℕ) (c : ℕ) (b : Bool) (held' cut' : List
           let a = answer-none n held cut c false held' cut' q refl in
           subst (λ (r : Region). T (is_region n r)) (ap₂ (λ (x y : List ℕ). region x y) (sym a.1) (sym a.2)) t
 
-  -- and nothing is counted or noted
+  -- and nothing is counted
   pub conflict-counts : b ≡ false → (k : ℕ) → Counted n k k (region held cut) (region held' cut')
   conflict-counts f k =
       let a = answer-none n held cut c b held' cut' e f in
       subst (Counted n k k (region held cut)) (ap₂ (λ (x y : List ℕ). region x y) (sym a.1) (sym a.2)) (counted-none n k (region held cut))
-
-  pub conflict-logs : b ≡ false → (k : ℕ) (ws : List ℕ) → Room n k ws (region held cut)
-      → Logs n k ws (region held cut) k ws (region held' cut')
-  conflict-logs f k ws w =
-      let a = answer-none n held cut c b held' cut' e f in
-      subst (λ (r : Region). Logs n k ws (region held cut) k ws r) (ap₂ (λ (x y : List ℕ). region x y) (sym a.1) (sym a.2))
-      (logs-none n k ws (region held cut) w)
 
 -- ---- whether an atom was decided
 module _ (n : ℕ) (r q : Region) (c : ℕ) (e : decide n r c ≡ some q) (s : Sound n r) where

@@ -118,9 +118,6 @@ impl Closing<'_> {
             ≡ decide_on self.old.atoms literal (state_of l self.old m) }
         ensures decides { Decides self.old self.new }
         ensures goes { Goes self.old self.new }
-        ensures held { self.new.held.ghost_name ≡ self.old.held.ghost_name }
-        ensures cut { self.new.cut.ghost_name ≡ self.old.cut.ghost_name }
-        ensures noted { self.new.noted.ghost_name ≡ self.old.noted.ghost_name }
     {
         let marking = decide_literal(self.atoms, self.held, self.cut, literal);
         if let Marking::False = marking {
@@ -141,9 +138,6 @@ impl Closing<'_> {
             (state_of l self.old meter.old) }
         ensures decides { Decides self.old self.new }
         ensures goes { Goes self.old self.new }
-        ensures held { self.new.held.ghost_name ≡ self.old.held.ghost_name }
-        ensures cut { self.new.cut.ghost_name ≡ self.old.cut.ghost_name }
-        ensures noted { self.new.noted.ghost_name ≡ self.old.noted.ghost_name }
     {
         let mut cursor = START;
         let side = slots::outputs(slot);
@@ -161,9 +155,6 @@ impl Closing<'_> {
             ≡ follow self.old.atoms (row_in slot.now) said (state_of l self.old meter.old) }
         ensures decides { Decides self.old self.new }
         ensures goes { Goes self.old self.new }
-        ensures held { self.new.held.ghost_name ≡ self.old.held.ghost_name }
-        ensures cut { self.new.cut.ghost_name ≡ self.old.cut.ghost_name }
-        ensures noted { self.new.noted.ghost_name ≡ self.old.noted.ghost_name }
     {
         match said {
             Deduction::Nothing => Ok(()),
@@ -176,8 +167,8 @@ impl Closing<'_> {
     }
 
     // Reads the row at a position. Nothing changes if nothing follows; else what the row says is decided, and then one hit is counted if
-    // that decided an atom or ended in Conflict. Stopped, and nothing changed but the meter, if the deduction's ticks were not all made. The
-    // contradicted output of a Require is handed on, and else the one before stays.
+    // that decided an atom or ended in Conflict. Stopped, and nothing changed but the meter, if the deduction's ticks were not all made.
+    // The contradicted output of a Require is handed on, and else the one before stays.
     pub fn act(
         &mut self,
         rows: u64,
@@ -189,16 +180,13 @@ impl Closing<'_> {
         requires fact_1 { Held self.old.atoms rows slots.old }
         requires fact_2 { position < rows }
         requires fact_3 { Closes self.old }
-        ensures turn { (h : Header) → ended_as result (state_of (beside (ledger_of h rows slots.new) contradicted.new)
-            self.new meter.new)
+        ensures turn { (h : Header) → ended_as result (state_of (beside (ledger_of h rows slots.new)
+            contradicted.new) self.new meter.new)
             ≡ act self.old.atoms position
             (state_of (beside (ledger_of h rows slots.old) contradicted.old) self.old meter.old) }
         ensures stands { Standing self.old.atoms rows (rows_in rows slots.old) slots.new
             self.new.held.now self.new.cut.now }
         ensures goes { Goes self.old self.new }
-        ensures held { self.new.held.ghost_name ≡ self.old.held.ghost_name }
-        ensures cut { self.new.cut.ghost_name ≡ self.old.cut.ghost_name }
-        ensures noted { self.new.noted.ghost_name ≡ self.old.noted.ghost_name }
     {
         let a = SLOT_WORDS * position;
         let e = a + SLOT_WORDS;

@@ -1,5 +1,4 @@
 -- `close_rounds::round`. One law for each way that a reading ends. Assumes nothing.
-use mathlib.Core.Path.{◌∙◌}
 use Prim.Native.Nat.{◌<◌}
 use Rattle.lists.proofs.Counts.{each_at}
 use Rattle.meter.proofs.Payments.{passed}
@@ -23,8 +22,9 @@ pub returns-in_err-act-clause-turn : goal.returns-in_err-act-clause-turn
 returns-in_err-act-clause-turn c h =
     let i = c.loop-position.invariant in
     let d = c.in_err-act.ensures in
-    let held = d.held ∙ i.held in
-    let cut = d.cut ∙ i.cut in
+    let goes = goes-on _ _ (record { whole = c.requires.fact_1.region; room = c.requires.fact_3 }) i.goes _ d.goes in
+    let held = goes.held.name in
+    let cut = goes.cut.name in
     let turn = ended-on _ (passed c.from_residual.ensures.1)
     (read-ended _ _ _ _ _ _ _ _ _ _ _ _ _ _ i.reads c.loop-position-test.true _ _ h (act-over i.goes.atoms _ _ _ (d.turn h))) in
     search rules
@@ -33,21 +33,23 @@ pub returns-in_err-act-clause-stands : goal.returns-in_err-act-clause-stands
 returns-in_err-act-clause-stands c =
     let i = c.loop-position.invariant in
     let d = c.in_err-act.ensures in
-    let held = d.held ∙ i.held in
-    let cut = d.cut ∙ i.cut in
+    let goes = goes-on _ _ (record { whole = c.requires.fact_1.region; room = c.requires.fact_3 }) i.goes _ d.goes in
+    let held = goes.held.name in
+    let cut = goes.cut.name in
     let stands = read-stands _ _ _ _ _ _ _ _ _ _ _ _ _ _ i.reads _ _ _ (stands-over i.goes.atoms _ _ _ _ _ d.stands) in
     search rules
 
 pub loop-position-preserved : goal.loop-position-preserved
 loop-position-preserved c =
     let i = c.loop-position.invariant in
-    let d = c.in_ok-act.ensures in record {
+    let d = c.in_ok-act.ensures in
+    let goes = goes-on _ _ (record { whole = c.requires.fact_1.region; room = c.requires.fact_3 }) i.goes _ d.goes in record {
       reads = read-on _ _ _ _ _ _ _ _ _ _ _ _ _ _ i.reads c.loop-position-test.true _ _ _ _ _
           (λ h. act-over i.goes.atoms _ _ _ (d.turn h)) (stands-over i.goes.atoms _ _ _ _ _ d.stands) c.act.auto.slots;
-      goes = goes-on _ _ (record { whole = c.requires.fact_1.region; room = c.requires.fact_3 }) i.goes _ d.goes;
-      held = d.held ∙ i.held;
-      cut = d.cut ∙ i.cut;
-      noted = d.noted ∙ i.noted;
+      goes = goes;
+      held = goes.held.name;
+      cut = goes.cut.name;
+      noted = goes.noted.name;
     }
 
 pub returns-clause-turn : goal.returns-clause-turn

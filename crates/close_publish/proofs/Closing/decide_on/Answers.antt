@@ -33,11 +33,8 @@ returns c =
         whole = decided-region s.atoms s.held.now s.cut.now a.literal _ _ _ d.done whole;
         logged = logs-decision s.atoms s.held.now s.cut.now a.literal s.decided s.noted.now c.requires.room _ _ _ d.said d.done whole _
             _ e.count e.words;
-        held_long = c.decide_literal-marking.auto.held;
-        cut_long = c.decide_literal-marking.auto.cut;
-        noted_long = c.note-self.auto.noted;
+        held = record { name = refl; long = c.decide_literal-marking.auto.held };
+        cut = record { name = refl; long = c.decide_literal-marking.auto.cut };
+        noted = record { name = refl; long = c.note-self.auto.noted };
       };
-      held = refl;
-      cut = refl;
-      noted = refl;
     }

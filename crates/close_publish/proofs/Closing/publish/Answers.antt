@@ -30,9 +30,6 @@ loop-literal-init c =
     let s = a.self.now in record {
       publishes = publish-start s.atoms a.slot.now c.requires.fact_1 s.held.now s.cut.now a.meter.now s.decided c.requires.fact_2.whole;
       goes = goes-start s c.requires.fact_2;
-      held = refl;
-      cut = refl;
-      noted = refl;
     }
 
 pub next_output-requires : goal.next_output-requires
@@ -67,9 +64,6 @@ loop-literal-preserved c =
           (λ l m. d.turn l m ∙ ap (λ (n : ℕ). decide_on n c.in-Some.literal.0 (state_of l s m)) i.goes.atoms)
           (decides-on _ _ c.requires.fact_2 i.goes c.decide_on.new.self d.decides) goes.whole;
       goes = goes;
-      held = d.held ∙ i.held;
-      cut = d.cut ∙ i.cut;
-      noted = d.noted ∙ i.noted;
     }
 
 pub returns-in_err-decide_on : goal.returns-in_err-decide_on
@@ -83,9 +77,6 @@ returns-in_err-decide_on c =
           (λ l m. d.turn l m ∙ ap (λ (n : ℕ). decide_on n c.in-Some.literal.0 (state_of l s m)) i.goes.atoms) b);
       decides = counted-both _ _ _ _ _ _ _ i.publishes.counted (decides-on _ _ c.requires.fact_2 i.goes c.decide_on.new.self d.decides);
       goes = goes-on _ _ c.requires.fact_2 i.goes _ d.goes;
-      held = d.held ∙ i.held;
-      cut = d.cut ∙ i.cut;
-      noted = d.noted ∙ i.noted;
     }
 
 pub returns-clause-turn : goal.returns-clause-turn

@@ -1,6 +1,5 @@
 -- `close_publish::Closing::publish`. What is left to publish, run from here, is what was left at the start; beside it goes the closing.
 -- Assumes nothing.
-use mathlib.Core.Path.{◌≡◌}
 use Rattle.model.specs.Slots.{row_in}
 use Rattle.close_publish.specs.Closed.{Goes}
 use Rattle.close_publish.proofs.Publishing.{left, Publishes}
@@ -11,9 +10,6 @@ invariant-loop-literal l = record {
   publishes : Publishes l.initial.self.atoms l.slot l.initial.self.held.now l.initial.self.cut.now l.initial.meter l.initial.self.decided
       l.self.held.now l.self.cut.now l.meter l.self.decided l.cursor;
   goes : Goes l.initial.self l.self;
-  held : l.self.held.ghost_name ≡ l.initial.self.held.ghost_name;
-  cut : l.self.cut.ghost_name ≡ l.initial.self.cut.ghost_name;
-  noted : l.self.noted.ghost_name ≡ l.initial.self.noted.ghost_name;
 }
 
 abbrev pub decreases-loop-literal : goal.decreases-loop-literal
