@@ -126,7 +126,7 @@ pub fn count_founded(slots: &[u64], rows: usize) -> u64
 {
     let mut count: u64 = 0;
     for i in 0..rows {
-        count += 1 - slots[SLOT_WORDS * i + SOURCE_AT];
+        count += u64::from(slots[SLOT_WORDS * i + SOURCE_AT] == 0);
     }
     count
 }
