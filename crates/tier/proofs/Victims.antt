@@ -3,14 +3,13 @@ use mathlib.Core.Path.{◌≡◌, refl, sym, ap, ap₂, ◌∙◌, subst}
 use mathlib.Core.Bool.{Bool, true, false, ◌||◌, not}
 use mathlib.Core.List.{List, []}
 use mathlib.Core.Option as maybe
-use Prim.Native.Nat.{ℕ, suc, ◌+◌, ◌≤◌, ◌<◌}
+use Prim.Native.Nat.{ℕ, suc, ◌+◌, ◌-◌, ◌≤◌, ◌<◌}
 use native.Mathlib.Numerals.{add-one}
 use native.Mathlib.Omega.{arith}
 use lib.Dec.{eqb}
 use lib.ListN.{length, get_or, drop, drop_of_length-le}
 use lib.Seq.{drop-cons}
 use Rattle.std.specs.Prelude.{Option, Some, None, IfSome}
-use Rattle.std.specs.Int.{from_bool}
 use Rattle.meter.specs.Meter.{pick}
 use Rattle.model.specs.declared.Source.{Source}
 use Rattle.model.specs.declared.Source.TheVariants.{Founded, Tip}
@@ -20,7 +19,7 @@ use Rattle.model.specs.Retention.{before, evictable, lesser, least_from, victim_
 use Rattle.slots.specs.Layout.{Held}
 use Rattle.slots.proofs.Holding.{no-entry}
 use Rattle.tier.specs.Tier.{word_at, lesser_of, may_go, lesser_after, least_by, victim_at}
-use Rattle.model.proofs.Slots.{entries-length}
+use Rattle.model.proofs.Slots.{entries-length, source-small}
 use Rattle.model.proofs.Entries.{founded_one, founded-cons}
 use Rattle.tier.proofs.Buffer.{hits_at_lem, born-at, source-at}
 
@@ -118,26 +117,20 @@ module _ {atoms : ℕ} (rows : ℕ) (ws : List ℕ) (k : Held atoms rows ws) whe
   abbrev held : List Entry
   held = entries_in rows ws
 
-  -- 1 for the word 0, of a Founded row
-  one_word : (s : Source) → founded_one s ≡ from_bool (eqb (source_word s) 0)
+  pub source-most : (i : ℕ) → i < rows → get_or ws (word_at i source_at) 0 ≤ 1
+  source-most i l = subst (λ (n : ℕ). n ≤ 1) (sym (source-at rows i ws k l)) (source-small (get_or held i no-entry).source)
+
+  one_word : (s : Source) → founded_one s ≡ 1 - source_word s
   one_word Founded = refl
   one_word Tip = refl
 
-  pub founded-most : (i : ℕ) → from_bool (eqb (get_or ws (word_at i source_at) 0) 0) ≤ 1
-  founded-most i = by (eqb (get_or ws (word_at i source_at) 0) 0)
-    where
-      by : (b : Bool) → from_bool b ≤ 1
-      by true = omega arith
-      by false = omega arith
-
   pub founded-step : (i : ℕ) → i < rows
-      → founded_rows (drop i held) ≡ from_bool (eqb (get_or ws (word_at i source_at) 0) 0) + founded_rows (drop (i + 1) held)
+      → founded_rows (drop i held) ≡ (1 - get_or ws (word_at i source_at) 0) + founded_rows (drop (i + 1) held)
   founded-step i l =
       let q : i < length held = subst (λ (n : ℕ). i < n) (sym (entries-length rows ws)) l in
       ap founded_rows (drop-cons held i no-entry q) ∙ founded-cons (get_or held i no-entry) (drop (suc i) held)
       ∙ ap₂ (λ (a n : ℕ). a + founded_rows (drop n held))
-      (one_word (get_or held i no-entry).source
-      ∙ ap (λ (w : ℕ). from_bool (eqb w 0)) (sym (source-at rows i ws k l))) (sym (add-one i))
+      (one_word (get_or held i no-entry).source ∙ ap (λ (w : ℕ). 1 - w) (sym (source-at rows i ws k l))) (sym (add-one i))
 
   pub founded-end : (i : ℕ) → i ≡ rows → founded_rows (drop i held) ≡ 0
   unfolding founded_rows

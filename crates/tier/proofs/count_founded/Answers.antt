@@ -1,13 +1,14 @@
 use native.Mathlib.Omega.{arith}
-use Rattle.tier.proofs.Victims.{founded-most, founded-step, founded-end}
+use Rattle.tier.proofs.Victims.{source-most, founded-step, founded-end}
 use Rattle.tier.proofs.count_founded.Goals as goal
+
+pub overflow_sub-count : goal.overflow_sub-count
+overflow_sub-count c = source-most _ _ c.requires c.loop-i.i (omega arith)
 
 pub loop-i-preserved : goal.loop-i-preserved
 loop-i-preserved c =
     let n = founded-step _ _ c.requires c.loop-i.i (omega arith) in
-    let m = founded-most _ _ c.requires c.loop-i.i in
-    let e = c.from-count.ensures in
-    record { few = omega (arith, m, e); all = omega (arith, n, e) }
+    record { few = omega arith; all = omega arith }
 
 pub returns : goal.returns
 returns c =
