@@ -126,6 +126,7 @@ pub fn count_founded(slots: &[u64], rows: usize) -> u64
 {
     let mut count: u64 = 0;
     for i in 0..rows {
+        // The word is 0 for a Founded row and 1 for a Tip, so that what it lacks of 1 is what the row counts: no test and no branch.
         count += 1 - slots[SLOT_WORDS * i + SOURCE_AT];
     }
     count
