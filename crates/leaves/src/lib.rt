@@ -67,6 +67,16 @@ fn meter_of(paying: &[u64; 4]) -> Meter
     }
 }
 
+fn purse_of(paying: &[u64; 4]) -> Purse
+    ensures account { result.account ≡ account_in paying.now }
+    ensures meter { result.meter ≡ meter_of paying.now }
+{
+    Purse {
+        account: account_of(paying),
+        meter: meter_of(paying),
+    }
+}
+
 // The number of an answer.
 fn number_of(answered: Result<bool, Unpaid>) -> u64
     ensures { result ≡ verdict_number (verdict_of answered) }
@@ -306,10 +316,7 @@ pub fn leaf_prepare(
     if slot.len() != SLOT_WORDS {
         return NO_SLOT;
     }
-    let mut purse = Purse {
-        account: account_of(paying),
-        meter: meter_of(paying),
-    };
+    let mut purse = purse_of(paying);
     let answered = prepare_times(&p, slot, &mut purse, times);
     put_judged(answered, purse, answer);
     0
@@ -339,10 +346,7 @@ pub fn leaf_includes(
     if 3 < forms {
         return NO_CHOICE;
     }
-    let mut purse = Purse {
-        account: account_of(paying),
-        meter: meter_of(paying),
-    };
+    let mut purse = purse_of(paying);
     let answered = includes_times(&a, &b, &mut purse, times);
     put_judged(answered, purse, answer);
     0
@@ -372,10 +376,7 @@ pub fn leaf_subsumes(
     if !lay(atoms, other_conditions, other_outputs, false, &mut p) {
         return NO_ROW;
     }
-    let mut purse = Purse {
-        account: account_of(paying),
-        meter: meter_of(paying),
-    };
+    let mut purse = purse_of(paying);
     if turned != 0 {
         let answered = subsumes_times(&p, &r, &mut purse, times);
         put_judged(answered, purse, answer);
@@ -417,10 +418,7 @@ pub fn leaf_union_outputs(
     if slot.len() != SLOT_WORDS {
         return NO_SLOT;
     }
-    let mut purse = Purse {
-        account: account_of(paying),
-        meter: meter_of(paying),
-    };
+    let mut purse = purse_of(paying);
     let answered = union_times(
         &r,
         other_conditions,
