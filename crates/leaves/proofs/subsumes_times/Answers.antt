@@ -13,4 +13,5 @@ pub returns : goal.returns
 returns c =
     let a = c.args in
     again-repeats _ _ (asked (subsumes (row_in a.r.now) (row_in a.s.now)) (subsumes_reads (row_in a.r.now) (row_in a.s.now))) payer
-    (λ (p : Purse). (p.account, p.meter)) judged_end (λ x r y e. let m = e.met in let s = e.shows in let l = e.leaves in search rules) (λ r y. refl) _ _ _ _ c.repeated.ensures
+    (λ (p : Purse). (p.account, p.meter)) judged_end
+    (λ x r y e. let m = e.met in let s = e.shows in let l = e.leaves in search rules) (λ r y. refl) _ _ _ _ c.repeated.ensures
