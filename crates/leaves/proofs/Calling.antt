@@ -7,12 +7,10 @@ use native.Mathlib.Omega.{arith}
 use Rattle.std.specs.Prelude.{Result, Ok, Err}
 use Rattle.meter.specs.declared.Meter.{Meter}
 use Rattle.meter.specs.declared.Stopped as error
-use Rattle.words.specs.Region.{Region}
-use Rattle.model.specs.Records.{Row}
 use Rattle.model.specs.declared.Deduction.{Deduction}
-use Rattle.row_deduce.specs.Walks.{Walked, walked}
+use Rattle.row_deduce.specs.Walks.{walked}
 use Rattle.wire.specs.Replies.{left}
-use Rattle.leaves.specs.Calls.{unless, again, deduce_once, meter_after}
+use Rattle.leaves.specs.Calls.{unless, again, meter_after}
 
 -- ---- the tests
 module _ {b : Bool} (n : ℕ) (ts : List (Bool × ℕ)) (old new : List (List ℕ)) where
@@ -41,17 +39,6 @@ module _ {S E : Type 0} (f : S → E) (next : E → S) where
   pub again-end : (left : ℕ) (s : S) {e : E} → left ≡ 0 → e ≡ f s → e ≡ again f next left s
   unfolding again
   again-end left s z e = e ∙ sym (ap (λ (n : ℕ). again f next n s) z)
-
--- a deduction, one of several: as many are left after it as were, less one
-module _ (q : Region) (r : Row) (left : ℕ) (m : Meter) {d : Walked Deduction} (e : d ≡ deduce_once q r m) where
-  pub deduce-more : 0 < left → again (deduce_once q r) meter_after (left - 1) (meter_after d) ≡ again (deduce_once q r) meter_after left m
-  deduce-more l =
-      ap (λ (x : Walked Deduction). again (deduce_once q r) meter_after (left - 1) (meter_after x)) e
-      ∙ again-suc (deduce_once q r) meter_after left m l
-
-  pub deduce-last : left ≡ 0 → d ≡ again (deduce_once q r) meter_after left m
-  unfolding again
-  deduce-last l = e ∙ sym (ap (λ (n : ℕ). again (deduce_once q r) meter_after n m) l)
 
 -- the meter after a deduction, whatever it was
 pub meter-walked : (x : Result Deduction error.Stopped) (m : Meter) → meter_after (walked x m) ≡ m

@@ -1,3 +1,4 @@
 pub mod Fitting
 pub mod Calling
 pub mod Leaving
+pub mod Repeating

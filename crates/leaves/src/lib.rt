@@ -8,7 +8,7 @@
 // and the meter that the last left; within the call, so that what is measured is the leaf function and not the layout of its rows.
 #![tactic(auto)]
 
-ghost use Rattle.std.specs.Prelude.{◌≡◌, true, [], ◌∷◌, ◌≤◌, length};
+ghost use Rattle.std.specs.Prelude.{◌≡◌, ◌-◌, true, [], ◌∷◌, ◌≤◌, length};
 ghost use Rattle.meter.specs.Meter.{pay, judged};
 ghost use Rattle.meter.specs.Results.{judged_end, verdict_of};
 ghost use Rattle.words.specs.Region.{max_atoms, region, has, mark};
@@ -27,6 +27,7 @@ ghost use Rattle.row_deduce.specs.Publication.{next_of};
 ghost use Rattle.model.specs.Answers.{flag_word};
 ghost use Rattle.wire.specs.Replies.{left};
 ghost use Rattle.leaves.specs.Fit.{LaidAs};
+ghost use Rattle.leaves.specs.Repeats.{Repeats};
 ghost use Rattle.leaves.specs.Calls.{account_in, meter_of, verdict_number, judged_words, deduced_words, next_words, row_fits};
 ghost use Rattle.leaves.specs.Calls.{asked_times, prepared, prepared_by, prepare_times, united_by, union_times, deduce_times};
 ghost use Rattle.leaves.specs.Calls.{prepare_call, includes_call, subsumes_call, union_call, deduction_call, next_call, decide_call};
@@ -64,6 +65,16 @@ fn meter_of(paying: &[u64; 4]) -> Meter
     Meter {
         charged: paying[2],
         limit: paying[3],
+    }
+}
+
+fn purse_of(paying: &[u64; 4]) -> Purse
+    ensures account { result.account ≡ account_in paying.now }
+    ensures meter { result.meter ≡ meter_of paying.now }
+{
+    Purse {
+        account: account_of(paying),
+        meter: meter_of(paying),
     }
 }
 
@@ -185,6 +196,18 @@ fn prepare(p: &[u64], slot: &mut [u64], purse: &mut Purse) -> Result<bool, Unpai
     Ok(true)
 }
 
+// What the last of so many calls returns, each with the state that the one before left. `call` may be called with any state; `prepare`
+// and `unite` ask that the words they write be as many as a slot's, so `prepare_times` and `union_times` have this loop themselves.
+fn repeated<S, R: Copy, F: Fn(&mut S) -> R>(state: &mut S, times: u64, call: F) -> R
+    requires { F.IsAlwaysCallable call }
+    ensures { Repeats F.Fn call (times - 1) state.old result state.new }
+{
+    for _ in 1..times {
+        let _ = call(state);
+    }
+    call(state)
+}
+
 fn prepare_times(p: &[u64], slot: &mut [u64], purse: &mut Purse, times: u64) -> Result<bool, Unpaid>
     requires fact_1 { Proposed p.now }
     requires fact_2 { length slot.old ≡ slot_words }
@@ -206,10 +229,11 @@ fn includes_times(a: &[u64], b: &[u64], purse: &mut Purse, times: u64) -> Result
 {
     let candidates = slots::outputs(a);
     let wanted = slots::outputs(b);
-    for _ in 1..times {
-        let _ = row_subsume::includes(a, candidates, b, wanted, purse);
-    }
-    row_subsume::includes(a, candidates, b, wanted, purse)
+    repeated(
+        purse,
+        times,
+        |purse| row_subsume::includes(a, candidates, b, wanted, purse),
+    )
 }
 
 fn subsumes_times(r: &[u64], s: &[u64], purse: &mut Purse, times: u64) -> Result<bool, Unpaid>
@@ -218,10 +242,7 @@ fn subsumes_times(r: &[u64], s: &[u64], purse: &mut Purse, times: u64) -> Result
     ensures { judged_end result purse.new ≡ asked_times (subsumes (row_in r.now) (row_in s.now))
         (subsumes_reads (row_in r.now) (row_in s.now)) times purse.old.account purse.old.meter }
 {
-    for _ in 1..times {
-        let _ = row_subsume::subsumes(r, s, purse);
-    }
-    row_subsume::subsumes(r, s, purse)
+    repeated(purse, times, |purse| row_subsume::subsumes(r, s, purse))
 }
 
 // p becomes the proposal of the lists, and then the union.
@@ -279,10 +300,11 @@ fn deduction_times(
     ensures { walked result meter.new
         ≡ deduce_times (region held.now cut.now) (row_in slot.now) times meter.old }
 {
-    for _ in 1..times {
-        let _ = row_deduce::deduction(slot, held, cut, meter);
-    }
-    row_deduce::deduction(slot, held, cut, meter)
+    repeated(
+        meter,
+        times,
+        |meter| row_deduce::deduction(slot, held, cut, meter),
+    )
 }
 
 // The form of a row and its reads; the slot has its words where they are paid.
@@ -306,10 +328,7 @@ pub fn leaf_prepare(
     if slot.len() != SLOT_WORDS {
         return NO_SLOT;
     }
-    let mut purse = Purse {
-        account: account_of(paying),
-        meter: meter_of(paying),
-    };
+    let mut purse = purse_of(paying);
     let answered = prepare_times(&p, slot, &mut purse, times);
     put_judged(answered, purse, answer);
     0
@@ -339,10 +358,7 @@ pub fn leaf_includes(
     if 3 < forms {
         return NO_CHOICE;
     }
-    let mut purse = Purse {
-        account: account_of(paying),
-        meter: meter_of(paying),
-    };
+    let mut purse = purse_of(paying);
     let answered = includes_times(&a, &b, &mut purse, times);
     put_judged(answered, purse, answer);
     0
@@ -372,10 +388,7 @@ pub fn leaf_subsumes(
     if !lay(atoms, other_conditions, other_outputs, false, &mut p) {
         return NO_ROW;
     }
-    let mut purse = Purse {
-        account: account_of(paying),
-        meter: meter_of(paying),
-    };
+    let mut purse = purse_of(paying);
     if turned != 0 {
         let answered = subsumes_times(&p, &r, &mut purse, times);
         put_judged(answered, purse, answer);
@@ -417,10 +430,7 @@ pub fn leaf_union_outputs(
     if slot.len() != SLOT_WORDS {
         return NO_SLOT;
     }
-    let mut purse = Purse {
-        account: account_of(paying),
-        meter: meter_of(paying),
-    };
+    let mut purse = purse_of(paying);
     let answered = union_times(
         &r,
         other_conditions,

@@ -1,23 +1,16 @@
--- `deduction_times`: one deduction, and as many more as were left, less one. Assumes nothing.
-use mathlib.Core.Path.{◌≡◌, refl, sym, ap₂, ◌∙◌}
-use Prim.Native.Nat.{◌+◌, ◌-◌, ◌<◌}
-use native.Mathlib.Omega.{arith}
-use Rattle.leaves.proofs.Calling.{deduce-more, deduce-last, meter-walked}
-use Rattle.leaves.proofs.deduction_times.Invariants.{deduces}
+-- `deduction_times`: each call deduces with the meter that the last left. Assumes nothing.
+use Rattle.std.proofs.Common.{rules}
+use Rattle.words.specs.Region.{region}
+use Rattle.meter.specs.declared.Meter.{Meter}
+use Rattle.model.specs.Slots.{row_in}
+use Rattle.row_deduce.specs.Walks.{walked}
+use Rattle.leaves.specs.Calls.{deduce_once, meter_after}
+use Rattle.leaves.proofs.Calling.{meter-walked}
+use Rattle.leaves.proofs.Repeating.{again-repeats}
 use Rattle.leaves.proofs.deduction_times.Goals as goal
-
-pub loop-init : goal.loop-init
-loop-init c = refl
-
-pub loop-preserved : goal.loop-preserved
-loop-preserved c =
-    let a = c.args in
-    let some : 0 < a.times - c.loop.counter = omega arith in
-    let less : a.times - (c.loop.counter + 1) ≡ a.times - c.loop.counter - 1 = omega arith in
-    ap₂ (deduces a.slot.now a.held.now a.cut.now) less (sym (meter-walked c.deduction.result c.deduction.new.meter))
-    ∙ deduce-more _ _ (a.times - c.loop.counter) c.loop.meter c.deduction.ensures some ∙ c.loop.invariant
 
 pub returns : goal.returns
 returns c =
-    let none : c.args.times - c.loop.counter ≡ 0 = omega arith in
-    deduce-last _ _ (c.args.times - c.loop.counter) c.loop.meter c.deduction-2.ensures none ∙ c.loop.invariant
+    let a = c.args in
+    again-repeats _ _ (deduce_once (region a.held.now a.cut.now) (row_in a.slot.now)) meter_after (λ (m : Meter). m) walked
+    (λ x r y e. let m = e.met in let s = e.shows in let l = e.leaves in search rules) meter-walked _ _ _ _ c.repeated.ensures

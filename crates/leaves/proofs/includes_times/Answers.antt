@@ -1,22 +1,27 @@
--- `includes_times`: one, and as many more as were left, less one. Assumes nothing.
-use mathlib.Core.Path.{◌≡◌, ap₂, ◌∙◌}
+-- `includes_times`: each call asks the same of the account and the meter that the last left. Assumes nothing.
+use mathlib.Core.Path.{◌≡◌, refl, ap₂, ◌∙◌}
 use mathlib.Core.List.{List}
-use Prim.Native.Nat.{ℕ, ◌+◌, ◌-◌, ◌<◌}
-use native.Mathlib.Omega.{arith}
+use Prim.Native.Nat.{ℕ}
+use Rattle.std.proofs.Common.{rules}
+use Rattle.meter.specs.declared.Purse.{Purse}
+use Rattle.meter.specs.Results.{judged_end}
+use Rattle.model.specs.Slots.{row_in}
 use Rattle.meter.specs.declared.Meter.{Meter}
 use Rattle.meter.specs.declared.Account.{Account}
 use Rattle.meter.specs.Judged.{Judged}
 use Rattle.meter.specs.Meter.{pay, judged}
 use Rattle.model.specs.Rows.{includes, includes_reads}
 use Rattle.slots.specs.Cursor.{list_of}
-use Rattle.leaves.specs.Calls.{payer}
-use Rattle.leaves.proofs.Calling.{again-turn, again-end}
+use Rattle.leaves.specs.Calls.{payer, asked}
+use Rattle.leaves.proofs.Repeating.{again-repeats}
 use Rattle.leaves.proofs.Fitting.{outputs-list}
 use Rattle.leaves.proofs.includes_times.Goals.{After-outputs-wanted}
-use Rattle.leaves.proofs.includes_times.Invariants.{asks}
 use Rattle.leaves.proofs.includes_times.Goals as goal
 
--- the answer of a turn, of the rows
+abbrev asks : List ℕ → List ℕ → Account × Meter → Judged
+asks a b = asked (includes (row_in a).outputs (row_in b).outputs) (includes_reads (row_in a).outputs (row_in b).outputs)
+
+-- the answer of a call, of the rows
 module _ (c : After-outputs-wanted) where
   of-rows : (x : Account) (y : Meter) {j : Judged}
       → j ≡ judged (includes (list_of c.args.a.now c.outputs-candidates.result) (list_of c.args.b.now c.outputs-wanted.result))
@@ -26,17 +31,8 @@ module _ (c : After-outputs-wanted) where
       e ∙ ap₂ (λ (l k : List ℕ). judged (includes l k) (pay (includes_reads l k) x y))
       (outputs-list _ c.requires.fact_1 c.outputs-candidates.ensures) (outputs-list _ c.requires.fact_2 c.outputs-wanted.ensures)
 
-pub loop-preserved : goal.loop-preserved
-loop-preserved c =
-    let a = c.args in
-    let some : 0 < a.times - c.loop.counter = omega arith in
-    let less : a.times - (c.loop.counter + 1) ≡ a.times - c.loop.counter - 1 = omega arith in
-    rw less (again-turn (asks a.a.now a.b.now) payer (a.times - c.loop.counter) _ some
-    (of-rows (goal.at.loop-preserved c).After-outputs-wanted _ _ c.includes.ensures) ∙ c.loop.invariant)
-
 pub returns : goal.returns
 returns c =
-    let a = c.args in
-    let none : a.times - c.loop.counter ≡ 0 = omega arith in
-    again-end (asks a.a.now a.b.now) payer (a.times - c.loop.counter) _ none
-    (of-rows (goal.at.returns c).After-outputs-wanted _ _ c.includes-2.ensures) ∙ c.loop.invariant
+    again-repeats _ _ (asks c.args.a.now c.args.b.now) payer (λ (p : Purse). (p.account, p.meter)) judged_end
+    (λ x r y e. of-rows (goal.at.returns c).After-outputs-wanted x.account x.meter
+    (let m = e.met in let s = e.shows in let l = e.leaves in search rules)) (λ r y. refl) _ _ _ _ c.repeated.ensures

@@ -26,4 +26,4 @@ returns c =
     let x = c.lay.ensures in
     includes-done _ _ _ _ _ _ _ (yes x.0 c.if-not-lay.false) (yes c.lay-2.ensures.0 c.if-not-lay-2.false) c.if-forms-gt3.false
     (told _ x.1 c.if-not-lay.false).row (told _ c.lay-2.ensures.1 c.if-not-lay-2.false).row
-    c.account_of.ensures c.meter_of.ensures c.includes_times-answered.ensures c.put_judged.ensures
+    c.purse_of-purse.ensures.account c.purse_of-purse.ensures.meter c.includes_times-answered.ensures c.put_judged.ensures

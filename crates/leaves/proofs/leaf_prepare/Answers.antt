@@ -22,4 +22,4 @@ pub returns : goal.returns
 returns c =
     let p = c.propose.ensures in
     prepare-done _ _ _ _ _ _ _ (yes p.0 c.if-not-propose.false) c.if-slot-ne-SLOT_WORDS.false (told _ p.1 c.if-not-propose.false)
-    c.account_of.ensures c.meter_of.ensures c.prepare_times-answered.ensures c.put_judged.ensures
+    c.purse_of-purse.ensures.account c.purse_of-purse.ensures.meter c.prepare_times-answered.ensures c.put_judged.ensures

@@ -21,7 +21,7 @@ returns-then-turned-ne0 c =
     let x = c.lay.ensures in
     subsumes-turned _ _ _ _ _ _ _ (yes x.0 c.if-not-lay.false) (yes c.lay-2.ensures.0 c.if-not-lay-2.false) c.if-turned-ne0.true
     (told _ c.lay-2.ensures.1 c.if-not-lay-2.false).row (told _ x.1 c.if-not-lay.false).row
-    c.account_of.ensures c.meter_of.ensures c.subsumes_times-answered.ensures c.put_judged.ensures
+    c.purse_of-purse.ensures.account c.purse_of-purse.ensures.meter c.subsumes_times-answered.ensures c.put_judged.ensures
 
 pub subsumes_times-answered-requires-2 : goal.subsumes_times-answered-requires-2
 subsumes_times-answered-requires-2 c = record {
@@ -34,4 +34,4 @@ returns c =
     let x = c.lay.ensures in
     subsumes-done _ _ _ _ _ _ _ (yes x.0 c.if-not-lay.false) (yes c.lay-2.ensures.0 c.if-not-lay-2.false) c.if-turned-ne0.false
     (told _ x.1 c.if-not-lay.false).row (told _ c.lay-2.ensures.1 c.if-not-lay-2.false).row
-    c.account_of.ensures c.meter_of.ensures c.subsumes_times-answered-2.ensures c.put_judged-2.ensures
+    c.purse_of-purse.ensures.account c.purse_of-purse.ensures.meter c.subsumes_times-answered-2.ensures c.put_judged-2.ensures

@@ -33,6 +33,7 @@ union_times-answered-requires c =
 pub returns : goal.returns
 returns c =
     let x = c.lay.ensures in
-    union-done _ _ _ _ _ _ _ _ (yes x.0 c.if-not-lay.false) (yes c.is_row.ensures c.if-not-is_row.false) c.if-maximum-gt-MAX_OUTPUTS.false c.if-slot-ne-SLOT_WORDS.false
-    (told _ x.1 c.if-not-lay.false).row c.account_of.ensures c.meter_of.ensures
+    union-done _ _ _ _ _ _ _ _ (yes x.0 c.if-not-lay.false) (yes c.is_row.ensures c.if-not-is_row.false)
+    c.if-maximum-gt-MAX_OUTPUTS.false c.if-slot-ne-SLOT_WORDS.false (told _ x.1 c.if-not-lay.false).row
+    c.purse_of-purse.ensures.account c.purse_of-purse.ensures.meter
     c.union_times-answered.ensures c.put_judged.ensures

@@ -1,21 +1,17 @@
--- `subsumes_times`: one, and as many more as were left, less one. Assumes nothing.
-use mathlib.Core.Path.{◌≡◌, ◌∙◌}
-use Prim.Native.Nat.{◌+◌, ◌-◌, ◌<◌}
-use native.Mathlib.Omega.{arith}
-use Rattle.leaves.specs.Calls.{payer}
-use Rattle.leaves.proofs.subsumes_times.Invariants.{asks}
-use Rattle.leaves.proofs.Calling.{again-turn, again-end}
+-- `subsumes_times`: each call asks the same of the account and the meter that the last left. Assumes nothing.
+use mathlib.Core.Path.{refl}
+use Rattle.meter.specs.declared.Purse.{Purse}
+use Rattle.meter.specs.Results.{judged_end}
+use Rattle.model.specs.Rows.{subsumes, subsumes_reads}
+use Rattle.model.specs.Slots.{row_in}
+use Rattle.std.proofs.Common.{rules}
+use Rattle.leaves.specs.Calls.{payer, asked}
+use Rattle.leaves.proofs.Repeating.{again-repeats}
 use Rattle.leaves.proofs.subsumes_times.Goals as goal
-
-pub loop-preserved : goal.loop-preserved
-loop-preserved c =
-    let a = c.args in
-    let some : 0 < a.times - c.loop.counter = omega arith in
-    let less : a.times - (c.loop.counter + 1) ≡ a.times - c.loop.counter - 1 = omega arith in
-    rw less (again-turn (asks a.r.now a.s.now) payer (a.times - c.loop.counter) _ some (c.subsumes.ensures) ∙ c.loop.invariant)
 
 pub returns : goal.returns
 returns c =
     let a = c.args in
-    let none : a.times - c.loop.counter ≡ 0 = omega arith in
-    again-end (asks a.r.now a.s.now) payer (a.times - c.loop.counter) _ none c.subsumes-2.ensures ∙ c.loop.invariant
+    again-repeats _ _ (asked (subsumes (row_in a.r.now) (row_in a.s.now)) (subsumes_reads (row_in a.r.now) (row_in a.s.now))) payer
+    (λ (p : Purse). (p.account, p.meter)) judged_end
+    (λ x r y e. let m = e.met in let s = e.shows in let l = e.leaves in search rules) (λ r y. refl) _ _ _ _ c.repeated.ensures
