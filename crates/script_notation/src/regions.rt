@@ -121,12 +121,7 @@ fn mark_codes(atoms: u64, set: &[u64], held: &mut [u64], cut: &mut [u64]) -> boo
 }
 
 // The region over `atoms` atoms of the literals of a set of codes. The words hold no atom yet.
-pub fn region_of<'a>(
-    atoms: u64,
-    set: &[u64],
-    held: &'a mut [u64],
-    cut: &'a mut [u64],
-) -> Lists<'a>
+pub fn region_of<'a>(atoms: u64, set: &[u64], held: &'a mut [u64], cut: &'a mut [u64]) -> Lists<'a>
     ensures { (length result.first.now ≤ length held.old) × (length result.second.now ≤ length cut.old) }
 {
     let fit = mark_codes(atoms, set, held, cut);
