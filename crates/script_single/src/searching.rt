@@ -60,11 +60,11 @@ fn put_output(
     cursor: &[u64; CURSOR_WORDS],
     head: &[u64; HEADER_WORDS],
 ) {
-    let to = match Output::from(*answer) {
+    match Output::from(*answer) {
         Output::End => out.put_text(b" End"),
         Output::Code(code) => out.put_field(b" Output ", code),
         Output::Stopped => out.put_text(b" Stopped"),
-    };
+    }
     put_charge(out, answer[2]);
     out.put_text(b" cursor=");
     out.put_list(cursor);
@@ -87,11 +87,7 @@ pub fn next(q: Asked, ledger: &Ledger, out: &mut Writer) -> Result<(), LineError
     let region = read_region(q.line, c.at, head[HEAD_ATOMS_AT], &mut held, &mut cut).ok_or(
         LineError::Malformed,
     )?;
-    let Lists {
-        first,
-        second,
-        source: _,
-    } = region;
+    let Lists { first, second, .. } = region;
     let slots = &*ledger.slots;
     let postings = &*ledger.postings;
     meter[1] = given[0];
