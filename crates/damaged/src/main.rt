@@ -90,7 +90,7 @@ const ROW_SCRATCH_LEN_AT: usize = WORDS + 10;
 
 const ATOM_SCRATCH_LEN_AT: usize = WORDS + 11;
 
-// What a call was refused by, 0 for none; and whether it changed a lent word although it refused.
+// What a call was refused by, 0 for none, as the functions for C answer; and whether it changed a lent word although it refused.
 #[derive(Clone, Copy)]
 struct Tried {
     refused: u64,
@@ -220,7 +220,8 @@ fn change(s: &[u8], at: usize, changes: u64, copy: &mut [u64; COPY_WORDS]) -> Op
     Some(next)
 }
 
-// The copies of one ledger; the place after them. Each has a byte at least.
+// The copies of one ledger; the place after them. Each has a byte at least, which the check does not know: so the turns are bounded by the
+// bytes of the input.
 fn copies(s: &[u8], at: usize, good: &[u64; COPY_WORDS], out: &mut Writer) -> Option<usize> {
     let mut next = at;
     for _ in 0..s.len() {
@@ -236,7 +237,7 @@ fn copies(s: &[u8], at: usize, good: &[u64; COPY_WORDS], out: &mut Writer) -> Op
     None
 }
 
-// The ledgers, each of which has a byte at least.
+// The ledgers, each of which has a byte at least: the turns are bounded as those of `copies` are.
 fn run(s: &[u8], out: &mut Writer) -> Option<()> {
     let mut at: usize = 0;
     for _ in 0..s.len() {

@@ -12,7 +12,8 @@ use words::MAX_ATOMS;
 // Every code is below this.
 const ALL_CODES: u64 = 2 * MAX_ATOMS;
 
-// The first code of no atom that there is room for. No ledger has it: it stands in a set for all codes from it on.
+// The first code of no atom that there is room for. No ledger has it: it stands in a set for all codes from it on,
+// for the memory of a set is fixed (`Literals`) and too small for all codes.
 const UNFIT: u64 = 2 * ATOMS;
 
 // Every code of a set is below this.

@@ -46,7 +46,7 @@ fn read_set(line: &[u8], at: usize, atoms: u64, words: &mut [u64]) -> Option<Set
 }
 
 // How many words a set over `atoms` atoms has: one too many where an atom does not fit, none where `atoms` is too large. Such words are no
-// part of a region.
+// part of a region; they are lent all the same, for it is the function for C that refuses them.
 fn word_count(atoms: u64, words: &[u64], fit: bool) -> usize
     ensures { result ≤ length words.now }
 {
@@ -110,6 +110,7 @@ fn mark_code(atoms: u64, code: u64, held: &mut [u64], cut: &mut [u64]) -> bool {
 fn mark_codes(atoms: u64, set: &[u64], held: &mut [u64], cut: &mut [u64]) -> bool {
     let mut fit = true;
     let mut from: u64 = 0;
+    // Each code is above the one before it and below CODES, so CODES turns are enough.
     for _ in 0..CODES {
         let Some(code) = words::next_from(CODES, set, from) else {
             return fit;
