@@ -20,5 +20,7 @@ pub returns : goal.returns
 returns c =
     let x = c.store.ensures in
     let f = yes x.0 c.if-not-store.false in
-    deduction-done _ _ _ _ _ _ _ f _ c.deduction_times-found.result (yes c.is_region.ensures c.if-not-is_region.false) (fits-row _ _ f _ (told _ x.1 c.if-not-store.false))
+    let there = yes c.is_region.ensures c.if-not-is_region.false in
+    let fits = fits-row _ _ f _ (told _ x.1 c.if-not-store.false) in
+    deduction-done _ _ _ _ _ _ _ f _ c.deduction_times-found.result there fits
     c.meter_of-meter.ensures c.deduction_times-found.ensures c.put_deduced.ensures

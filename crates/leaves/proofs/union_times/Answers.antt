@@ -18,4 +18,5 @@ pub returns : goal.returns
 returns c =
     let a = c.args in
     let none : a.times - c.loop.counter ≡ 0 = omega arith in
-    (again-end (asks a.r.now a.conditions.now a.outputs.now a.most) payer (a.times - c.loop.counter) _ none c.unite-2.ensures.0 ∙ c.loop.invariant, c.unite-2.ensures.1)
+    let asked = asks a.r.now a.conditions.now a.outputs.now a.most in
+    (again-end asked payer (a.times - c.loop.counter) _ none c.unite-2.ensures.0 ∙ c.loop.invariant, c.unite-2.ensures.1)
