@@ -191,8 +191,9 @@ fn prepare(p: &[u64], slot: &mut [u64], purse: &mut Purse) -> Result<bool, Unpai
     ensures { prepared (judged_end result purse.new) slot.new ≡ prepared_by (row_in p.now)
         (judged true (pay (prepare_reads (row_in p.now)) purse.old.account purse.old.meter)) slot.old }
 {
-    let form = row_write::prepare(p, purse)?;
-    row_write::write_row(slot, p, form, 0, 0, Source::Founded);
+    let prepared = row_write::prepare(p, purse);
+    prepared.paid?;
+    row_write::write_row(slot, p, prepared.form, 0, 0, Source::Founded);
     Ok(true)
 }
 

@@ -1,12 +1,12 @@
 -- 01, Meter and Paid reads: laws of one tick and of one paid read, of many, and of verdicts. Assumes nothing.
-use Rattle.std.specs.Prelude.{ℕ, zero, suc, ◌+◌, ◌-◌, ◌<◌, ◌≡◌, refl}
+use Rattle.std.specs.Prelude.{ℕ, zero, suc, ◌+◌, ◌-◌, ◌<◌, ◌≡◌, refl, Bool}
 use Rattle.std.proofs.Common.{sym, ◌∙◌, zero-add, suc-add, arith, eq-eqb, ne_eqb}
 use Rattle.meter.specs.declared.Meter.{Meter}
 use Rattle.meter.specs.Tick.{Tick, Ticked, Stopped}
 use Rattle.meter.specs.declared.Account.{Account}
 use Rattle.meter.specs.Read.{Read}
 use Rattle.meter.specs.Read as read
-use Rattle.meter.specs.Meter.{tick_of, on_tick, ticks, reads_left, one_less, pay_one, and_then, pay}
+use Rattle.meter.specs.Meter.{tick_of, on_tick, ticks, reads_left, one_less, pay_one, and_then, pay, judged}
 
 -- a paid read by the way it goes: an empty account, a tick, a stop
 pub pay-empty : (a : Account) (m : Meter) → reads_left a ≡ 0 → read.Declined a m ≡ pay_one a m
@@ -68,3 +68,16 @@ pay-left (suc n) a m h e = let s : suc n - 1 ≡ n = omega arith in rw s (pay-su
 pub pay-none : (a : Account) (m : Meter) → pay 0 a m ≡ read.Paid a m
 unfolding pay
 pay-none a m = refl
+
+-- the first read alone decides where it is not paid
+pub judged-declined : (b : Bool) (n : ℕ) (a : Account) (m : Meter) {c : Account} {k : Meter}
+    → read.Declined c k ≡ pay_one a m → judged b (read.Declined c k) ≡ judged b (pay (suc n) a m)
+judged-declined b n a m e = rw (pay-suc n a m e)
+
+pub judged-stopped : (b : Bool) (n : ℕ) (a : Account) (m : Meter) {c : Account} {k : Meter}
+    → read.Stopped c k ≡ pay_one a m → judged b (read.Stopped c k) ≡ judged b (pay (suc n) a m)
+judged-stopped b n a m e = rw (pay-suc n a m e)
+
+pub judged-paid : (b : Bool) (n : ℕ) (a : Account) (m : Meter) {c : Account} {k : Meter}
+    → read.Paid c k ≡ pay_one a m → judged b (pay n c k) ≡ judged b (pay (suc n) a m)
+judged-paid b n a m e = rw (pay-suc n a m e)

@@ -57,7 +57,9 @@ fn find_room(
             if (rows as u64) < limits.tier_rows {
                 return Some(Room::After);
             }
-            let victim = tier::victim(slots, rows, founded <= limits.founded_floor)?;
+            let Some(victim) = tier::victim(slots, rows, founded <= limits.founded_floor) else {
+                return None;
+            };
             Some(Room::Victim(victim))
         }
     }
@@ -217,9 +219,10 @@ fn pay_place(room: Room, rows: u64, p: &[u64], purse: &mut Purse) -> Result<Form
         ≡ pay (prepare_reads (row_in p.now) + room_reads room rows) purse.old.account purse.old.meter }
     ensures form { IfOk result (λ form. form ≡ form_of (row_in p.now)) }
 {
-    let form = prepare(p, purse)?;
+    let prepared = prepare(p, purse);
+    prepared.paid?;
     purse.pay_all(room_reads(room, rows))?;
-    Ok(form)
+    Ok(prepared.form)
 }
 
 // What a retention comes to: a row at a position subsumes the proposal, or the proposal has its own position.

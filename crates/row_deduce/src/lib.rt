@@ -22,7 +22,7 @@ use slots::Side;
 
 // How conditions stand in a region: all hold, one is undecided and the others hold, or nothing follows.
 #[derive(Clone, Copy)]
-enum ConditionState {
+pub enum ConditionState {
     Idle,
     Holds,
     Undecided(u64),

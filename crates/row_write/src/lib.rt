@@ -1,7 +1,7 @@
 // A row on its way into a slot: the form that it takes there, what that costs, and its words.
 #![tactic(auto)]
 
-ghost use Rattle.std.specs.Prelude.{◌≡◌, true, false, ◌+◌, ◌-◌, ◌*◌, ◌≤◌, length, IfOk};
+ghost use Rattle.std.specs.Prelude.{◌≡◌, true, false, ◌+◌, ◌-◌, ◌*◌, ◌≤◌, length};
 ghost use Rattle.lists.specs.Lists.{pad, zeroed, below};
 ghost use Rattle.words.specs.Region.{max_atoms};
 ghost use Rattle.meter.specs.Meter.{pay};
@@ -83,16 +83,23 @@ fn reads_of(literals: u64, form: Form) -> u64
     2 * literals
 }
 
-// The form of a proposal's row, once its reads are paid: each literal once, and again to pack it.
-pub fn prepare(p: &[u64], purse: &mut Purse) -> Result<Form, Unpaid>
+// A row prepared: the form of a proposal's row, and how the reads for it were paid.
+#[derive(Clone, Copy)]
+pub struct Prepared {
+    pub form: Form,
+    pub paid: Result<(), Unpaid>,
+}
+
+// The form of a proposal's row, whether or not its reads are paid: each literal once, and again to pack it.
+pub fn prepare(p: &[u64], purse: &mut Purse) -> Prepared
     requires { Proposed p.now }
-    ensures reads { read_end result purse.new ≡ pay (prepare_reads (row_in p.now)) purse.old.account purse.old.meter }
-    ensures form { IfOk result (λ form. form ≡ form_of (row_in p.now)) }
+    ensures reads { read_end result.paid purse.new ≡ pay (prepare_reads (row_in p.now)) purse.old.account purse.old.meter }
+    ensures form { result.form ≡ form_of (row_in p.now) }
 {
     let form = form_of(p);
     let reads = reads_of(p[CONDITIONS_AT] + p[OUTPUTS_AT], form);
-    purse.pay_all(reads)?;
-    Ok(form)
+    let paid = purse.pay_all(reads);
+    Prepared { form, paid }
 }
 
 // Where the bits of a code's sign stand in the group at `at`: present bits before absent bits.

@@ -10,10 +10,10 @@ use crate::regions::{read_region, region_of};
 use text::{ended, filled, kept};
 
 // The two lists, and the source of a row, 0 where there is none.
-#[derive(Drop)]
+#[derive(Clone, Copy)]
 pub struct Lists<'a> {
-    pub first: &'a mut [u64],
-    pub second: &'a mut [u64],
+    pub first: &'a [u64],
+    pub second: &'a [u64],
     pub source: u64,
 }
 
@@ -44,8 +44,8 @@ fn read_codes<'a>(
     let n = kept(first, c.count);
     let m = kept(second, o.count);
     Some(Lists {
-        first: &mut first[..n],
-        second: &mut second[..m],
+        first: &first[..n],
+        second: &second[..m],
         source,
     })
 }
@@ -72,8 +72,8 @@ fn read_rule<'a>(
     let n = gather(&conditions, first);
     let m = gather(&outputs, second);
     Some(Lists {
-        first: &mut first[..n],
-        second: &mut second[..m],
+        first: &first[..n],
+        second: &second[..m],
         source,
     })
 }
@@ -116,8 +116,8 @@ pub fn read_lists<'a>(
         Call::Plan => read_plan(line, at, points, atoms, first, second),
         Call::Deduce | Call::Next | Call::Close => read_region(line, at, atoms, first, second),
         _ if ended(line, at) => Some(Lists {
-            first: &mut first[..0],
-            second: &mut second[..0],
+            first: &first[..0],
+            second: &second[..0],
             source: 0,
         }),
         _ => None,

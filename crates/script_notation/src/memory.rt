@@ -5,7 +5,7 @@ use wire::HEADER_WORDS;
 use words::WORD_BITS;
 
 // How many ledgers a script has, and the rows and the atoms that each has room for.
-const LEDGERS: usize = 4;
+pub const LEDGERS: usize = 4;
 
 pub const ROWS: u64 = 512;
 
@@ -15,9 +15,9 @@ pub const ATOMS: u64 = 200000;
 pub const NUMBERS: usize = 65536;
 
 // The words of the slots and of the postings of one ledger.
-const SLOTS: usize = (ROWS as usize) * SLOT_WORDS;
+pub const SLOTS: usize = (ROWS as usize) * SLOT_WORDS;
 
-const POSTINGS: usize = (ROWS as usize) * POSTING_WORDS;
+pub const POSTINGS: usize = (ROWS as usize) * POSTING_WORDS;
 
 // How many atoms can have a name.
 const POINTS: usize = 1024;

@@ -29,7 +29,7 @@ fn is_inner(byte: u8) -> bool {
 }
 
 // Whether a word is a name.
-fn is_name(word: &[u8]) -> bool {
+pub fn is_name(word: &[u8]) -> bool {
     match word {
         [] => false,
         [first, ..] => {

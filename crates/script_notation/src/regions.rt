@@ -73,8 +73,8 @@ fn region<'a>(
     let n = word_count(atoms, held, held_fit);
     let m = word_count(atoms, cut, cut_fit);
     Lists {
-        first: &mut held[..n],
-        second: &mut cut[..m],
+        first: &held[..n],
+        second: &cut[..m],
         source: 0,
     }
 }

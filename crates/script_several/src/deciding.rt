@@ -2,7 +2,6 @@
 // has no room for so many atoms; more than there can be are refused.
 use boundary::ledger_decide;
 use script_answers::{put_case, put_refused};
-use script_notation::arguments::Lists;
 use script_notation::calls::LineError;
 use script_notation::memory::{ATOMS, List};
 use script_notation::regions::{put_region, read_region};
@@ -29,18 +28,17 @@ pub fn decide(line: &[u8], at: usize, out: &mut Writer) -> Result<(), LineError>
     if !has_room(atoms) {
         return Err(LineError::NoRoom);
     }
-    let Lists {
-        first,
-        second,
-        source: _,
-    } = region;
-    let refusal = ledger_decide(&mut answer, atoms, first, second, atom, value);
+    let n = region.first.len();
+    let m = region.second.len();
+    let held = &mut held[..n];
+    let cut = &mut cut[..m];
+    let refusal = ledger_decide(&mut answer, atoms, held, cut, atom, value);
     out.put_text(b"decide");
     if refusal != 0 {
         put_refused(out, refusal);
         return Ok(());
     }
     put_case(out, b"False True", &answer);
-    put_region(out, atoms, first, second, &[]);
+    put_region(out, atoms, held, cut, &[]);
     Ok(())
 }

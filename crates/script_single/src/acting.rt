@@ -16,7 +16,7 @@ use boundary::{ledger_begin, ledger_close, ledger_deduce, ledger_hit, ledger_off
 use script_answers::{
     Deduced, Offered, contradicted, put_call, put_case, put_charge, put_head, put_refused, put_row,
 };
-use script_notation::arguments::{Lists, read_lists};
+use script_notation::arguments::read_lists;
 use script_notation::calls::{Asked, Call, LineError};
 use script_notation::ledgers::Ledger;
 use script_notation::literals::put_literal;
@@ -61,7 +61,9 @@ fn operate(
     call: Call,
     given: &[u64; 2],
     ledger: &mut Ledger,
-    lists: &mut Lists,
+    first: &mut [u64],
+    second: &mut [u64],
+    source: u64,
     answer: &mut [u64; ANSWER_WORDS],
 ) -> u64 {
     let mut meter = [0u64; METER_WORDS];
@@ -69,17 +71,12 @@ fn operate(
     let head = &mut *ledger.head;
     let slots = &mut *ledger.slots;
     let postings = &mut *ledger.postings;
-    let first = &mut *lists.first;
-    let second = &mut *lists.second;
     match call {
         Call::Begin => ledger_begin(head, answer, slots, postings),
         Call::Hit => ledger_hit(head, answer, slots, postings, given[0]),
-        Call::Offer | Call::Rule | Call::Tip => {
-            let source = lists.source;
-            ledger_offer(
-                head, answer, &mut meter, slots, postings, first, second, source,
-            )
-        }
+        Call::Offer | Call::Rule | Call::Tip => ledger_offer(
+            head, answer, &mut meter, slots, postings, first, second, source,
+        ),
         Call::Deduce => ledger_deduce(
             head, answer, &mut meter, slots, postings, given[1], first, second,
         ),
@@ -162,16 +159,17 @@ fn put_closed(
     call: Call,
     answer: &[u64; ANSWER_WORDS],
     atoms: u64,
-    region: &Lists,
+    held: &[u64],
+    cut: &[u64],
     points: &[Option<Point>],
 ) {
     match call {
         Call::Close => {
-            put_region(out, atoms, region.first, region.second, &[]);
+            put_region(out, atoms, held, cut, &[]);
             put_contradicted(out, contradicted(answer));
         }
         Call::Plan => {
-            put_region(out, atoms, region.first, region.second, points);
+            put_region(out, atoms, held, cut, points);
             put_because(out, contradicted(answer), points);
         }
         _ => {}
@@ -184,13 +182,15 @@ fn put_answer(
     call: Call,
     answer: &[u64; ANSWER_WORDS],
     ledger: &Ledger,
-    lists: &Lists,
+    first: &[u64],
+    second: &[u64],
     points: &[Option<Point>],
 ) {
     let head = *ledger.head;
     put_word(out, call, answer, ledger.slots, points);
     put_charge(out, answer[2]);
-    put_closed(out, call, answer, head[HEAD_ATOMS_AT], lists, points);
+    let atoms = head[HEAD_ATOMS_AT];
+    put_closed(out, call, answer, atoms, first, second, points);
     put_head(out, &head);
 }
 
@@ -209,15 +209,20 @@ pub fn act(
     let at = text::numbers(q.line, q.at, &mut given[..n]).ok_or(LineError::Malformed)?;
     let head = *ledger.head;
     let atoms = head[HEAD_ATOMS_AT];
-    let mut lists = read_lists(call, q.line, at, points, atoms, &mut first, &mut second).ok_or(
+    let lists = read_lists(call, q.line, at, points, atoms, &mut first, &mut second).ok_or(
         LineError::Malformed,
     )?;
-    let refusal = operate(call, &given, ledger, &mut lists, &mut answer);
+    let source = lists.source;
+    let n = lists.first.len();
+    let m = lists.second.len();
+    let first = &mut first[..n];
+    let second = &mut second[..m];
+    let refusal = operate(call, &given, ledger, first, second, source, &mut answer);
     put_call(out, q.line, q.index);
     if refusal != 0 {
         put_refused(out, refusal);
         return Ok(());
     }
-    put_answer(out, call, &answer, ledger, &lists, points);
+    put_answer(out, call, &answer, ledger, first, second, points);
     Ok(())
 }

@@ -1,5 +1,4 @@
 -- `find_room` meets its contract, test by test. Assumes nothing.
-use mathlib.Core.Path.{◌∙◌}
 use Rattle.model.proofs.Slots.{entries-length}
 use Rattle.retain.proofs.Places.{room-first, room_after, room-full}
 use Rattle.retain.proofs.find_room.Goals as goal
@@ -11,13 +10,12 @@ pub returns-then-rows-limits : goal.returns-then-rows-limits
 returns-then-rows-limits c =
     room_after _ _ _ _ (entries-length c.args.rows c.args.slots.now) c.in-None.ensures c.if-rows-limits.true
 
-pub returns-in_ok-victim-in-None : goal.returns-in_ok-victim-in-None
-returns-in_ok-victim-in-None c =
+pub returns-in-Some-victim : goal.returns-in-Some-victim
+returns-in-Some-victim c =
     room-full _ _ _ _ (entries-length c.args.rows c.args.slots.now) c.in-None.ensures c.if-rows-limits.false _
-    c.requires.fact_2 _ c.in_ok-victim-in-None.ensures
+    c.requires.fact_2 _ c.in-Some-victim.ensures
 
-pub returns-in_err-victim-in-None : goal.returns-in_err-victim-in-None
-returns-in_err-victim-in-None c =
-    c.from_residual.ensures
-    ∙ room-full _ _ _ _ (entries-length c.args.rows c.args.slots.now) c.in-None.ensures c.if-rows-limits.false _
-    c.requires.fact_2 _ c.in_err-victim-in-None.ensures
+pub returns-in_default : goal.returns-in_default
+returns-in_default c =
+    room-full _ _ _ _ (entries-length c.args.rows c.args.slots.now) c.in-None.ensures c.if-rows-limits.false _
+    c.requires.fact_2 _ c.in_default.ensures

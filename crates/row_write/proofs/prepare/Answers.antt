@@ -3,13 +3,11 @@ use native.Mathlib.Omega.{arith}
 use mathlib.Core.Path.{◌≡◌, ap, ap₂, ◌∙◌}
 use Prim.Native.Nat.{ℕ}
 use Rattle.meter.specs.Meter.{pay}
-use Rattle.meter.proofs.Payments.{passed}
 use Rattle.model.specs.Rows.{prepare_reads}
 use Rattle.model.specs.Slots.{row_in}
 use Rattle.row_write.specs.Forms.{reads_for}
 use Rattle.row_write.proofs.Forms.{reads-form}
 use Rattle.row_write.proofs.Proposal.{counts}
-use Rattle.row_write.proofs.prepare.Goals.{After-pay_all}
 use Rattle.row_write.proofs.prepare.Goals as goal
 
 pub bounds-p-0 : goal.bounds-p-0
@@ -24,23 +22,8 @@ overflow_add-p c = let k = counts c.requires in omega arith
 pub reads_of-reads-requires : goal.reads_of-reads-requires
 reads_of-reads-requires c = let k = counts c.requires in omega arith
 
--- the reads that are paid
-module _ (c : After-pay_all) where
-  reads-are : c.reads_of-reads.result ≡ prepare_reads (row_in c.args.p.now)
-  reads-are =
-      c.reads_of-reads.ensures ∙ ap₂ reads_for (counts c.requires).all c.form_of-form.ensures ∙ reads-form (row_in c.args.p.now)
-
-  paid : pay c.reads_of-reads.result c.args.purse.now.account c.args.purse.now.meter
-      ≡ pay (prepare_reads (row_in c.args.p.now)) c.args.purse.now.account c.args.purse.now.meter
-  paid = ap (λ (n : ℕ). pay n c.args.purse.now.account c.args.purse.now.meter) reads-are
-
 pub returns-clause-reads : goal.returns-clause-reads
-returns-clause-reads c = c.in_ok-pay_all.ensures ∙ paid (goal.at.returns-clause-reads c).After-pay_all
-
-pub returns-in_err-pay_all : goal.returns-in_err-pay_all
-returns-in_err-pay_all c =
-    let e = passed c.from_residual.ensures.1 in
-    record {
-      reads = rw e (c.in_err-pay_all.ensures ∙ paid (goal.at.returns-in_err-pay_all c).After-pay_all);
-      form = rw e tt;
-    }
+returns-clause-reads c =
+    let reads-are : c.reads_of-reads.result ≡ prepare_reads (row_in c.args.p.now) =
+        c.reads_of-reads.ensures ∙ ap₂ reads_for (counts c.requires).all c.form_of-form.ensures ∙ reads-form (row_in c.args.p.now) in
+    c.pay_all-paid.ensures ∙ ap (λ (n : ℕ). pay n c.args.purse.now.account c.args.purse.now.meter) reads-are
