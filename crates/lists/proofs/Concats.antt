@@ -8,7 +8,12 @@ use native.Mathlib.Omega.{arith}
 use lib.ListN.{length, get_or, set, take, drop, length-append}
 use lib.Seq.{take_at, take-nil, drop_at, drop-cons, set_split, take-append-add, drop-append-add}
 use borrow.Rule.Slice.PartMut.{put_mid}
-use Rattle.lists.specs.Lists.{concat}
+use Rattle.lists.specs.Lists.{concat, sum}
+
+pub sum-append : (xs ys : List ℕ) → sum (xs ++ ys) ≡ sum xs + sum ys
+unfolding sum
+sum-append [] ys = omega arith
+sum-append (x ∷ xs) ys = omega (arith, sum-append xs ys)
 
 module _ {A : Type 0} where
   pub concat-append : (xss yss : List (List A)) → concat (xss ++ yss) ≡ concat xss ++ concat yss
@@ -16,6 +21,11 @@ module _ {A : Type 0} where
   concat-append [] yss = refl
   concat-append (xs ∷ xss) yss =
       ap (λ (r : List A). xs ++ r) (concat-append xss yss) ∙ sym (append_assoc xs (concat xss) (concat yss))
+
+  pub length-concat : (xss : List (List A)) → length (concat xss) ≡ sum (map length xss)
+  unfolding concat sum
+  length-concat [] = refl
+  length-concat (xs ∷ xss) = length-append xs (concat xss) ∙ ap (λ (n : ℕ). length xs + n) (length-concat xss)
 
 pub map-append : {A B : Type 0} (f : A → B) (xs ys : List A) → map f (xs ++ ys) ≡ map f xs ++ map f ys
 map-append f [] ys = refl

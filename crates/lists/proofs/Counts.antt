@@ -7,11 +7,11 @@ use Prim.Native.Nat.{ℕ, zero, suc, ◌+◌, ◌≤◌, ◌<◌}
 use native.Mathlib.Numerals.{add-one}
 use native.Mathlib.Omega.{arith}
 use lib.Dec.{eqb, ltb}
-use lib.ListN.{length, get_or, set, take, drop, take-append-drop}
+use lib.ListN.{length, get_or, set, take, drop, replicate, take-append-drop}
 use lib.Seq.{take-suc}
 use borrow.Author.Tests.{eqb-true, eqb-false, eq-eqb, ne_eqb, ltb-true, ltb-false}
 use Rattle.lists.specs.Counts.{is, times, Perm, Each}
-use Rattle.lists.specs.Lists.{concat, select}
+use Rattle.lists.specs.Lists.{concat, select, sum}
 
 pub same_or : (m n : ℕ) → (m ≡ n) ⊎ (m ≡ n → ⊥)
 same_or m n = go (eqb m n) refl
@@ -84,6 +84,15 @@ pub times-le : (v : ℕ) (xs : List ℕ) → times v xs ≤ length xs
 times-le v [] = omega arith
 times-le v (x ∷ xs) = omega (arith, is_le v x, times-le v xs)
 
+pub times-replicate : (v n a : ℕ) → (v ≡ a → ⊥) → times v (replicate n a) ≡ 0
+times-replicate v zero a h = refl
+times-replicate v (suc n) a h = omega (arith, is-other v a h, times-replicate v n a h)
+
+pub times-concat : (v : ℕ) (xss : List (List ℕ)) → times v (concat xss) ≡ sum (map (times v) xss)
+unfolding concat sum
+times-concat v [] = refl
+times-concat v (xs ∷ xss) = times-append v xs (concat xss) ∙ ap (λ (n : ℕ). times v xs + n) (times-concat v xss)
+
 -- a map that sends u, and nothing else, to v; one that sends nothing to v
 pub times-map : (f : ℕ → ℕ) (v u : ℕ) (xs : List ℕ) → ((x : ℕ) → is v (f x) ≡ is u x) → times v (map f xs) ≡ times u xs
 times-map f v u [] h = refl
@@ -155,8 +164,14 @@ each_map P f [] h = λ v k. absurd (omega arith)
 each_map P f (x ∷ xs) h =
     each-cons P (f x) (map f xs) (each-head (λ y. P (f y)) x xs h) (each_map P f xs (each_tail (λ y. P (f y)) x xs h))
 
+pub each_take : (P : ℕ → Type 0) (n : ℕ) (xs : List ℕ) → Each P xs → Each P (take n xs)
+each_take P n xs f v h = f v (omega (arith, times-split v n xs))
+
 pub each-drop : (P : ℕ → Type 0) (n : ℕ) (xs : List ℕ) → Each P xs → Each P (drop n xs)
 each-drop P n xs f v h = f v (omega (arith, times-split v n xs))
+
+pub each-perm : (P : ℕ → Type 0) (xs ys : List ℕ) → Perm xs ys → Each P xs → Each P ys
+each-perm P xs ys p f v h = f v (omega (arith, p v))
 
 -- what lacks the property does not stand there
 pub each_none : (P : ℕ → Type 0) (v : ℕ) (xs : List ℕ) → Each P xs → (P v → ⊥) → times v xs ≡ 0

@@ -130,6 +130,10 @@ unfolding mark_all
 mark-append ms [] qs = refl
 mark-append ms (p ∷ ps) qs = mark-append (set ms p 1) ps qs
 
+pub mark-one : (ms ps : List ℕ) (p : ℕ) → mark_all ms (p ∷ ps) ≡ mark_all (set ms p 1) ps
+unfolding mark_all
+mark-one ms ps p = refl
+
 pub length-mark : (ms ps : List ℕ) → length (mark_all ms ps) ≡ length ms
 unfolding mark_all
 length-mark ms [] = refl

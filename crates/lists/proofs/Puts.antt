@@ -12,6 +12,10 @@ use Rattle.lists.proofs.Concats.{drop-next}
 pub put-none : (i : ℕ) (ws : List ℕ) → put i [] ws ≡ ws
 put-none i ws = take-append-drop i ws
 
+pub put-end : (i : ℕ) (xs ws : List ℕ) → length xs ≡ 0 → put i xs ws ≡ ws
+put-end i [] ws e = put-none i ws
+put-end i (x ∷ xs) ws e = absurd (omega arith)
+
 pub put_whole : (xs ws : List ℕ) → length ws ≡ length xs → put 0 xs ws ≡ xs
 put_whole xs ws e =
     ap (λ (l : List ℕ). xs ++ l) (drop_of_length-le ws {i = length xs} (omega arith)) ∙ append-nil xs

@@ -53,6 +53,12 @@ module _ {A : Type 0} (f : A → Bool) where
       go true ih = omega arith
       go false ih = omega arith
 
+  pub select-all : (xs : List A) (d : A) → ((i : ℕ) → i < length xs → f (get_or xs i d) ≡ true) → select f xs ≡ xs
+  unfolding select
+  select-all [] d h = refl
+  select-all (x ∷ xs) d h =
+      select_yes x xs (h 0 (omega arith)) ∙ ap (λ (r : List A). x ∷ r) (select-all xs d (λ i l. h (suc i) (omega arith)))
+
   pub select-none : (xs : List A) (d : A) → ((i : ℕ) → i < length xs → f (get_or xs i d) ≡ false) → select f xs ≡ []
   unfolding select
   select-none [] d h = refl
@@ -64,6 +70,24 @@ module _ {A : Type 0} (f : A → Bool) where
   select-drop-yes xs i d l e =
       ap (select f) (drop-cons xs i d l) ∙ select_yes (get_or xs i d) (drop (suc i) xs) e
       ∙ ap (λ (k : ℕ). get_or xs i d ∷ select f (drop k xs)) (sym (add-one i))
+
+  pub select-drop-no : (xs : List A) (i : ℕ) (d : A) → i < length xs → f (get_or xs i d) ≡ false →
+      select f (drop i xs) ≡ select f (drop (i + 1) xs)
+  select-drop-no xs i d l e =
+      ap (select f) (drop-cons xs i d l) ∙ select_no (get_or xs i d) (drop (suc i) xs) e
+      ∙ ap (λ (k : ℕ). select f (drop k xs)) (sym (add-one i))
+
+pub select-map : {A B : Type 0} (f : B → Bool) (g : A → B) (xs : List A) →
+    select f (map g xs) ≡ map g (select (λ x. f (g x)) xs)
+unfolding select
+select-map f g [] = refl
+select-map {A} {B} f g (x ∷ xs) = go (f (g x)) (select-map f g xs)
+  where
+    go : (b : Bool) → select f (map g xs) ≡ map g (select (λ y. f (g y)) xs) →
+        (elim b as (λ k. List B) [ true ↦ g x ∷ select f (map g xs) | false ↦ select f (map g xs) ])
+        ≡ map g (elim b as (λ k. List A) [ true ↦ x ∷ select (λ y. f (g y)) xs | false ↦ select (λ y. f (g y)) xs ])
+    go true ih = ap (λ (r : List B). g x ∷ r) ih
+    go false ih = ih
 
 pub select-cong : (f g : ℕ → Bool) (xs : List ℕ) → Each (λ v. f v ≡ g v) xs → select f xs ≡ select g xs
 unfolding select
@@ -149,6 +173,12 @@ module _ {A : Type 0} (f : A → A) where
   adjust-set n [] d l = absurd (omega arith)
   adjust-set zero (x ∷ xs) d l = refl
   adjust-set (suc n) (x ∷ xs) d l = ap (λ (r : List A). x ∷ r) (adjust-set n xs d (omega arith))
+
+  pub adjust-past : (n : ℕ) (xs : List A) → length xs ≤ n → adjust f n xs ≡ xs
+  unfolding adjust
+  adjust-past n [] l = refl
+  adjust-past zero (x ∷ xs) l = absurd (omega arith)
+  adjust-past (suc n) (x ∷ xs) l = ap (λ (r : List A). x ∷ r) (adjust-past n xs (omega arith))
 
   -- a view that the change leaves alone
   pub map-adjust : {B : Type 0} (g : A → B) (n : ℕ) (xs : List A) → ((x : A) → g (f x) ≡ g x) →

@@ -13,7 +13,7 @@ use borrow.Author.Tests.{eqb-true, eq-eqb, lt-ltb, ltb-true, le-ltb}
 use Rattle.lists.specs.Counts.{is, times, Each, Sorted}
 use Rattle.lists.specs.Lists.{all, any, same, above, ascending, below}
 use Rattle.lists.proofs.Counts.{is_le, is_pos, each_at, each_index, each-cons, each_none}
-use Rattle.lists.proofs.Bools.{and_both, and_yes, and_assoc, or_assoc}
+use Rattle.lists.proofs.Bools.{and_both, and_yes, and-false, and_assoc, or_assoc}
 
 -- ---- `all` and `any`
 module _ {A : Type 0} (f : A → Bool) where
@@ -32,6 +32,12 @@ module _ {A : Type 0} (f : A → Bool) where
   unfolding all
   all_yes [] d h = refl
   all_yes (x ∷ xs) d h = and_yes (f x) (all f xs) (h 0 (omega arith)) (all_yes xs d (λ i l. h (suc i) (omega arith)))
+
+  pub all-no : (xs : List A) (i : ℕ) (d : A) → i < length xs → f (get_or xs i d) ≡ false → all f xs ≡ false
+  unfolding all
+  all-no [] i d l e = absurd (omega arith)
+  all-no (x ∷ xs) zero d l e = rw (e, all)
+  all-no (x ∷ xs) (suc i) d l e = ap (λ (b : Bool). f x && b) (all-no xs i d (omega arith) e) ∙ and-false (f x)
 
   -- a turn of a loop over the list
   pub all_drop : (xs : List A) (i : ℕ) (d : A) → i < length xs →
@@ -101,6 +107,9 @@ same-no xs ys n = go (same xs ys) refl
     go : (b : Bool) → same xs ys ≡ b → b ≡ false
     go true e = absurd (n (same_true xs ys e))
     go false e = refl
+
+pub same_false : (xs ys : List ℕ) → same xs ys ≡ false → xs ≡ ys → ⊥
+same_false xs ys e f = false≢true (sym e ∙ same-yes xs ys f)
 
 -- of a list in two parts
 pub same-append : (n : ℕ) (ws xs ys : List ℕ) → n ≤ length ws → length xs ≡ n →

@@ -7,14 +7,14 @@ use Prim.Native.Nat.{ℕ, zero, suc, ◌+◌, ◌≤◌, ◌<◌}
 use native.Mathlib.Numerals.{add-one}
 use native.Mathlib.Omega.{arith}
 use lib.ListN.{length, get_or, take, length-take}
-use lib.Seq.{take-suc}
+use lib.Seq.{take-suc, take_all}
 use borrow.Author.Tests.{eq-eqb, ne_eqb}
 use Rattle.lists.specs.Counts.{is, times, Each, Sorted}
 use Rattle.lists.specs.Lists.{sort_of}
 use Rattle.lists.specs.Runs.{run_after}
 use Rattle.lists.specs.declared.runs.Run.{Run}
-use Rattle.lists.proofs.Counts.{same_or, is_le, is_same, is_pos, times_more, times-le, each_none}
-use Rattle.lists.proofs.Sorts.{sorted-snoc, sorted_before, sort_sorted}
+use Rattle.lists.proofs.Counts.{same_or, is_le, is_same, is_pos, times_more, times-le, times-take-le, each_none}
+use Rattle.lists.proofs.Sorts.{sorted-snoc, sorted_before, sort-perm, sort_sorted, sort-full}
 
 pub word_after : (r : Run) (x : ℕ) → (run_after r x).word ≡ x
 unfolding run_after
@@ -38,6 +38,17 @@ pub record Checked (xs ys : List ℕ) (run : Run) (i : ℕ) : Type 0 where
   pub runs : run.times ≡ times run.word (take i xs)
   pub few : (v : ℕ) → times v (take i xs) ≤ times v ys
 
+pub checked-start : (xs ys : List ℕ) → length xs ≡ length ys → Checked xs ys (record { word = 0; times = 0 }) 0
+checked-start xs ys e = record {
+  far = omega arith;
+  long = e;
+  sorted = tt;
+  top = λ v h. absurd (omega arith);
+  held = λ h. absurd (omega arith);
+  runs = refl;
+  few = λ v. omega arith;
+}
+
 pub checked-small : (xs ys : List ℕ) (run : Run) (i : ℕ) → Checked xs ys run i → run.times ≤ i
 checked-small xs ys run i c = omega (arith, c.runs, times-le run.word (take i xs), length-take i xs)
 
@@ -59,6 +70,14 @@ module _ (xs ys : List ℕ) (run : Run) (i : ℕ) where
       go (inr n) =
           let z = each_none (λ v. v ≤ run.word) (get_or xs i 0) (take i xs) c.top (λ k. n (omega arith)) in
           times-new run (get_or xs i 0) n ∙ omega arith
+
+  -- a word more often than in ys
+  pub checked-many : Checked xs ys run i → i < length xs → run.word ≤ get_or xs i 0 →
+      times (get_or xs i 0) ys < (run_after run (get_or xs i 0)).times → xs ≡ sort_of ys → ⊥
+  checked-many c l p h e =
+      let x = get_or xs i 0 in
+      let s : times x xs ≡ times x ys = ap (times x) e ∙ sort-perm ys x in
+      omega (arith, run-times c p, times_more x xs i l, times-take-le x (i + 1) xs, is_same x)
 
   pub checked-more : Checked xs ys run i → i < length xs → run.word ≤ get_or xs i 0 →
       (run_after run (get_or xs i 0)).times ≤ times (get_or xs i 0) ys → Checked xs ys (run_after run (get_or xs i 0)) (i + 1)
@@ -86,3 +105,8 @@ module _ (xs ys : List ℕ) (run : Run) (i : ℕ) where
       each v (suc k) f =
           rw (is_pos v (get_or xs i 0) (omega arith))
           (omega (arith, times_more (get_or xs i 0) xs i l, run-times c p, is_le (get_or xs i 0) (get_or xs i 0)))
+
+pub checked-end : (xs ys : List ℕ) (run : Run) (i : ℕ) → Checked xs ys run i → length xs ≤ i → xs ≡ sort_of ys
+checked-end xs ys run i c h =
+    let e : take i xs ≡ xs = take_all i xs h in
+    sort-full xs ys (rw e at c.sorted) c.long (λ v. rw e at (c.few v))

@@ -6,7 +6,7 @@ use Prim.Native.Nat.{ℕ, suc, ◌+◌, ◌-◌, ◌<◌, ◌≤◌}
 use native.Mathlib.Nat.{add-zero}
 use native.Mathlib.Omega.{arith}
 use Rattle.std.specs.Prelude.{Result, Ok, Err}
-use Rattle.std.specs.Result.{IsErrAnd}
+use Rattle.std.specs.Result.{IsErrAnd, OnOk}
 use Rattle.meter.specs.declared.Meter.{Meter}
 use Rattle.meter.specs.declared.Account.{Account}
 use Rattle.meter.specs.declared.Purse.{Purse}
@@ -116,6 +116,12 @@ on_yes verdict.No i j = i
 on_yes verdict.Declined i j = i
 on_yes verdict.Stopped i j = i
 
+pub not_yes : (v : Verdict) (i j : Judged) → (v ≡ verdict.Yes → ⊥) → i ≡ on_yes v i j
+not_yes verdict.Yes i j t = absurd (t refl)
+not_yes verdict.No i j t = refl
+not_yes verdict.Declined i j t = refl
+not_yes verdict.Stopped i j t = refl
+
 pub unpaid-first : (e : Unpaid) (i j : Judged) → i ≡ on_yes (verdict_of (Err e)) i j
 unpaid-first unpaid.Declined i j = refl
 unpaid-first unpaid.Stopped i j = refl
@@ -138,3 +144,8 @@ ask-both false c n k a m = go (pay n a m) ∙ ap (λ (x : ℕ). judged false (pa
     go (read.Paid p q) = refl
     go (read.Declined p q) = refl
     go (read.Stopped p q) = refl
+
+-- ---- what is told where a question is answered
+pub where-all : {A E : Type 0} (r : Result A E) {P : Type 0} → P → OnOk r P
+where-all (Ok x) p = p
+where-all (Err e) p = tt

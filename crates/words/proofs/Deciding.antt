@@ -4,7 +4,7 @@ use mathlib.Core.Logic.{◌⊎◌, inl, inr}
 use mathlib.Core.Bool.{Bool, true, false, not, ◌&&◌, ◌||◌, true≢false, false≢true, and-false, or-false}
 use mathlib.Core.List.{List}
 use mathlib.Core.Option.{Option, none, some}
-use Prim.Native.Nat.{ℕ, ◌/◌, ◌%◌, ◌≤◌, ◌<◌}
+use Prim.Native.Nat.{ℕ, ◌+◌, ◌*◌, ◌/◌, ◌%◌, ◌≤◌, ◌<◌}
 use native.Mathlib.Decide.{ℕ_discrete}
 use native.Mathlib.Omega.{arith}
 use lib.Bits.{bit_and, bit_or}
@@ -12,15 +12,16 @@ use lib.ListN.{length, get_or, set}
 use lib.Dec.{eqb, ltb}
 use borrow.Author.Tests.{eq-eqb, ne_eqb, lt-ltb, le-ltb, ltb-true, not-true}
 use Rattle.lists.proofs.Bools.{and_both, or_left, false_of}
+use Rattle.words.specs.Bit.{test_bit}
 use Rattle.words.specs.Literal.{atom, is_present, code, opposite, word_of, place_of}
 use Rattle.words.specs.Region.{has, mark, Region, region, holds, contradicts, mark_literal, decide, Decision, decision, decision_on}
 use Rattle.words.specs.Region.{decision_with, marked_as, marking, answer_in, words_for}
 use Rattle.words.specs.declared.Place.{Place}
 use Rattle.words.specs.declared.Marking.{Marking}
 use Rattle.words.specs.declared.Marking.TheVariants.{Anew, Already, False}
-use Rattle.words.proofs.Literals.{atom-code, present-code, same_sign, other_sign, atom-opposite, present-opposite}
+use Rattle.words.proofs.Literals.{atom-code, present-code, same_sign, other_sign, opposite-code, atom-opposite, present-opposite}
 use Rattle.words.proofs.Places.{contains-place, insert-place}
-use Rattle.words.proofs.Regions.{Set, Sound, has-mark, length-mark, words-mark, mark-again}
+use Rattle.words.proofs.Regions.{Set, Sound, has-mark, length-mark, words-mark, mark-again, at_place}
 
 -- ---- the side that a literal asks
 module _ (r : Region) (c : ℕ) where
@@ -65,6 +66,27 @@ module _ (r : Region) (c : ℕ) where
   pub contradicts-even : (c % 2 ≡ 1 → ⊥) → has r.held (c / 2) ≡ contradicts r c
   unfolding is_present atom
   contradicts-even f = sym (contradicts-absent (ne_eqb (c % 2) 1 f))
+
+-- ---- the literals of word x at place i
+module _ (r : Region) (x i : ℕ) where
+  pub holds-at-present : i < 64 → holds r (code (x * 64 + i) true) ≡ test_bit (get_or r.held x 0) i
+  holds-at-present l =
+      holds-present r (code (x * 64 + i) true) (present-code (x * 64 + i) true) ∙ ap (has r.held) (atom-code (x * 64 + i) true)
+      ∙ at_place r.held x i l
+
+  pub holds-at-absent : i < 64 → holds r (code (x * 64 + i) false) ≡ test_bit (get_or r.cut x 0) i
+  holds-at-absent l =
+      holds-absent r (code (x * 64 + i) false) (present-code (x * 64 + i) false) ∙ ap (has r.cut) (atom-code (x * 64 + i) false)
+      ∙ at_place r.cut x i l
+
+module _ (r : Region) (x i : ℕ) where
+  pub contradicts-at-present : i < 64 → contradicts r (code (x * 64 + i) true) ≡ test_bit (get_or r.cut x 0) i
+  unfolding contradicts
+  contradicts-at-present l = ap (holds r) (opposite-code (x * 64 + i) true) ∙ holds-at-absent r x i l
+
+  pub contradicts-at-absent : i < 64 → contradicts r (code (x * 64 + i) false) ≡ test_bit (get_or r.held x 0) i
+  unfolding contradicts
+  contradicts-at-absent l = ap (holds r) (opposite-code (x * 64 + i) false) ∙ holds-at-present r x i l
 
 -- with the sides exchanged, a literal is true where its opposite was
 pub holds-turned : (held cut : List ℕ) (c : ℕ) → holds (region cut held) c ≡ contradicts (region held cut) c

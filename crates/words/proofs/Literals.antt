@@ -6,13 +6,24 @@ use native.Mathlib.Decide.{ℕ_discrete}
 use native.Mathlib.Omega.{arith}
 use lib.Dec.{eqb}
 use borrow.Author.Tests.{eq-eqb, ne_eqb, eqb-true, eqb-false}
-use Rattle.words.specs.Literal.{atom, is_present, code, opposite, bit_of}
+use Rattle.words.specs.Literal.{atom, is_present, code, opposite, word_of, bit_of}
 
 -- ---- an atom is its word and its bit
+pub word-bit : (a : ℕ) → word_of a * 64 + bit_of a ≡ a
+unfolding word_of bit_of
+word-bit a = omega arith
 
 pub bit-of-lt : (a : ℕ) → bit_of a < 64
 unfolding bit_of
 bit-of-lt a = omega arith
+
+pub word-place : (x i : ℕ) → i < 64 → word_of (x * 64 + i) ≡ x
+unfolding word_of
+word-place x i l = omega arith
+
+pub bit-place : (x i : ℕ) → i < 64 → bit_of (x * 64 + i) ≡ i
+unfolding bit_of
+bit-place x i l = omega arith
 
 -- ---- the code of an atom and a sign, and both of a code
 pub code-present : (a : ℕ) → code a true ≡ 2 * a + 1

@@ -1,18 +1,20 @@
 -- Words with one bit set, tested or cleared by a mask, as the code has them; and the lowest set bit. Assumes nothing.
-use mathlib.Core.Path.{◌≡◌, refl, sym, ap, ◌∙◌}
-use mathlib.Core.Bool.{Bool, true, false, not, ◌&&◌, and-true, and-false}
+use mathlib.Core.Path.{◌≡◌, refl, sym, ap, ap₂, ◌∙◌}
+use mathlib.Core.Logic.{◌⊎◌, inl, inr}
+use mathlib.Core.Bool.{Bool, true, false, not, ◌&&◌, ◌||◌, true≢false, and-true, and-false, or-true, or-false}
 use Prim.Native.Nat.{ℕ, suc, ◌-◌, ◌*◌, ◌%◌, ◌^◌, ◌≤◌, ◌<◌}
-use native.Mathlib.Nat.{lt_of_le_of_lt}
-use native.Mathlib.Decide.{ℕ_discrete}
+use native.Mathlib.Nat.{mod-lt, lt_of_le_of_lt}
+use native.Mathlib.Decide.{ℕ_discrete, dec_lt}
 use native.Mathlib.Omega.{arith}
-use lib.Bits.{bit_and, bit_or, and_le_l, and_le_r, or_add_and, or_comm}
-use lib.Dec.{eqb}
+use lib.Bits.{bit_and, bit_or, and_le_l, and_le_r, or_add_and, or_comm, or_lt}
+use lib.Count.{trailing_of_zero}
+use lib.Dec.{eqb, ltb}
 use lib.Pow.{pow_pos, pow-lt}
-use borrow.Author.Tests.{eq-eqb, ne_eqb, eqb-true}
+use borrow.Author.Tests.{eq-eqb, ne_eqb, eqb-true, lt-ltb, le-ltb}
 pub use Rattle.lists.proofs.Tests.{eqb-or}
 use Rattle.lists.proofs.Bools.{and_both}
 use Rattle.words.specs.Bit.{test_bit, first_bit}
-use Rattle.words.proofs.Bits.{bit-and, bit_not, bit-zero, bit-pow, bit-pow-same, shl_one, some-bit}
+use Rattle.words.proofs.Bits.{bit-and, bit-or, bit_not, bit-zero, bit-pow, bit-pow-same, bit-mod, bit-ext, shl_one, some-bit}
 use Rattle.words.proofs.Bits.{one_bit, tz-lt, tz-bit, tz-below}
 
 -- a bit of a word that is zero
@@ -50,6 +52,17 @@ mask-miss w t l e =
     sym (test_has w t) ∙ ap not (eq-eqb (bit_and w (2 ^ t)) 0 (ap (bit_and w) (sym (shl_one 64 t l)) ∙ e))
 
 -- ---- `w | (1 << t)`
+pub bit-add : (w t j : ℕ) → test_bit (bit_or w (2 ^ t)) j ≡ (test_bit w j || eqb j t)
+bit-add w t j = bit-or w (2 ^ t) j ∙ ap (λ (b : Bool). test_bit w j || b) (bit-pow t j)
+
+pub bit-add-same : (w t : ℕ) → test_bit (bit_or w (2 ^ t)) t ≡ true
+bit-add-same w t = bit-add w t t ∙ ap (λ (b : Bool). test_bit w t || b) (eq-eqb t t refl) ∙ or-true (test_bit w t)
+
+pub bit-add-other : (w t j : ℕ) → (j ≡ t → ⊥) → test_bit (bit_or w (2 ^ t)) j ≡ test_bit w j
+bit-add-other w t j f = bit-add w t j ∙ ap (λ (b : Bool). test_bit w j || b) (ne_eqb j t f) ∙ or-false (test_bit w j)
+
+pub old-or-new : (w t j : ℕ) → test_bit (bit_or w (2 ^ t)) j ≡ true → (test_bit w j ≡ true) ⊎ (j ≡ t)
+old-or-new w t j e = elim (ℕ_discrete j t) [ yes q ↦ inr q | no f ↦ inl (sym (bit-add-other w t j f) ∙ e) ]
 
 -- ---- `w & !(1 << t)`
 pub bit-clear : (w t j : ℕ) → t < 64 → j < 64 → test_bit (bit_and w ((2 ^ 64 - 1) - 2 ^ t)) j ≡ (test_bit w j && not (eqb j t))
@@ -70,8 +83,50 @@ pub or-ge-l : (a b : ℕ) → a ≤ bit_or a b
 or-ge-l a b = omega (arith, or-ge b a, or_comm a b)
 
 -- ---- one place more of a word's low part
+ltb-suc : (j i : ℕ) → (j ≡ i → ⊥) → ltb j (suc i) ≡ ltb j i
+ltb-suc j i f =
+    elim (dec_lt j i) [
+      | yes h ↦ lt-ltb j (suc i) (omega arith) ∙ sym (lt-ltb j i h)
+      | no h ↦ le-ltb j (suc i) (omega arith) ∙ sym (le-ltb j i (omega arith))
+    ]
+
+pub mod-set : (w i : ℕ) → test_bit w i ≡ true → bit_or (w % 2 ^ i) (2 ^ i) ≡ w % 2 ^ suc i
+mod-set w i e =
+    let small : w % 2 ^ i < 2 ^ suc i = omega (arith, mod-lt w (pow_pos i)) in
+    let pl : 2 ^ i < 2 ^ suc i = omega (arith, pow_pos i) in
+    bit-ext (suc i) (bit_or (w % 2 ^ i) (2 ^ i)) (w % 2 ^ suc i) (or_lt (suc i) (w % 2 ^ i) (2 ^ i) small pl) (mod-lt w (pow_pos (suc i)))
+    (λ j l. bit-add (w % 2 ^ i) i j ∙ ap (λ (x : Bool). x || eqb j i) (bit-mod i w j) ∙ at j l ∙ sym (bit-mod (suc i) w j))
+  where
+    at : (j : ℕ) → j < suc i → ((test_bit w j && ltb j i) || eqb j i) ≡ (test_bit w j && ltb j (suc i))
+    at j l =
+        elim (ℕ_discrete j i) [
+          | yes s ↦
+              ap₂ (λ (x y : Bool). (test_bit w j && x) || y) (le-ltb j i (omega arith)) (eq-eqb j i s)
+              ∙ ap (λ (x : Bool). x || true) (and-false (test_bit w j))
+              ∙ sym (ap₂ (λ (x y : Bool). x && y) (ap (test_bit w) s ∙ e) (lt-ltb j (suc i) l))
+          | no f ↦ ap₂ (λ (x y : Bool). (test_bit w j && x) || y) (sym (ltb-suc j i f)) (ne_eqb j i f)
+              ∙ or-false (test_bit w j && ltb j (suc i))
+        ]
+
+pub mod-skip : (w i : ℕ) → test_bit w i ≡ false → w % 2 ^ i ≡ w % 2 ^ suc i
+mod-skip w i e =
+    let small : w % 2 ^ i < 2 ^ suc i = omega (arith, mod-lt w (pow_pos i)) in
+    bit-ext (suc i) (w % 2 ^ i) (w % 2 ^ suc i) small (mod-lt w (pow_pos (suc i)))
+    (λ j l. bit-mod i w j ∙ at j l ∙ sym (bit-mod (suc i) w j))
+  where
+    at : (j : ℕ) → j < suc i → (test_bit w j && ltb j i) ≡ (test_bit w j && ltb j (suc i))
+    at j l =
+        elim (ℕ_discrete j i) [
+          | yes s ↦ (let z : test_bit w j ≡ false = ap (test_bit w) s ∙ e in rw z)
+          | no f ↦ ap (λ (x : Bool). test_bit w j && x) (sym (ltb-suc j i f))
+        ]
 
 -- ---- two words that share no bit, or one
+-- none of the bits of u is set in h or in c
+pub free-at : (u h c t : ℕ) → bit_and u (bit_or h c) ≡ 0 → test_bit u t ≡ true → (test_bit h t || test_bit c t) ≡ false
+free-at u h c t z e =
+    sym (bit-or h c t) ∙ sym (ap (λ (b : Bool). b && test_bit (bit_or h c) t) e) ∙ sym (bit-and u (bit_or h c) t)
+    ∙ bit-of-zero (bit_and u (bit_or h c)) t z
 
 -- words that share no bit, at one place
 pub apart-at-bit : (v w i : ℕ) → bit_and v w ≡ 0 → (test_bit v i && test_bit w i) ≡ false
@@ -100,3 +155,20 @@ pub first-bit-lowest : (w : ℕ) → w < 2 ^ 64 → 0 < w → Lowest w (first_bi
 first-bit-lowest w h p =
     let l : first_bit w < 64 = tz-lt 64 w h p in
     record { inside = l; here = tz-bit 64 w l; below = tz-below 64 w }
+
+pub lowest-unique : (w s t : ℕ) → Lowest w s → Lowest w t → s ≡ t
+lowest-unique w s t x y = elim (ℕ_discrete s t) [ yes e ↦ e | no f ↦ absurd (apart f) ]
+  where
+    apart : (s ≡ t → ⊥) → ⊥
+    apart f =
+        elim (dec_lt s t) [
+          | yes l ↦ true≢false (sym x.here ∙ y.below s l)
+          | no g ↦ (let l : t < s = omega arith in true≢false (sym y.here ∙ x.below t l))
+        ]
+
+pub first-bit-is : (w t : ℕ) → w < 2 ^ 64 → 0 < w → Lowest w t → first_bit w ≡ t
+first-bit-is w t h p x = lowest-unique w (first_bit w) t (first-bit-lowest w h p) x
+
+-- 64 is no place: the word is zero
+pub first-bit-zero : first_bit 0 ≡ 64
+first-bit-zero = trailing_of_zero 64

@@ -111,6 +111,9 @@ module _ (ws : List ℕ) (a w mask : ℕ) where
       past : (j : ℕ) → j < n → (j < w * 64 → ⊥) → length ws ≤ word_of j
       past j q l = omega arith
 
+  pub first-lt : Words ws → 0 < bit_and (get_or ws w 0) mask → first_bit (bit_and (get_or ws w 0) mask) < 64
+  first-lt f g = (lowest f g).inside
+
   -- the first atom is in this word: below n, or not
   pub seek_found : (n : ℕ) → Seeking ws a w mask → Words ws → 0 < bit_and (get_or ws w 0) mask
       → w * 64 + first_bit (bit_and (get_or ws w 0) mask) < n → some (w * 64 + first_bit (bit_and (get_or ws w 0) mask)) ≡ next_from n ws a

@@ -7,7 +7,8 @@ use native.Mathlib.Omega.{arith}
 use lib.ListN.{length, get_or, get_or-eq_default}
 use lib.Bits.{bit_and, bit_or}
 use lib.Dec.{eqb, ltb}
-use borrow.Author.Tests.{eq-eqb, ne_eqb}
+use borrow.Author.Tests.{eq-eqb, ne_eqb, eqb-true}
+use Rattle.lists.proofs.Bools.{and_both}
 use Rattle.lists.proofs.Tests.{eqb-or}
 use Rattle.std.specs.List.{fold, zip}
 use Rattle.words.specs.Literal.{word_of, bit_of}
@@ -20,6 +21,10 @@ module _ (n : ℕ) (ws : List ℕ) where
   pub set_long : (length ws ≡ (n + 63) / 64 → ⊥) → false ≡ is_set n ws
   unfolding is_set words_for
   set_long f = rw (ne_eqb (length ws) ((n + 63) / 64) f, is_set)
+
+  pub set-length : is_set n ws ≡ true → length ws ≡ words_for n
+  unfolding is_set
+  set-length e = eqb-true (length ws) (words_for n) (and_both (eqb (length ws) (words_for n)) _ e).0
 
   -- what is left: the word at n has no bit there or above
   set-top : length ws ≡ (n + 63) / 64 → Words ws → ltb (get_or ws (word_of n) 0) (2 ^ bit_of n) ≡ is_set n ws
