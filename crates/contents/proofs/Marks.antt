@@ -21,9 +21,10 @@ use Rattle.model.specs.Records.{Row, slot_words, max_rows, total_groups_at}
 use Rattle.model.specs.Slots.{row_in}
 use Rattle.model.specs.Postings.{postings_of}
 use Rattle.slots.specs.Layout.{rows_in, slot_at, Rows}
+use Rattle.slots.proofs.Rows.{slot-code}
 use Rattle.slots_check.specs.Check.{all_zero}
 use Rattle.contents.specs.Lent.{postings_due, posted_atoms, LaidOut}
-use Rattle.contents.specs.Marked.{Form, Marked, Walked, Ended, nowhere}
+use Rattle.contents.specs.Marked.{Form, Marked, Walked, Ended, packed_from, nowhere}
 use Rattle.contents.proofs.Filing.{holds-code, posted-code, due-no, due-rest}
 
 -- ---- places
@@ -66,6 +67,43 @@ total-code ws p e =
     ap (λ (l : List ℕ). get_or l total_groups_at 0) e ∙ get_or-take slot_words (drop (slot_words * p) ws) total_groups_at 0 (omega arith)
     ∙ get_or-drop (slot_words * p) ws total_groups_at 0
 
+-- a row by its place
+module _ (n : ℕ) (ws places : List ℕ) (r : Rows n ws) (e : length places ≡ max_rows) (h : Marked n ws places) (x k : ℕ)
+    (q : k ≡ get_or places (x % max_rows) 0) where
+  abbrev slot : List ℕ
+  slot = take ((slot_words * (x % max_rows) + slot_words) - slot_words * (x % max_rows)) (drop (slot_words * (x % max_rows)) ws)
+
+  among : k < nowhere → x % max_rows < n
+  among l = h.there (x % max_rows) (omega arith) (omega arith)
+
+  formed : Form k (get_or ws (slot_words * (x % max_rows) + total_groups_at) 0)
+  formed =
+      subst (λ (v : ℕ). Form v (get_or ws (slot_words * (x % max_rows) + total_groups_at) 0)) (sym q)
+      (h.form (x % max_rows) (omega arith))
+
+  pub lent-end : k < nowhere → slot_words * (x % max_rows) + slot_words ≤ length ws
+  lent-end l = let t = among l in let m = r.over.long in omega arith
+
+  pub lent-scalar : k < packed_from → LaidOut slot × (get_or slot total_groups_at 0 ≡ 0)
+  lent-scalar l =
+      let c = slot-code ws (x % max_rows) in
+      (holds-code n ws r (x % max_rows) c (among (omega arith)), total-code ws (x % max_rows) c ∙ formed.scalar l)
+
+  pub lent-packed : packed_from ≤ k → k < nowhere → LaidOut slot × (get_or slot total_groups_at 0 ≡ 0 → ⊥)
+  lent-packed g l =
+      let c = slot-code ws (x % max_rows) in
+      (holds-code n ws r (x % max_rows) c (among l), λ z. formed.packed g l (sym (total-code ws (x % max_rows) c) ∙ z))
+
+  pub keep-scalar : k < packed_from → (v : ℕ) → Marked n ws (set places (x % max_rows) (v % packed_from))
+  keep-scalar l v =
+      marked-put n n ws places (x % max_rows) (v % packed_from) (omega arith) (among (omega arith)) e h
+      (record { scalar = λ b. formed.scalar l; packed = λ g b. absurd (omega arith) })
+
+  pub keep-packed : packed_from ≤ k → k < nowhere → (v : ℕ) → Marked n ws (set places (x % max_rows) (k + v))
+  keep-packed g l v =
+      marked-put n n ws places (x % max_rows) (k + v) (omega arith) (among l) e h
+      (record { scalar = λ b. absurd (omega arith); packed = λ f b. formed.packed g l })
+
 -- a row by its place, and its slot, as the code lends it
 module _ (n : ℕ) (ws places : List ℕ) (r : Rows n ws) (h : Marked n ws places) (x k : ℕ) (q : k ≡ get_or places (x % max_rows) 0)
     (l : k < nowhere) (slot : List ℕ) (d : slot ≡ slot_at ws (x % max_rows)) where
@@ -92,6 +130,16 @@ module _ (xs ys : List ℕ) where
     held = h.held;
     runs = h.runs;
     few = λ v. times-take-le v i xs;
+  }
+
+  pub walked_start : Walked xs ys 0 0 0
+  walked_start = record {
+    far = omega arith;
+    sorted = tt;
+    top = λ v h. absurd (omega arith);
+    held = λ h. absurd (omega arith);
+    runs = refl;
+    few = λ v. omega arith;
   }
 
   pub walked-small : (i x n : ℕ) → Walked xs ys i x n → n ≤ i

@@ -9,11 +9,11 @@ use lib.Bits.{bit_and, bit_or, or_lt, and_le_l, and_comm}
 use lib.Dec.{eqb}
 use lib.ListN.{get_or}
 use borrow.Author.Tests.{eq-eqb, ne_eqb, eqb-true}
-use Rattle.lists.proofs.Bools.{and_first}
+use Rattle.lists.proofs.Bools.{and_first, and_second, or_left}
 use Rattle.words.specs.Bit.{test_bit, first_bit}
 use Rattle.words.specs.Region.{Region}
 use Rattle.words.proofs.Bits.{bit-and, bit-or, bit_not, bit-ext, bit-clear-low, bit-and-not}
-use Rattle.words.proofs.Masks.{bit-clear, apart-at-bit, first-bit-lowest}
+use Rattle.words.proofs.Masks.{bit-clear, apart-at-bit, share-yes, share-no, first-bit-lowest}
 use Rattle.model.specs.Slots.{codes_of}
 use Rattle.model.specs.Deduction.{failing, contradicted, contradictions}
 use Rattle.slots.proofs.Codes.{codes-none, first_absent, first-present}
@@ -58,11 +58,11 @@ module _ (r : Region) (x present absent : ℕ) (hp : present < 2 ^ 64) (ha : abs
   u-lt = or_lt 64 a p a_lt p-lt
 
   -- none
-  group-holds : u ≡ 0 → failing r (codes_of x present absent) ≡ []
+  pub group-holds : u ≡ 0 → failing r (codes_of x present absent) ≡ []
   group-holds e = group-fails ∙ codes-none x p a e
 
   -- one is contradicted
-  group-clash : contradicted r (failing r (codes_of x present absent))
+  pub group-clash : contradicted r (failing r (codes_of x present absent))
       ≡ not (eqb (bit_or (bit_and a (get_or r.held x 0)) (bit_and p (get_or r.cut x 0))) 0)
   group-clash =
       ap (contradicted r) group-fails
@@ -126,7 +126,7 @@ module _ (r : Region) (x present absent : ℕ) (hp : present < 2 ^ 64) (ha : abs
           one false q e f = refl
 
       -- the first, and the group of the others, of which the mask is `u & (u - 1)`
-      group-first : (c d e : ℕ) × (failing r (codes_of x present absent) ≡ c ∷ codes_of x d e) × (d < 2 ^ 64) × (e < 2 ^ 64)
+      pub group-first : (c d e : ℕ) × (failing r (codes_of x present absent) ≡ c ∷ codes_of x d e) × (d < 2 ^ 64) × (e < 2 ^ 64)
           × (bit_or e d ≡ bit_and u (u - 1))
       unfolding t
       group-first = go (test_bit a t) refl
@@ -154,7 +154,7 @@ module _ (r : Region) (x present absent : ℕ) (hp : present < 2 ^ 64) (ha : abs
           )
 
       -- two bits or more
-      group-two : (bit_and u (u - 1) ≡ 0 → ⊥) → (k l : ℕ) × (ls : List ℕ) × (failing r (codes_of x present absent) ≡ k ∷ l ∷ ls)
+      pub group-two : (bit_and u (u - 1) ≡ 0 → ⊥) → (k l : ℕ) × (ls : List ℕ) × (failing r (codes_of x present absent) ≡ k ∷ l ∷ ls)
       group-two f =
           let g = group-first in
           let pos : 0 < bit_or g.2 g.1 = (let e = g.6 in let n : bit_or g.2 g.1 ≡ 0 → ⊥ = (λ z. f (sym e ∙ z)) in omega arith) in
@@ -162,10 +162,38 @@ module _ (r : Region) (x present absent : ℕ) (hp : present < 2 ^ 64) (ha : abs
           (g.0, s.0, s.1, g.3 ∙ ap (λ (l : List ℕ). g.0 ∷ l) s.2)
 
       -- one bit
-      group-one : bit_and u (u - 1) ≡ 0 → (k : ℕ) × (failing r (codes_of x present absent) ≡ k ∷ [])
+      pub group-one : bit_and u (u - 1) ≡ 0 → (k : ℕ) × (failing r (codes_of x present absent) ≡ k ∷ [])
       group-one one =
           let g = group-first in
           (g.0, g.3 ∙ ap (λ (l : List ℕ). g.0 ∷ l) (codes-none x g.1 g.2 (g.6 ∙ one)))
+
+      pub place-lt : first_bit u < 64
+      place-lt = (first-bit-lowest u u-lt some).inside
+
+      pub group-some : (k : ℕ) × (ks : List ℕ) × (failing r (codes_of x present absent) ≡ k ∷ ks)
+      group-some = (let g = group-first in (g.0, codes_of x g.1 g.2, g.3))
+
+      -- one bit: its sign is the group's
+      module _ (one : bit_and u (u - 1) ≡ 0) where
+        pub group-absent : (bit_and absent u ≡ 0 → ⊥) → failing r (codes_of x present absent) ≡ 2 * (64 * x + first_bit u) ∷ []
+        unfolding t
+        group-absent f =
+            let q : test_bit absent t ≡ true = share-yes absent u u-lt some one f in
+            let n : test_bit present t ≡ false =
+            and_second (test_bit present t) (test_bit absent t) (apart-at-bit present absent t apart) q in
+            let z : test_bit p t ≡ false = bit-and-not present h t hh place-lt ∙ ap (λ (b : Bool). b && not (test_bit h t)) n in
+            let e : test_bit a t ≡ true =
+            or_left (test_bit a t) (test_bit p t) (sym (bit-or a p t) ∙ (first-bit-lowest u u-lt some).here) z in
+            group-fails ∙ first_absent x p a p-lt a_lt some e
+            ∙ ap (λ (l : List ℕ). 2 * (64 * x + t) ∷ l) (codes-none x p (clear a) (rest-absent e ∙ one))
+
+        pub group-present : bit_and absent u ≡ 0 → failing r (codes_of x present absent) ≡ (2 * (64 * x + first_bit u) + 1) ∷ []
+        unfolding t
+        group-present f =
+            let q : test_bit absent t ≡ false = share-no absent u u-lt some f in
+            let e : test_bit a t ≡ false = bit-and-not absent c t hc place-lt ∙ ap (λ (b : Bool). b && not (test_bit c t)) q in
+            group-fails ∙ first-present x p a p-lt a_lt some e
+            ∙ ap (λ (l : List ℕ). (2 * (64 * x + t) + 1) ∷ l) (codes-none x (clear p) a (rest-present e ∙ one))
 
   -- ---- how the conditions of a group stand, by the masks
   pub group-all : u ≡ 0 → Holds ≡ state_of r (failing r (codes_of x present absent))

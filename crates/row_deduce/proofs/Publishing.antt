@@ -95,22 +95,22 @@ module _ (r : Region) (k : OutputCursor) (m : Meter) where
     unfolding pending
     empty = codes-none k.word k.present k.absent none
 
-    packed-end : published end k m ≡ packed_next r [] k m
+    pub packed-end : published end k m ≡ packed_next r [] k m
     unfolding packed_next
     packed-end = sym (rw (empty, packed_next))
 
-    packed-stopped : (g : List ℕ) (gs : List (List ℕ)) {n : Meter} → Stopped n ≡ tick_of m
+    pub packed-stopped : (g : List ℕ) (gs : List (List ℕ)) {n : Meter} → Stopped n ≡ tick_of m
         → published stopped k n ≡ packed_next r (g ∷ gs) k m
     unfolding packed_next
     packed-stopped g gs e = sym (rw (empty, sym e, packed_next))
 
-    packed-load : (g : List ℕ) (gs : List (List ℕ)) {n : Meter} → Ticked n ≡ tick_of m
+    pub packed-load : (g : List ℕ) (gs : List (List ℕ)) {n : Meter} → Ticked n ≡ tick_of m
         → packed_next r gs (loaded_from r g k.next) n ≡ packed_next r (g ∷ gs) k m
     unfolding packed_next loaded
     packed-load g gs e = sym (rw (empty, sym e, packed_next))
 
   -- an output is left
-  packed-given : (gs : List (List ℕ)) (c : ℕ) (cs : List ℕ) → codes_of k.word k.present k.absent ≡ c ∷ cs
+  pub packed-given : (gs : List (List ℕ)) (c : ℕ) (cs : List ℕ) → codes_of k.word k.present k.absent ≡ c ∷ cs
       → give c cs k (tick_of m) ≡ packed_next r gs k m
   unfolding packed_next pending
   packed-given [] c cs e = sym (rw (e, packed_next, pending))

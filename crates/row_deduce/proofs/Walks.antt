@@ -13,7 +13,7 @@ use Rattle.lists.specs.Lists.{any, select, filled, concat, least, ascending}
 use Rattle.lists.proofs.Marks.{sorted-select}
 use Rattle.lists.proofs.Selects.{select-append, any-select}
 use Rattle.lists.proofs.Sorts.{sorted-least}
-use Rattle.lists.proofs.Tests.{ascending-sorted}
+use Rattle.lists.proofs.Tests.{any_append, ascending-sorted}
 use Rattle.words.specs.Literal.{opposite}
 use Rattle.words.specs.Region.{Region, holds, contradicts}
 use Rattle.meter.specs.declared.Meter.{Meter}
@@ -63,6 +63,10 @@ module _ (r : Region) where
   pub failing-append : (xs ys : List ℕ) → failing r (xs ++ ys) ≡ failing r xs ++ failing r ys
   unfolding failing
   failing-append xs ys = select-append (λ c. not (holds r c)) xs ys
+
+  pub contradicted-append : (xs ys : List ℕ) → contradicted r (xs ++ ys) ≡ (contradicted r xs || contradicted r ys)
+  unfolding contradicted
+  contradicted-append xs ys = any_append (contradicts r) xs ys
 
   contradictions-append : (xs ys : List ℕ) → contradictions r (xs ++ ys) ≡ contradictions r xs ++ contradictions r ys
   unfolding contradictions

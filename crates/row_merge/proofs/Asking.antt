@@ -23,6 +23,7 @@ use Rattle.meter.specs.Results.{unpaid_end, judged_end}
 use Rattle.model.specs.Records.{Row}
 use Rattle.model.specs.Union.{grown, may_join, joins, same_reads, union_reads, join_reads}
 use Rattle.meter.proofs.Payments.{ask-one, paid-one, on_yes, ask-both}
+use Rattle.row_subsume.proofs.Subsuming.{other_than_yes}
 
 -- ---- equal conditions, asked of what is left of both lists
 abbrev pub alike : List ℕ → List ℕ → Account → Meter → Judged
@@ -36,6 +37,10 @@ alike-end ys a m {l} e f = none ys (omega (arith, ap length e)) ∙ ap (λ (q : 
     none : (ys : List ℕ) → length ys ≡ 0 → judged true (read.Paid a m) ≡ alike [] ys a m
     none [] z = refl
     none (y ∷ ys) z = absurd (omega arith)
+
+pub alike-short : (x : ℕ) (xs : List ℕ) (a : Account) (m : Meter) → judged false (pay 0 a m) ≡ alike (x ∷ xs) [] a m
+unfolding same same_reads
+alike-short x xs a m = refl
 
 module _ (x y : ℕ) (xs ys : List ℕ) (a : Account) (m : Meter) {l r : List ℕ} (f : x ∷ xs ≡ l) (g : y ∷ ys ≡ r) where
   abbrev compared : Bool → Judged
@@ -104,12 +109,12 @@ module _ (a : Account) (m : Meter) where
 
 -- ---- the count, then the growth
 -- an answer Yes has nothing left to pay
-yes-is : (i : Judged) → i.verdict ≡ verdict.Yes → i ≡ judged true (pay 0 i.account i.meter)
+pub yes-is : (i : Judged) → i.verdict ≡ verdict.Yes → i ≡ judged true (pay 0 i.account i.meter)
 unfolding pay
 yes-is i e = ap (λ (v : Verdict). record { verdict = v; account = i.account; meter = i.meter }) e
 
 -- and is an answer to a question that holds
-yes_true : (b : Bool) (r : Read) → (judged b r).verdict ≡ verdict.Yes → b ≡ true
+pub yes_true : (b : Bool) (r : Read) → (judged b r).verdict ≡ verdict.Yes → b ≡ true
 yes_true true r e = refl
 yes_true false (read.Paid a m) e = let z : ◌≡◌ {A = ℕ} 0 1 = cc in absurd (omega arith)
 yes_true false (read.Declined a m) e = let z : ◌≡◌ {A = ℕ} 0 1 = cc in absurd (omega arith)
@@ -130,6 +135,9 @@ module _ (most : ℕ) (l : List ℕ) (before : ℕ) (a : Account) (m : Meter) wh
         (judged true (pay (elim (eqb (length l) before) [ true ↦ 0 | false ↦ length l ]) j.account j.meter))) c
         ∙ ask-both (leb (length l) most) true (suc (min (length l) most)) (elim (eqb (length l) before) [ true ↦ 0 | false ↦ length l ]) a m
         ∙ ap (λ (b : Bool). judged b (pay (union_reads most before (length l)) a m)) (and-true (leb (length l) most))
+
+    pub unite-not : (i.verdict ≡ verdict.Yes → ⊥) → i ≡ united
+    unite-not k = other_than_yes i.verdict i (grows (eqb (length l) before)) k ∙ unite-both
 
     module _ (y : i.verdict ≡ verdict.Yes) where
       -- the union is within the maximum

@@ -1,5 +1,6 @@
 -- A proposal that grows, and one that stays as it was. Assumes nothing.
-use mathlib.Core.Path.{◌≡◌, sym, ◌∙◌, ap, ap₂}
+use mathlib.Core.Path.{◌≡◌, refl, sym, ◌∙◌, ap, ap₂, subst}
+use mathlib.Core.Bool.{false}
 use mathlib.Core.List.{List, ◌++◌}
 use Prim.Native.Nat.{ℕ, ◌+◌, ◌-◌, ◌≤◌}
 use native.Mathlib.Nat.{sub-zero}
@@ -9,17 +10,38 @@ use lib.Seq.{take_at, take-append-le, drop_at, drop-append-add, drop-drop, lengt
 use borrow.Rule.Slice.PartMut.{put_mid, mid_of, post_of, mid_len}
 use Rattle.lists.specs.Lists.{put}
 use Rattle.lists.proofs.Puts.{length-put}
+use Rattle.meter.specs.declared.Meter.{Meter}
+use Rattle.meter.specs.declared.Account.{Account}
+use Rattle.meter.specs.Judged.{Judged}
+use Rattle.meter.specs.Verdict.{Verdict}
+use Rattle.meter.specs.Verdict as verdict
+use Rattle.meter.specs.Meter.{pay, judged}
+use Rattle.meter.proofs.Laws.{pay-none}
 use Rattle.model.specs.Records.{Row, slot_words, max_conditions, max_outputs, conditions_at, outputs_at, body_at}
 use Rattle.model.specs.Union.{union, grown}
 use Rattle.model.specs.Slots.{row_in}
 use Rattle.slots.specs.declared.Side.{Side}
-use Rattle.slots.specs.Cursor.{list_of}
+use Rattle.slots.specs.Cursor.{Sound, list_of}
 use Rattle.slots.specs.Layout.{Laid, output_side, proposal, row_of}
 use Rattle.row_propose.specs.Parts.{blank_of}
 use Rattle.row_propose.specs.Proposed.{Proposed}
 use Rattle.row_propose.proofs.Parts.{put-part, put_next, put-proposal, mid-long}
 use Rattle.row_propose.proofs.Proposing.{proposed-laid, proposed-long, proposed-conditions, outputs-at}
+use Rattle.row_merge.specs.Merge.{if_yes}
 use Rattle.row_merge.proofs.Union.{union-long, union-same}
+
+-- ---- where the words change
+pub kept-no : (a : Account) (m : Meter) (new old : List ℕ) {i : Judged} → i ≡ judged false (pay 0 a m) → old ≡ if_yes i.verdict new old
+kept-no a m new old e = sym (ap (λ (j : Judged). if_yes j.verdict new old) (e ∙ ap (judged false) (pay-none a m)))
+
+pub kept-not : (v : Verdict) (new old : List ℕ) → (v ≡ verdict.Yes → ⊥) → old ≡ if_yes v new old
+kept-not verdict.Yes new old n = absurd (n refl)
+kept-not verdict.No new old n = refl
+kept-not verdict.Declined new old n = refl
+kept-not verdict.Stopped new old n = refl
+
+pub changed-yes : (v : Verdict) (new old : List ℕ) → v ≡ verdict.Yes → new ≡ if_yes v new old
+changed-yes v new old e = sym (ap (λ (w : Verdict). if_yes w new old) e)
 
 -- ---- how long a proposal's words are, and how many conditions and outputs they say
 pub proposed_sizes : (ws : List ℕ) → Proposed ws
@@ -82,6 +104,9 @@ module _ (ws us : List ℕ) (p : Proposed ws) (more : length (row_in ws).outputs
 
 -- ---- the union of the outputs of a slot and a proposal
 module _ (ws ps : List ℕ) (w : Laid ws) (p : Proposed ps) {ro : Side} (e : ro ≡ output_side ws) where
+  pub sound-left : Sound ws ro
+  sound-left = subst (Sound ws) (sym e) w.second
+
   -- the union of the side with the part of the proposal is that of the rows
   pub sides-union : union (list_of ws ro)
       (mid_of (body_at + get_or ps conditions_at 0)

@@ -1,5 +1,6 @@
 -- Words written part by part, and a proposal so written. Assumes nothing.
 use mathlib.Core.Path.{◌≡◌, sym, ◌∙◌, ap, ap₂}
+use mathlib.Core.Bool.{true}
 use mathlib.Core.List.{List, ◌∷◌, ◌++◌, append_assoc, append-nil}
 use Prim.Native.Nat.{ℕ, suc, ◌+◌, ◌-◌, ◌≤◌}
 use native.Mathlib.Omega.{arith}
@@ -9,9 +10,14 @@ use borrow.Rule.Slice.PartMut.{put_mid, mid_of, Post-is}
 use Rattle.lists.specs.Lists.{pad, put}
 use Rattle.lists.proofs.Puts.{length-put}
 use Rattle.lists.proofs.Pads.{drop-zeros}
-use Rattle.model.specs.Records.{slot_words, max_conditions, max_outputs, body_at, body_words}
+use Rattle.meter.specs.declared.Meter.{Meter}
+use Rattle.meter.specs.declared.Account.{Account}
+use Rattle.meter.specs.Judged.{Judged}
+use Rattle.meter.specs.Meter.{pay, judged}
+use Rattle.model.specs.Records.{Row, literals, slot_words, max_conditions, max_outputs, body_at, body_words}
 use Rattle.slots.specs.Layout.{proposal, row_of}
 use Rattle.row_propose.specs.Parts.{blank_of}
+use Rattle.meter.proofs.Payments.{on_yes, ask-both}
 
 -- ---- a lent part comes back
 pub mid-all : (a : ℕ) (ws : List ℕ) → mid_of a (length ws - a) ws ≡ drop a ws
@@ -76,6 +82,10 @@ module _ (ws x cs os : List ℕ) (at : ℕ) (few : length cs ≤ max_conditions)
   half-long : length half ≡ slot_words
   half-long = ap length half_is ∙ length-put body_at cs ws (omega (arith, blank-long)) ∙ blank-long
 
+  -- there is room for the outputs
+  pub second_fits : length os ≤ length (mid_of at (length half - at) half)
+  second_fits = omega (arith, mid-long at half, half-long)
+
   pub two-parts : {y l : List ℕ} → l ≡ os → y ≡ put 0 l (mid_of at (length half - at) half)
       → put_mid at (length half - at) half y ≡ proposal (row_of cs os)
   two-parts d g =
@@ -83,3 +93,10 @@ module _ (ws x cs os : List ℕ) (at : ℕ) (few : length cs ≤ max_conditions)
       ∙ ap₂ (λ (k : ℕ) (z : List ℕ). put k os z) e half_is
       ∙ put_next body_at cs os ws (omega (arith, blank-long))
       ∙ ap (put body_at (cs ++ os)) b ∙ put-proposal cs os
+
+-- the reads of a row's literals, side after side
+pub literals-both : (r : Row) (a : Account) (m : Meter)
+    → let i : Judged = judged true (pay (length r.conditions) a m) in
+    on_yes i.verdict i (judged true (pay (length r.outputs) i.account i.meter)) ≡ judged true (pay (literals r) a m)
+unfolding literals
+literals-both r a m = ask-both true true (length r.conditions) (length r.outputs) a m

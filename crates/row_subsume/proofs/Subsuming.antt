@@ -1,5 +1,5 @@
 -- `subsumes` by its length tests and its two inclusions. Assumes nothing.
-use mathlib.Core.Path.{◌≡◌, sym, ◌∙◌, ap, ap₂}
+use mathlib.Core.Path.{◌≡◌, refl, sym, ◌∙◌, ap, ap₂}
 use mathlib.Core.Bool.{Bool, true, false, ◌&&◌, and-false}
 use Prim.Native.Nat.{◌+◌, ◌≤◌, ◌<◌}
 use lib.ListN.{length}
@@ -8,12 +8,21 @@ use borrow.Author.Tests.{le-leb, lt-leb}
 use Rattle.meter.specs.declared.Meter.{Meter}
 use Rattle.meter.specs.declared.Account.{Account}
 use Rattle.meter.specs.Judged.{Judged}
+use Rattle.meter.specs.Verdict.{Verdict}
+use Rattle.meter.specs.Verdict as verdict
 use Rattle.meter.specs.Read.{Paid}
 use Rattle.meter.specs.Meter.{pay, judged}
 use Rattle.model.specs.Records.{Row}
 use Rattle.model.specs.Rows.{includes, includes_reads, lengths_fit, subsumes, subsumes_reads}
 use Rattle.meter.proofs.Payments.{on_yes, ask-both}
 use Rattle.row_subsume.proofs.Including.{included}
+
+-- an answer that is not Yes is the answer to both questions
+pub other_than_yes : (v : Verdict) (i j : Judged) → (v ≡ verdict.Yes → ⊥) → i ≡ on_yes v i j
+other_than_yes verdict.Yes i j n = absurd (n refl)
+other_than_yes verdict.No i j n = refl
+other_than_yes verdict.Declined i j n = refl
+other_than_yes verdict.Stopped i j n = refl
 
 module _ (r s : Row) (a : Account) (m : Meter) where
   abbrev pub subsumed : Judged

@@ -210,6 +210,13 @@ module _ (slot h b ws : List ℕ) (form : Form) (hits born w : ℕ) (source : So
       ∙ sym (append_assoc h b (old ∷ [])))
       ∙ set_at (h ++ b) old [] w source_at both_long
 
+  pub slot-long : length written ≡ length slot
+  slot-long =
+      let a : length written ≡ length ((h ++ b) ++ (w ∷ [])) = ap length words_are in
+      let c = length-append (h ++ b) (w ∷ []) in
+      let d = both_long in
+      omega arith
+
   pub slot-words : written ≡ slot_of (new_entry row hits born source)
   slot-words =
       words_are ∙ append_assoc h b (w ∷ [])

@@ -9,7 +9,7 @@ use native.Mathlib.Omega.{arith}
 use lib.Bits.{bit_and, bit_or, or_lt}
 use lib.Dec.{eqb}
 use Rattle.lists.specs.Lists.{select, range}
-use Rattle.lists.proofs.Ranges.{select-nowhere, select-next}
+use Rattle.lists.proofs.Ranges.{select-nowhere, select-next, select-ext}
 use Rattle.lists.proofs.Bools.{or-none, or_right}
 use Rattle.words.specs.Bit.{test_bit, first_bit}
 use Rattle.words.specs.Literal.{atom, is_present, word_of, bit_of}
@@ -160,3 +160,14 @@ module _ (x p a : ℕ) (hp : p < 2 ^ 64) (ha : a < 2 ^ 64) (some : 0 < bit_or a 
                 ∙ sym (chosen-present x q a i k));
           })
           ∙ ap (λ (r : List ℕ). (2 * (64 * x + t) + 1) ∷ r) (sym (codes-select x q a))
+
+-- equal bits, equal codes
+pub codes-ext : (x p a q b : ℕ) → ((i : ℕ) → i < 64 → (test_bit p i ≡ test_bit q i) × (test_bit a i ≡ test_bit b i))
+    → codes_of x p a ≡ codes_of x q b
+codes-ext x p a q b h =
+    codes-select x p a
+    ∙ select-ext (chosen_by p a) (chosen_by q b) (2 * 64) (2 * 64 * x)
+    (by_place (λ z. chosen_by p a z ≡ chosen_by q b z) x
+    (λ i l. chosen-absent x p a i l ∙ (h i l).1 ∙ sym (chosen-absent x q b i l))
+    (λ i l. chosen-present x p a i l ∙ (h i l).0 ∙ sym (chosen-present x q b i l)))
+    ∙ sym (codes-select x q b)

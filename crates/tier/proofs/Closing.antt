@@ -24,6 +24,18 @@ use Rattle.tier.proofs.Buffer.{laid, laid_nil, laid_cons, valid-take, valid-drop
 abbrev pub cleared : ℕ → List ℕ × ℕ → List ℕ
 cleared rows r = take (slot_words * r.1) r.0 ++ (replicate (slot_words * rows - slot_words * r.1) 0 ++ drop (slot_words * rows) r.0)
 
+moved_length : (from to : ℕ) (ws : List ℕ) → to ≤ from → slot_words * from + slot_words ≤ length ws → length (moved from to ws) ≡ length ws
+unfolding moved
+moved_length from to ws l h =
+    let a = length-append (take (slot_words * to) ws)
+    (take slot_words (drop (slot_words * from) ws) ++ drop (slot_words * to + slot_words) ws) in
+    let b = length-append (take slot_words (drop (slot_words * from) ws)) (drop (slot_words * to + slot_words) ws) in
+    let c = length-take-le (slot_words * to) ws (omega arith) in
+    let d = length-drop (slot_words * from) ws in
+    let e = length-take-le slot_words (drop (slot_words * from) ws) (omega arith) in
+    let f = length-drop (slot_words * to + slot_words) ws in
+    omega arith
+
 valid-append : (xs ys : List Entry) → AllValid xs → AllValid ys → AllValid (xs ++ ys)
 valid-append [] ys v w = w
 valid-append (x ∷ xs) ys v w = (v.0, valid-append xs ys v.1 w)
@@ -158,6 +170,11 @@ module _ (f : ℕ → Bool) (tier rows : ℕ) where
 pub kept-place : (b : Bool) (to from : ℕ) → to ≤ from → kept_place b to ≤ from + 1
 kept-place true to from l = omega arith
 kept-place false to from l = omega arith
+
+pub kept-length : (b : Bool) (from to : ℕ) (ws : List ℕ) → to ≤ from → slot_words * from + slot_words ≤ length ws
+    → length (kept_words b from to ws) ≡ length ws
+kept-length true from to ws l h = refl
+kept-length false from to ws l h = moved_length from to ws l h
 
 -- ---- the loop, from a held buffer
 pub down_step : (f : ℕ → Bool) (n i to : ℕ) (ws : List ℕ)

@@ -13,6 +13,7 @@ use Rattle.model.proofs.Slots.{AllValid, entries-length}
 use Rattle.slots.specs.Layout.{tier_of, Held}
 use Rattle.slots.proofs.Holding.{no-entry, holding}
 use Rattle.tier.proofs.Buffer.{word-hits, hits-set}
+use Rattle.model.proofs.Accepting.{slots_length}
 
 -- the first n halved
 unfoldable pub halved_to : ℕ → List Entry → List Entry
@@ -70,6 +71,13 @@ module _ {atoms : ℕ} (rows : ℕ) (ws : List ℕ) (k : Held atoms rows ws) whe
       (word-hits (tier_of ws) i (halved_to i es) v h r ∙ ap (λ (x : Entry). x.hits) (half-get i es))
       ∙ hits-set (tier_of ws) i (halved_to i es) v h r ((get_or es i no-entry).hits / 2)
       ∙ ap (slots_of (tier_of ws)) (half-next i es at ∙ ap (λ (n : ℕ). halved_to n es) (sym (add-one i)))
+
+  pub halve-length : (i : ℕ) → length (slots_of (tier_of ws) (halved_to i (entries_in rows ws))) ≡ length ws
+  halve-length i =
+      let f = holding rows ws k in
+      slots_length (tier_of ws) (halved_to i (entries_in rows ws)) (half-valid i (entries_in rows ws) f.valid)
+      (subst (λ (n : ℕ). n ≤ tier_of ws) (sym (half_length i (entries_in rows ws))) f.room)
+      ∙ sym f.long
 
   pub halve-end : (i : ℕ) → i ≡ rows
       → slots_of (tier_of ws) (halved_to i (entries_in rows ws)) ≡ slots_of (tier_of ws) (halved (entries_in rows ws))
