@@ -48,6 +48,11 @@ module _ (n : ℕ) (r : Row) (d : Deduction) (s : State) where
   follow-require c o e = sym (ap (λ (d : Deduction). follow n r d s) e)
 
 -- ---- the reading, and whether it earns a hit
+-- none where the region is as it was, and there is no Conflict
+pub going-unearned : (n : ℕ) (l : Beside) (held cut : List ℕ) (m : Meter) → false ≡ earns n (region held cut) (going (state l held cut m))
+unfolding earns
+going-unearned n l held cut m = sym (decides-none n (region held cut))
+
 earned_is : {A : Type 0} (n c c' : ℕ) (old : Region) (g : Result A Halt) (s : State) → Counted n c c' old s.region
     → earned_by g c c' ≡ earns n old (ended_as g s)
 unfolding earns

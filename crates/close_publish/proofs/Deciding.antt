@@ -16,10 +16,11 @@ use Rattle.words.specs.declared.Marking.TheVariants.{Anew, Already, False}
 use Rattle.words.proofs.Regions.{Sound, sound-of, region-test}
 use Rattle.words.proofs.Deciding.{sound-decide, answer-none, answer-some, decide-some, holds-mark, marked-anew, marked-already}
 use Rattle.meter.specs.declared.Meter.{Meter}
-use Rattle.model.specs.Closing.{going, conflict, decide_on, decides}
+use Rattle.model.specs.Closing.{State, going, conflict, decide_on, decides, earns}
 use Rattle.model.specs.Priority.{Contains}
 use Rattle.model.proofs.Priority.Earning.{decides-none, decides-anew, decides-both}
-use Rattle.close_note.specs.Noting.{after_mark}
+use Rattle.close_note.specs.Noting.{after_mark, Room, Logs}
+use Rattle.close_note.proofs.Logging.{logs-none}
 use Rattle.close_publish.specs.Turns.{Beside, state, Counted}
 
 -- words that are sound where there was a region are one
@@ -78,9 +79,17 @@ module _ (n : ℕ) (held cut : List ℕ) (c : ℕ) (b : Bool) (held' cut' : List
       let a = answer-none n held cut c b held' cut' e f in
       subst (Counted n k k (region held cut)) (ap₂ (λ (x y : List ℕ). region x y) (sym a.1) (sym a.2)) (counted-none n k (region held cut))
 
+  -- nor noted
+  pub conflict-logs : b ≡ false → (k : ℕ) (ws : List ℕ) → Room n k ws (region held cut)
+      → Logs n k ws (region held cut) k ws (region held' cut')
+  conflict-logs f k ws w =
+      let a = answer-none n held cut c b held' cut' e f in
+      subst (λ (r : Region). Logs n k ws (region held cut) k ws r) (ap₂ (λ (x y : List ℕ). region x y) (sym a.1) (sym a.2))
+      (logs-none n k ws (region held cut) w)
+
 -- ---- whether an atom was decided
 module _ (n : ℕ) (r q : Region) (c : ℕ) (e : decide n r c ≡ some q) (s : Sound n r) where
-  decided-grown : Contains q r
+  pub decided-grown : Contains q r
   decided-grown x t =
       let d = decide-some n r c q e in
       T_of (ap (λ (y : Region). holds y x) d.2 ∙ holds-mark n r c x s d.0 ∙ ap (λ (b : Bool). b || eqb x c) (T_true (holds r x) t))
@@ -129,3 +138,13 @@ module _ (n : ℕ) (held cut : List ℕ) (c : ℕ) (k : Marking) (held' cut' : L
         grown = decided-grown n before (region held' cut') c (made (ap answer_in y)) sound;
       }
       go False y a = absurd (o y)
+
+  pub noted-earns : (k ≡ False → ⊥) → (d d' : ℕ) → d' ≡ after_mark k d → (m : Meter) (l : Beside)
+      → ltb d d' ≡ earns n (region held cut) (going (state l held' cut' m))
+  unfolding earns
+  noted-earns o d d' a m l = (decided-counts o d d' a).more
+
+-- a Conflict, whatever was decided
+pub conflict-earns : (n : ℕ) (old : Region) (s : State) → true ≡ earns n old (conflict s)
+unfolding earns
+conflict-earns n old s = refl

@@ -13,10 +13,14 @@ use Rattle.words.specs.Region.{Region, region, is_region, decide}
 use Rattle.words.proofs.Regions.{sound-of}
 use Rattle.meter.specs.declared.Meter.{Meter}
 use Rattle.model.specs.declared.OutputCursor.{OutputCursor}
-use Rattle.std.specs.Prelude.{None}
+use Rattle.model.specs.declared.Literal.{Literal}
+use Rattle.model.specs.declared.NextAnswer.TheVariants as next-answer
+use Rattle.std.specs.Prelude.{None, Result, Ok, Err}
 use Rattle.model.specs.Records.{Row, is_row, fresh, limits_of}
 use Rattle.model.specs.Slots.{row_in}
 use Rattle.model.specs.Deduction.{Next, stopped, end, output, Published, published, next_output, start_cursor}
+use Rattle.model.specs.Operations.{next_answer}
+use Rattle.model.specs.Closing.{decides, earns}
 use Rattle.model.specs.Closing.{State, Turn, going, conflict, halted, on_going, with_meter, with_region, decide_on, publish}
 use Rattle.model.proofs.Slots.{ascending-asc}
 use Rattle.model.proofs.Priority.Cursors.{Good, start-good, next-gives}
@@ -26,9 +30,10 @@ use Rattle.model.proofs.Rows.{row-parts}
 use Rattle.slots.specs.Layout.{Stored}
 use Rattle.row_deduce.specs.Publication.{Pointed}
 use Rattle.row_deduce.proofs.Cursors.{pointed-start, pointed-next}
-use Rattle.close_publish.specs.Turns.{Beside, beside, state, halted_as, Counted}
+use Rattle.close_publish.specs.Turns.{Beside, beside, state, halted_as, ended_as, Counted}
 use Rattle.close_publish.specs.declared.Halt.{Halt}
-use Rattle.close_publish.proofs.Ending.{halted-stays}
+use Rattle.close_publish.specs.declared.Halt.TheVariants.{Conflict, Stopped}
+use Rattle.close_publish.proofs.Ending.{halted-stays, ended-stays}
 use Rattle.close_publish.proofs.Deciding.{counted-none, counted-both}
 
 -- ---- a publishing reads and writes nothing of the ledger, nor of the output that is named
@@ -148,6 +153,30 @@ module _ (fuel n : ℕ) (r : Row) (k : OutputCursor) (s : State) where
   unfolding publish after
   publish-outputs c e = ap after e
 
+-- the code's answer
+pub stopped-next : (z : Next) → ((c : Literal) → next_answer z ≡ next-answer.Output c → ⊥) → (next_answer z ≡ next-answer.End → ⊥)
+    → z ≡ stopped
+unfolding next_answer
+stopped-next stopped o e = refl
+stopped-next end o e = absurd (e refl)
+stopped-next (output d) o e = absurd (o _ refl)
+
+-- ---- one decision, by how it ended
+-- it never stops: where it does not go on it is a Conflict, which earns a hit
+pub clashes : {A : Type 0} (w : Result A Halt) (n : ℕ) (old older : Region) (s : State) (c : ℕ) (t : State) → ((a : A) → w ≡ Ok a → ⊥)
+    → ended_as w s ≡ decide_on n c t → earns n old (ended_as w s) ≡ earns n older (ended_as w s)
+unfolding earns decide_on
+clashes (Ok a) n old older s c t o e = absurd (o a refl)
+clashes (Err Conflict) n old older s c t o e = refl
+clashes (Err Stopped) n old older s c t o e = go (decide n t.region c) e
+  where
+    go : (d : Option Region) → halted s ≡ (elim d as (λ k. Turn) [
+      | none ↦ conflict t
+      | some r ↦ going (with_region r t)
+    ]) → decides n old s.region ≡ decides n older s.region
+    go none e = absurd (let q : ◌≡◌ {A = ℕ} 0 1 = cc in omega arith)
+    go (some r) e = absurd (let q : ◌≡◌ {A = ℕ} 0 1 = cc in omega arith)
+
 -- ---- the walk
 bare : Beside
 bare = beside (record { header = fresh (limits_of 0 0 0) 0; entries = [] }) None
@@ -250,6 +279,23 @@ module _ (n : ℕ) (slot : List ℕ) (st : Stored n slot) where
       publish-halts h held' cut' d l =
           halted-stays h (state l held' cut' m') (publish (left row k) n row k')
           ∙ ap (λ (y : Turn). on_going y (publish (left row k) n row k')) (d l m') ∙ here l
+
+      module _ {A : Type 0} (one : Result A Halt) (held' cut' : List ℕ) (m₁ : Meter)
+          (d : (l : Beside) → ended_as one (state l held' cut' m₁) ≡ decide_on n o (state l held cut m')) where
+        -- it is a Conflict
+        pub publish-conflict : ((a : A) → one ≡ Ok a → ⊥) → (l : Beside) → ended_as one (state l held' cut' m₁)
+            ≡ publish (suc (length row.outputs)) n row start_cursor (state l held₀ cut₀ m₀)
+        publish-conflict t l =
+            ended-stays one (state l held' cut' m₁) (publish (left row k) n row k') t
+            ∙ ap (λ (y : Turn). on_going y (publish (left row k) n row k')) (d l) ∙ here l
+
+        -- so the whole walk earns a hit where it does
+        pub ended-earns : ((a : A) → one ≡ Ok a → ⊥) → (b : Bool)
+            → ((l : Beside) → b ≡ earns n (region held cut) (ended_as one (state l held' cut' m₁)))
+            → (l : Beside) → b ≡ earns n (region held₀ cut₀) (ended_as one (state l held' cut' m₁))
+        ended-earns t b g l =
+            g l
+            ∙ clashes one n (region held cut) (region held₀ cut₀) (state l held' cut' m₁) o (state l held cut m') t (d l)
 
       pub publish-less : left row k' < left row k
       publish-less =

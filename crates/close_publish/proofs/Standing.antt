@@ -19,7 +19,7 @@ use Rattle.model.proofs.Entries.{hit-row}
 use Rattle.slots.specs.Layout.{Stored, slot_at, rows_in, tier_of, Held}
 use Rattle.slots.proofs.Holding.{AllRows, entries-laid, held-laid, held-few, held_rows}
 use Rattle.tier.specs.Tier.{hit_words}
-use Rattle.tier.proofs.Buffer.{all-adjust, hit-held}
+use Rattle.tier.proofs.Buffer.{all-adjust, hit-length, hit-held}
 use Rattle.slots.proofs.Rows.{rows_at, slot-code}
 use Rattle.close_publish.specs.Turns.{ledger_of}
 use Rattle.close_publish.specs.Standing.{Standing}
@@ -27,6 +27,10 @@ use Rattle.close_publish.specs.Standing.{Standing}
 -- the slots after a reading: with a hit if one was earned
 abbrev pub Hits : Bool → ℕ → List ℕ → List ℕ → Type 0
 Hits b p slots slots' = ((b ≡ true) × (slots' ≡ hit_words p slots)) ⊎ ((b ≡ false) × (slots' ≡ slots))
+
+pub hits-length : (b : Bool) (p : ℕ) (slots slots' : List ℕ) → Hits b p slots slots' → length slots' ≡ length slots
+hits-length b p slots slots' (inl w) = ap length w.1 ∙ hit-length p slots
+hits-length b p slots slots' (inr w) = ap length w.1
 
 -- the row of a ledger is that of its slot
 pub row_is : (h : Header) (rows : ℕ) (slots : List ℕ) (p : ℕ) → p < rows → row_at p (ledger_of h rows slots) ≡ row_in (slot_at slots p)
@@ -67,6 +71,9 @@ pub standing : (n rows : ℕ) (slots held cut : List ℕ) → Held n rows slots 
 standing n rows slots held cut h t = record { holds = h; same = refl; region = t }
 
 module _ (n rows : ℕ) (rs : List Row) (slots held cut : List ℕ) (s : Standing n rows rs slots held cut) where
+  pub slot-fits : (p : ℕ) → p < rows → slot_words * p + slot_words ≤ length slots
+  slot-fits p l = let f = s.holds.over.long in omega arith
+
   -- the slot that the code lends
   pub stored-part : (p : ℕ) → p < rows → Stored n (take ((slot_words * p + slot_words) - slot_words * p) (drop (slot_words * p) slots))
   stored-part p l = subst (Stored n) (sym (slot-code slots p)) (s.holds.over.stored p l)

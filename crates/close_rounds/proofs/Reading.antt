@@ -1,5 +1,5 @@
 -- The rows read in a round, in turn. Assumes nothing.
-use mathlib.Core.Path.{◌≡◌, sym, ap, ◌∙◌, subst}
+use mathlib.Core.Path.{◌≡◌, refl, sym, ap, ◌∙◌, subst}
 use mathlib.Core.List.{List}
 use Prim.Native.Nat.{ℕ, ◌+◌, ◌≤◌, ◌<◌}
 use native.Mathlib.Numerals.{add-one}
@@ -29,6 +29,10 @@ round-next n ps i s l =
     ∙ sym (ap (λ (xs : List ℕ). round n xs s) (drop-cons ps i 0 l))
 
 -- ---- standing words, seen from an earlier place
+pub stands_here : (n rows : ℕ) (rs : List Row) (slots held cut : List ℕ) → Standing n rows rs slots held cut
+    → Standing n rows (rows_in rows slots) slots held cut
+stands_here n rows rs slots held cut s = record { holds = s.holds; same = refl; region = s.region }
+
 pub stands_from : (n rows : ℕ) (rs qs : List Row) (slots held cut : List ℕ) → rs ≡ qs → Standing n rows rs slots held cut
     → Standing n rows qs slots held cut
 stands_from n rows rs qs slots held cut e s =
@@ -57,6 +61,10 @@ pub record Reading (n rows : ℕ) (ps slots₀ held₀ cut₀ : List ℕ) (m₀ 
       ≡ round n ps (state (beside (ledger_of h rows slots₀) o₀) held₀ cut₀ m₀)
 
 module _ (n rows : ℕ) (ps slots₀ held₀ cut₀ : List ℕ) (m₀ : Meter) (o₀ : Contradicted) where
+  pub read-start : Standing n rows (rows_in rows slots₀) slots₀ held₀ cut₀
+      → Reading n rows ps slots₀ held₀ cut₀ m₀ o₀ slots₀ held₀ cut₀ m₀ o₀ 0
+  read-start s = record { within = omega arith; slots_long = refl; stands = s; rest = λ h. refl }
+
   module _ (slots held cut : List ℕ) (m : Meter) (o : Contradicted) (i : ℕ)
       (w : Reading n rows ps slots₀ held₀ cut₀ m₀ o₀ slots held cut m o i) where
     abbrev wholly : Header → Turn
@@ -64,6 +72,9 @@ module _ (n rows : ℕ) (ps slots₀ held₀ cut₀ : List ℕ) (m₀ : Meter) (
 
     pub read_done : length ps ≤ i → (h : Header) → going (state (beside (ledger_of h rows slots) o) held cut m) ≡ wholly h
     read_done l h = round-none n ps i (state (beside (ledger_of h rows slots) o) held cut m) l ∙ w.rest h
+
+    pub read_here : Standing n rows (rows_in rows slots) slots held cut
+    read_here = stands_here n rows (rows_in rows slots₀) slots held cut w.stands
 
     pub read-stands : (slots' held' cut' : List ℕ) → Standing n rows (rows_in rows slots) slots' held' cut'
         → Standing n rows (rows_in rows slots₀) slots' held' cut'

@@ -3,7 +3,7 @@ use mathlib.Core.Path.{◌≡◌, refl, sym, ap, ap₂, ◌∙◌, subst}
 use mathlib.Core.Bool.{Bool, true, false}
 use mathlib.Core.List.{List, map}
 use mathlib.Core.Option.{Option, none, some}
-use Rattle.std.specs.Prelude.{Result}
+use Rattle.std.specs.Prelude.{Result, Ok, Err, IfOk}
 use Prim.Native.Nat.{ℕ, ◌-◌, ◌≤◌, ◌<◌}
 use native.Mathlib.Nat.{le_refl, sub-zero}
 use native.Mathlib.Omega.{arith}
@@ -33,7 +33,9 @@ use Rattle.postings.proofs.Finding.{positions-sort, found-each}
 use Rattle.postings.proofs.Standing.{here-searchable}
 use Rattle.slots.proofs.Holding.{stands-under}
 use Rattle.postings.proofs.Keeping.{candidates-keep}
+use Rattle.close_note.specs.Noting.{Gathered}
 use Rattle.close_publish.specs.declared.Halt.{Halt}
+use Rattle.close_publish.specs.declared.Halt.TheVariants.{Stopped as HaltStopped}
 use Rattle.close_publish.specs.Turns.{ledger_of, beside, state, ended_as}
 use Rattle.close_publish.specs.Standing.{Standing}
 use Rattle.close_rounds.specs.Running.{Running}
@@ -123,6 +125,14 @@ some-found (some ps) c n ws a w = record { at = ps; is = refl; count = (cc); wor
 pad-fits : (n : ℕ) (xs : List ℕ) → length (pad n xs) ≡ n → length xs ≤ n
 unfolding pad
 pad-fits n xs e = let a = length-append xs (replicate (n - length xs) 0) in omega arith
+
+-- a round that does not go on says nothing of the scratch
+pub new-ended : (g : Result ℕ Halt) (ys ds : List ℕ) → ((k : ℕ) → g ≡ Ok k → ⊥) → IfOk g (λ k. Gathered k ys ds)
+new-ended (Ok k) ys ds i = absurd (i k refl)
+new-ended (Err e) ys ds i = tt
+
+pub stopped-ended : {A : Type 0} (a : A) → ◌≡◌ {A = Result A Halt} (Err HaltStopped) (Ok a) → ⊥
+stopped-ended a e = let z : ◌≡◌ {A = ℕ} 0 1 = cc in omega arith
 
 -- ---- a round
 module _ (h : Header) (slots postings held cut ys : List ℕ) (k : ℕ) (m : Meter) (o : Contradicted)

@@ -16,7 +16,7 @@ use Rattle.model.specs.Slots.{row_in, slot_of}
 use Rattle.model.proofs.Slots.{Valid, valid-of, row-there}
 use Rattle.model.proofs.Rows.{row_more}
 use Rattle.slots.specs.declared.Side.{Side}
-use Rattle.slots.specs.Cursor.{list_of}
+use Rattle.slots.specs.Cursor.{Sound, list_of}
 use Rattle.slots.specs.Layout.{Laid, Stored, output_side, proposal}
 use Rattle.slots.proofs.Storing.{stored-slot, laid-stored, row-proposal, laid-proposal}
 use Rattle.model.specs.declared.OutputCursor.{OutputCursor}
@@ -100,6 +100,10 @@ module _ (n : ℕ) (r : Row) (f : row_fits n r ≡ true) where
 pub written : (r : Row) {p slot : List ℕ} → p ≡ proposal r → slot ≡ slot_of (new_entry (row_in p) 0 0 Founded) → slot
     ≡ slot_of (new_entry r 0 0 Founded)
 written r e w = w ∙ ap (λ (x : Row). slot_of (new_entry x 0 0 Founded)) (ap row_in e ∙ row-proposal r)
+
+-- the outputs of words that are laid out
+pub outputs-sound : (ws : List ℕ) {s : Side} → Laid ws → s ≡ output_side ws → Sound ws s
+outputs-sound ws l e = subst (Sound ws) (sym e) l.second
 
 pub outputs-list : (ws : List ℕ) {s : Side} → Laid ws → s ≡ output_side ws → list_of ws s ≡ (row_in ws).outputs
 outputs-list ws l e = ap (list_of ws) e ∙ l.outputs

@@ -16,25 +16,28 @@ use Rattle.meter.specs.declared.Stopped as error
 use Rattle.meter.specs.declared.Account.{Account}
 use Rattle.meter.specs.declared.Account.TheVariants.{Remaining, Share}
 use Rattle.meter.specs.Judged.{Judged}
-use Rattle.meter.specs.Meter.{pay, judged}
+use Rattle.meter.specs.Meter.{reads_left, pay, judged}
 use Rattle.model.specs.declared.Literal.{Literal}
+use Rattle.model.specs.declared.Source.TheVariants.{Founded}
 use Rattle.model.specs.declared.Deduction.{Deduction}
 use Rattle.model.specs.declared.OutputCursor.{OutputCursor}
 use Rattle.model.specs.Answers.{flag_word}
 use Rattle.model.specs.Records.{Row, slot_words, max_outputs}
-use Rattle.model.specs.Rows.{includes, includes_reads, subsumes, subsumes_reads}
+use Rattle.model.specs.Rows.{includes, includes_reads, subsumes, subsumes_reads, prepare_reads}
 use Rattle.model.specs.Union.{joins, join_reads, grown}
-use Rattle.model.specs.Slots.{row_in}
-use Rattle.model.specs.Deduction.{Published, published, next_output}
+use Rattle.model.specs.Slots.{row_in, slot_of}
+use Rattle.model.specs.Deduction.{Next, Published, published, next_output}
 use Rattle.model.specs.Operations.{cursor_ok}
 use Rattle.slots.specs.Layout.{proposal}
 use Rattle.slots.proofs.Storing.{row-proposal}
 use Rattle.slots.specs.Layout.{row_of}
 use Rattle.row_merge.specs.Merge.{if_yes}
+use Rattle.row_write.specs.Forms.{new_entry}
 use Rattle.row_deduce.specs.Walks.{walked}
 use Rattle.row_deduce.specs.Publication.{next_of, published_as}
 use Rattle.wire.specs.Words.{flag_in, cursor_in, cursor_words}
-use Rattle.leaves.specs.Calls.{account_in, meter_of, judged_words, next_words, deduced_words, walked_words, next_left}
+use Rattle.leaves.specs.Calls.{account_in, meter_of, verdict_number, is_share, judged_words, next_words, said_words, deduced_words}
+use Rattle.leaves.specs.Calls.{walked_words, next_left, prepared_by}
 use Rattle.wire.specs.Replies.{left}
 use Rattle.leaves.specs.Calls.{no_row, no_region, no_cursor, no_choice, no_slot, row_fits, asked_times}
 use Rattle.leaves.specs.Calls.{Prepared, prepared, prepare_times, prepare_call, includes_call, subsumes_words, subsumes_call}
@@ -51,6 +54,29 @@ account-capture ws e = sym (ap (account_by ws) (eq-eqb (get_or ws 1 0) 0 e))
 
 pub account-share : (ws : List ℕ) → (get_or ws 1 0 ≡ 0 → ⊥) → Share (record { 0 = get_or ws 0 0 }) ≡ account_in ws
 account-share ws n = sym (ap (account_by ws) (ne_eqb (get_or ws 1 0) 0 n))
+
+abbrev meter_with : ℕ → ℕ → Meter
+meter_with c l = record { charged = c; limit = l }
+
+pub same-meter : (w a : Meter) → a.limit ≡ w.limit → meter_with a.charged w.limit ≡ a
+same-meter w a e = ap (meter_with a.charged) (sym e)
+
+abbrev judged_as : ℕ → Account → ℕ → List ℕ
+judged_as n a charged = n ∷ flag_word (is_share a) ∷ reads_left a ∷ charged ∷ []
+
+pub judged-as : (j : Judged) {n : ℕ} {a : Account} → n ≡ verdict_number j.verdict → j.account ≡ a
+    → judged_as n a j.meter.charged ≡ judged_words j
+judged-as j e f = ap₂ (λ (n : ℕ) (a : Account). judged_as n a j.meter.charged) e (sym f)
+
+pub next-as : (charged : ℕ) {x y : Next} → x ≡ y → next_words y charged ≡ next_words x charged
+next-as charged e = ap (λ (x : Next). next_words x charged) (sym e)
+
+pub stopped-as : (d : Result Deduction error.Stopped) (charged : ℕ) {e : error.Stopped} → d ≡ Err e
+    → (0 ∷ 0 ∷ 0 ∷ charged ∷ []) ≡ deduced_words d charged
+stopped-as d charged q = sym (ap (λ (x : Result Deduction error.Stopped). deduced_words x charged) q)
+
+pub said-as : (d : Result Deduction error.Stopped) (charged : ℕ) {x : Deduction} → d ≡ Ok x → said_words x charged ≡ deduced_words d charged
+said-as d charged q = sym (ap (λ (y : Result Deduction error.Stopped). deduced_words y charged) q)
 
 -- ---- prepare
 module _ (atoms : ℕ) (cs os paying : List ℕ) (times : ℕ) (slot answer : List ℕ) where
@@ -77,6 +103,12 @@ module _ (atoms : ℕ) (cs os paying : List ℕ) (times : ℕ) (slot answer : Li
         ap (λ (v : List ℕ). left 0 (s ∷ v ∷ [])) y
         ∙ ap (λ (z : Prepared). left 0 (z.slot ∷ judged_words z.judged ∷ [])) all
         ∙ passed (slot ∷ answer ∷ []) _ ∙ passes no_slot _ _ _ (eq-eqb _ _ l) ∙ passes no_row _ _ _ f
+
+-- one call of it
+pub prepared-once : (r : Row) (a : Account) (m : Meter) (slot new : List ℕ) {j : Judged} → j ≡ judged true (pay (prepare_reads r) a m)
+    → new ≡ if_yes j.verdict (slot_of (new_entry r 0 0 Founded)) slot
+    → prepared j new ≡ prepared_by r (judged true (pay (prepare_reads r) a m)) slot
+prepared-once r a m slot new {j} e f = ap (prepared j) f ∙ ap (λ (x : Judged). prepared_by r x slot) e
 
 -- ---- includes
 module _ (atoms : ℕ) (cs ws : List ℕ) (forms : ℕ) (paying : List ℕ) (times : ℕ) (answer : List ℕ) where

@@ -5,9 +5,10 @@ use mathlib.Core.List.{List}
 use mathlib.Core.Option.{none, some}
 use Rattle.std.specs.Prelude.{Result, Ok, Err}
 use Prim.Native.Nat.{ℕ, ◌+◌, ◌≤◌, ◌<◌}
+use native.Mathlib.Omega.{arith}
 use lib.Dec.{ltb, leb}
 use lib.ListN.{length}
-use borrow.Author.Tests.{lt-leb, le-leb}
+use borrow.Author.Tests.{lt-ltb, le-ltb, lt-leb, le-leb}
 use Rattle.meter.specs.declared.Meter.{Meter}
 use Rattle.meter.specs.declared.Purse.{Purse}
 use Rattle.meter.specs.declared.Unpaid.{Unpaid}
@@ -54,6 +55,35 @@ may-capture h slots postings a =
     (sym (entries-length h.rows slots)) a.founded
     ∙ ap (λ (b : Bool). leb h.limits.tier_rows (length es) && (b && leb (founded_rows es) h.limits.founded_floor))
     (sym (founded-all es)))
+
+-- `full_shuts` and `can_capture`, test by test
+module _ (h : Header) where
+  pub shut-room : h.rows < h.limits.tier_rows → false ≡ shut_by h
+  unfolding shut_by
+  shut-room l = sym (rw (lt-leb h.limits.tier_rows h.rows l))
+
+  pub shut-tip : h.limits.tier_rows ≤ h.rows → h.founded < h.rows → false ≡ shut_by h
+  unfolding shut_by
+  shut-tip l k = sym (rw (le-leb h.limits.tier_rows h.rows l, lt-leb h.rows h.founded k))
+
+  pub shut-floor : h.limits.tier_rows ≤ h.rows → h.rows ≤ h.founded → leb h.founded h.limits.founded_floor ≡ shut_by h
+  unfolding shut_by
+  shut-floor l k = sym (rw (le-leb h.limits.tier_rows h.rows l, le-leb h.rows h.founded k))
+
+  pub capture-tried : h.limits.founded_attempts ≤ h.attempts → false ≡ may_capture h
+  unfolding may_capture
+  capture-tried l = sym (rw (le-ltb h.attempts h.limits.founded_attempts l))
+
+  pub capture-spent : h.attempts < h.limits.founded_attempts → h.remaining.0 ≡ 0 → false ≡ may_capture h
+  unfolding may_capture
+  capture-spent l e = sym (rw (lt-ltb h.attempts h.limits.founded_attempts l, le-ltb 0 h.remaining.0 (omega arith)))
+
+  pub capture-rest : h.attempts < h.limits.founded_attempts → (h.remaining.0 ≡ 0 → ⊥) → {b : Bool} → b ≡ shut_by h
+      → not b ≡ may_capture h
+  unfolding may_capture
+  capture-rest l e {b} q =
+      let funded : 0 < h.remaining.0 = omega arith in
+      ap not q ∙ sym (rw (lt-ltb h.attempts h.limits.founded_attempts l, lt-ltb 0 h.remaining.0 funded))
 
 module _ (h : Header) (slots postings cs os : List ℕ) (source : ℕ) (m : Meter) where
   abbrev s : Lent
@@ -184,3 +214,10 @@ pub capture-proposed : (l : Ledger) (source : Source) (t : Row) (m : Meter) (r :
     offer_end r ws ps ≡ (capture l source (row_in p) m).seen → offer_end r ws ps ≡ (capture l source t m).seen
 capture-proposed l source t m r ws ps p e =
     subst (λ (x : Row). offer_end r ws ps ≡ (capture l source x m).seen) (ap row_in e ∙ row-proposal t)
+
+pub captured-is : (k : Result Kept Unpaid) (b : Header) (p : Purse) (m : Meter) (a : OfferAnswer) (h : Header) (n : ℕ) → a ≡ answer_of k
+    → h ≡ with_account b p.account → n ≡ made m p.meter
+    → record { answer = Ok a; header = h; meter = p.meter; ticks = n } ≡ captured_by k b p m
+captured-is k b p m a h n e f g =
+    ap₂ {C = OfferResult} (λ (x : OfferAnswer) (y : Header). record { answer = Ok x; header = y; meter = p.meter; ticks = n }) e f
+    ∙ ap (λ (x : ℕ). record { answer = Ok (answer_of k); header = with_account b p.account; meter = p.meter; ticks = x }) g

@@ -59,6 +59,15 @@ later-all a [] h = later-none a
 later-all a (x ∷ xs) h =
     later-other a x xs (λ e. omega (arith, each-head (λ v. v < a) x xs h)) ∙ sym (distinct-later x xs)
 
+pub later-short : (a : ℕ) (xs : List ℕ) → length (later a xs) ≤ length xs
+later-short a [] = omega (arith, ap length (later-none a))
+later-short a (x ∷ xs) = go (same_or x a) (later-short a xs) (later-short x xs)
+  where
+    go : (x ≡ a) ⊎ (x ≡ a → ⊥) → length (later a xs) ≤ length xs → length (later x xs) ≤ length xs
+        → length (later a (x ∷ xs)) ≤ suc (length xs)
+    go (inl e) h k = omega (arith, ap length (later_same a x xs e))
+    go (inr n) h k = omega (arith, ap length (later-other a x xs n))
+
 -- ---- the postings left of a side
 -- the atom met last; before the first, what no atom is
 abbrev pub last_met : Option ℕ → ℕ

@@ -4,6 +4,7 @@ pub mod Placing
 pub mod Ways
 pub mod Rooms
 pub mod Publishing
+pub mod Paying
 pub mod Admitting
 pub mod Rising
 pub mod Retaining

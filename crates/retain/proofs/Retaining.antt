@@ -1,6 +1,6 @@
 -- `retain` by the ways that it ends. Assumes nothing.
 use mathlib.Core.Path.{◌≡◌, refl, sym, ap, ◌∙◌}
-use mathlib.Core.Bool.{Bool, false}
+use mathlib.Core.Bool.{Bool, true, false}
 use mathlib.Core.List.{List}
 use Rattle.std.specs.Prelude.{Option, Some, None, Result, Ok, Err}
 use Prim.Native.Nat.{ℕ, ◌+◌, ◌≤◌}
@@ -14,7 +14,7 @@ use Rattle.meter.specs.Meter.{and_then, pay}
 use Rattle.meter.proofs.Laws.{pay-add, pay-none}
 use Rattle.model.specs.declared.Header.{Header}
 use Rattle.model.specs.declared.Source.{Source}
-use Rattle.model.specs.Records.{Row, Entry, Ledger}
+use Rattle.model.specs.Records.{Row, Entry, Ledger, is_row, max_outputs}
 use Rattle.model.specs.Slots.{entries_in}
 use Rattle.model.specs.Retention.{Pass, passed, Placement, subsumed, protected, placing, evicting, Subsumes, first_pass}
 use Rattle.model.specs.Retention.{placement_after, placement, place_reads, retain_reads, carry_out, retained, retain}
@@ -29,7 +29,7 @@ use Rattle.retain.specs.declared.Kept.TheVariants.{Subsumed}
 use Rattle.retain.specs.Ends.{End, retain_end, end_of, carried, admit_end}
 use Rattle.retain.proofs.Admitting.{as-untaken}
 use Rattle.contents.proofs.Lending.{accepted-lent}
-use Rattle.retain.proofs.Rising.{both-placement_after}
+use Rattle.retain.proofs.Rising.{both-placement_after, both-row}
 
 -- ---- the definition, the two passes apart
 as-carried : (l : Ledger) (most hits : ℕ) (source : Source) (t : Row) (r : Read)
@@ -109,6 +109,10 @@ module _ (h : Header) (slots postings : List ℕ) (acc : Accepted h slots postin
       ∙ by_read (sym k.1)
 
   -- none does
+  pub retain-row : (f : ℕ → Bool) (q : Row) → both_passes x ≡ passed (examined_by f 0 es) q
+      → most ≤ max_outputs → is_row h.limits.atoms p ≡ true → is_row h.limits.atoms q ≡ true
+  retain-row f q b l r = both-row h most p es l r acc.entries b
+
   pub retain-admits : {found : Option ℕ} (b : Purse) → Compares (Ok found) b → found ≡ None
       → (f : ℕ → Bool) (q : Row) → both_passes x ≡ passed (examined_by f 0 es) q
       → {z : End} → z ≡ admit_end s f q hits source b.account b.meter → z ≡ whole

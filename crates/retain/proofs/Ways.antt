@@ -2,14 +2,14 @@
 use mathlib.Core.Path.{◌≡◌, sym, ap, ap₂, ◌∙◌, subst}
 use mathlib.Core.Bool.{Bool}
 use mathlib.Core.List.{List, [], ◌∷◌}
-use Prim.Native.Nat.{ℕ, ◌+◌, ◌≤◌, ◌<◌}
+use Prim.Native.Nat.{ℕ, ◌+◌, ◌*◌, ◌≤◌, ◌<◌}
 use native.Mathlib.Omega.{arith}
 use lib.ListN.{length, set, length-append, length-set}
 use Rattle.words.specs.Literal.{code_bits}
 use Rattle.words.specs.Region.{max_atoms}
 use Rattle.words.proofs.Widths.{most-coded}
 use Rattle.model.specs.declared.Source.{Source}
-use Rattle.model.specs.Records.{Entry, is_row}
+use Rattle.model.specs.Records.{Entry, is_row, slot_words}
 use Rattle.model.specs.Slots.{slots_of, row_in, entries_in}
 use Rattle.slots.specs.Layout.{tier_of, Held}
 use Rattle.slots.proofs.Holding.{AllRows, tier-laid, entries-laid, held-laid, held_rows, held-few}
@@ -24,6 +24,15 @@ use Rattle.retain.proofs.Placing.{all_placed, put-held, put-after}
 module _ (room : Room) (rows : ℕ) (slots p : List ℕ) (k : Placing room rows slots p) where
   fits-as : {r : Room} → room ≡ r → Fits r rows (tier_of slots)
   fits-as e = subst (λ (r : Room). Fits r rows (tier_of slots)) e k.fits
+
+  pub after-inside : room ≡ After → slot_words * rows + slot_words ≤ length slots
+  after-inside e = let l : rows < tier_of slots = fits-as e in omega arith
+
+  pub first-inside : (t : ℕ) → room ≡ First t → slot_words * t + slot_words ≤ length slots
+  first-inside t e = let l : t < rows = fits-as e in let f = k.held.over.long in omega arith
+
+  pub victim-inside : (v : ℕ) → room ≡ Victim v → slot_words * v + slot_words ≤ length slots
+  victim-inside v e = let l : v < rows = fits-as e in let f = k.held.over.long in omega arith
 
   pub first-before : (t : ℕ) → room ≡ First t → t < rows
   first-before t e = fits-as e

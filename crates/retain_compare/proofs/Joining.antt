@@ -26,7 +26,20 @@ use Rattle.model.specs.Rows.{subsumes, subsumes_reads}
 use Rattle.model.specs.Union.{joins, join_reads, grown}
 use Rattle.slots.specs.Layout.{proposal}
 use Rattle.retain_compare.specs.Passes.{row_reads, proposal_after}
-use Rattle.retain_compare.specs.Turns.{marked_if}
+use Rattle.retain_compare.specs.Turns.{marked_if, WhereNo}
+
+-- ---- what is told where a question says No
+pub no_all : (v : Verdict) {P : Type 0} → P → WhereNo v P
+no_all verdict.Yes p = tt
+no_all verdict.No p = p
+no_all verdict.Declined p = tt
+no_all verdict.Stopped p = tt
+
+pub no_other : (v : Verdict) (P : Type 0) → (v ≡ verdict.No → ⊥) → WhereNo v P
+no_other verdict.No P t = absurd (t refl)
+no_other verdict.Yes P t = tt
+no_other verdict.Declined P t = tt
+no_other verdict.Stopped P t = tt
 
 -- ---- a second question is asked where the first says No, and says No too
 abbrev on_no : Verdict → Judged → Judged → Judged
@@ -34,6 +47,12 @@ on_no verdict.Yes i j = i
 on_no verdict.No i j = j
 on_no verdict.Declined i j = i
 on_no verdict.Stopped i j = i
+
+pub not-no : (v : Verdict) (i j : Judged) → (v ≡ verdict.No → ⊥) → i ≡ on_no v i j
+not-no verdict.No i j t = absurd (t refl)
+not-no verdict.Yes i j t = refl
+not-no verdict.Declined i j t = refl
+not-no verdict.Stopped i j t = refl
 
 -- nor where the first is not answered
 unpaid-alone : (e : Unpaid) (i j : Judged) → i ≡ on_no (verdict_of (Err e)) i j

@@ -1,6 +1,7 @@
 pub mod Passing
 pub mod Holding
 pub mod Marking
+pub mod Answers
 pub mod Sweep
 pub mod Joining
 pub mod Rising

@@ -1,6 +1,6 @@
 -- 01, module 5: 'then a second pass for dominated rows'. What its loop keeps from one position to the next. Assumes nothing.
 use mathlib.Core.Path.{◌≡◌, refl, sym, ap, ◌∙◌, subst}
-use mathlib.Core.Bool.{Bool, ◌||◌}
+use mathlib.Core.Bool.{Bool, true, ◌||◌}
 use mathlib.Core.List.{List}
 use mathlib.Core.Logic.{◌⊎◌, inl, inr}
 use Prim.Native.Nat.{ℕ, suc, ◌+◌, ◌/◌, ◌≤◌, ◌<◌}
@@ -15,11 +15,14 @@ use Rattle.meter.specs.declared.Meter.{Meter}
 use Rattle.meter.specs.declared.Account.{Account}
 use Rattle.meter.specs.declared.Purse.{Purse}
 use Rattle.meter.specs.declared.Unpaid.{Unpaid}
+use Rattle.meter.specs.Judged.{Judged}
+use Rattle.meter.specs.Verdict.{Verdict}
+use Rattle.meter.specs.Verdict as verdict
 use Rattle.meter.specs.Read as read
-use Rattle.meter.specs.Meter.{pay}
+use Rattle.meter.specs.Meter.{pay, judged}
 use Rattle.meter.specs.Results.{unpaid_end}
 use Rattle.meter.proofs.Laws.{pay-none}
-use Rattle.meter.proofs.Payments.{unpaid-more, paid-more}
+use Rattle.meter.proofs.Payments.{unpaid-more, paid-more, on_yes, ask-both}
 use Rattle.model.specs.Records.{Row, Entry}
 use Rattle.model.specs.Rows.{subsumes}
 use Rattle.model.specs.Retention.{second_pass, second_reads}
@@ -28,6 +31,13 @@ use Rattle.retain_compare.specs.Passes.{examined_by}
 use Rattle.retain_compare.specs.Turns.{sweep_reads, swept_marks}
 use Rattle.retain_compare.proofs.Marking.{swept-length, swept-here, swept-other}
 use Rattle.retain_compare.proofs.Passing.{second-step, second-marks}
+
+-- an answer that is not Yes is the whole
+alone : (v : Verdict) (i j : Judged) → (v ≡ verdict.Yes → ⊥) → i ≡ on_yes v i j
+alone verdict.Yes i j t = absurd (t refl)
+alone verdict.No i j t = refl
+alone verdict.Declined i j t = refl
+alone verdict.Stopped i j t = refl
 
 -- no entry is left from the end on
 none_left : (f : ℕ → Bool) (p : Row) (i : ℕ) (es : List Entry) → length es ≤ i → second_reads p (examined_by f i (drop i es)) ≡ 0
@@ -91,6 +101,14 @@ module _ (p : Row) (es : List Entry) (old : List ℕ) (a₀ : Account) (m₀ : M
             let n : (j ≡ i → ⊥) = λ q. omega arith in
             let k : i ≤ j = omega arith in
             swept-other p row marks i w (has marks i) j n ∙ s.ahead j k
+
+    pub sweep-not : (v : Judged) → v ≡ judged true (pay (sweep_reads (has marks i) p row) a m) → (v.verdict ≡ verdict.Yes → ⊥)
+        → v ≡ judged true (pay (second_reads p (examined_by (has old) 0 es)) a₀ m₀)
+    sweep-not v h t =
+        alone v.verdict v (judged true (pay (left (suc i)) v.account v.meter)) t
+        ∙ ap (λ (j : Judged). on_yes j.verdict j (judged true (pay (left (suc i)) j.account j.meter))) h
+        ∙ ask-both true true (sweep_reads (has marks i) p row) (left (suc i)) a m
+        ∙ ap (judged true) (sym split ∙ s.reads)
 
     pub sweep-unpaid : (e : Unpaid) (u : Purse) → unpaid_end e u ≡ pay (sweep_reads (has marks i) p row) a m
         → unpaid_end e u ≡ pay (second_reads p (examined_by (has old) 0 es)) a₀ m₀

@@ -7,6 +7,7 @@ use native.Mathlib.Omega.{arith}
 use lib.Dec.{eqb, ltb}
 use lib.ListN.{length, get_or, take, drop, length-append}
 use lib.Seq.{get_or-take, get_or-drop}
+use borrow.Author.Tests.{eq-eqb, ne_eqb, lt-ltb, le-ltb}
 use Rattle.std.specs.Prelude.{Result, Ok, Err}
 use Rattle.lists.specs.Lists.{adjust}
 use Rattle.meter.specs.declared.Meter.{Meter}
@@ -44,9 +45,26 @@ use Rattle.transfers.proofs.Passing.{told, subsumed-in, kept-fits, left_as, chan
 
 -- ---- the tests of a row that is passed over
 module _ (row : List ℕ) where
+  pub shared-no : (get_or row delivered_at 0 ≡ 1 → ⊥) → false ≡ (eqb (get_or row delivered_at 0) 1 && eqb (get_or row unshared_at 0) 0)
+  shared-no f = sym (ap (λ (b : Bool). b && eqb (get_or row unshared_at 0) 0) (ne_eqb (get_or row delivered_at 0) 1 f))
+
+  pub shared-so : get_or row delivered_at 0 ≡ 1
+      → eqb (get_or row unshared_at 0) 0 ≡ (eqb (get_or row delivered_at 0) 1 && eqb (get_or row unshared_at 0) 0)
+  shared-so e = sym (ap (λ (b : Bool). b && eqb (get_or row unshared_at 0) 0) (eq-eqb (get_or row delivered_at 0) 1 e))
+
   module _ (limits : LearningLimits) where
     abbrev narrow : Bool
     narrow = ltb limits.share_conditions (get_or row conditions_at 0) && ltb (get_or row hits_at 0) limits.share_hits
+
+    pub narrow-no : get_or row conditions_at 0 ≤ limits.share_conditions → false ≡ narrow
+    narrow-no l =
+        sym (ap (λ (b : Bool). b && ltb (get_or row hits_at 0) limits.share_hits)
+        (le-ltb limits.share_conditions (get_or row conditions_at 0) l))
+
+    pub narrow-so : limits.share_conditions < get_or row conditions_at 0 → ltb (get_or row hits_at 0) limits.share_hits ≡ narrow
+    narrow-so l =
+        sym (ap (λ (b : Bool). b && ltb (get_or row hits_at 0) limits.share_hits)
+        (lt-ltb limits.share_conditions (get_or row conditions_at 0) l))
 
     module _ (l : Laid row) where
       passes-is : passes_over limits (entry_in row) ≡ ((eqb (get_or row delivered_at 0) 1 && eqb (get_or row unshared_at 0) 0) || narrow)

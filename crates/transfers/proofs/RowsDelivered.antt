@@ -10,7 +10,7 @@ use Rattle.meter.specs.declared.Unpaid.{Unpaid}
 use Rattle.meter.specs.declared.Unpaid.TheVariants.{Declined, Stopped}
 use Rattle.model.specs.declared.LearningLimits.{LearningLimits}
 use Rattle.model.specs.declared.Header.{Header}
-use Rattle.model.specs.Records.{Entry, Ledger, slot_words}
+use Rattle.model.specs.Records.{Entry, Ledger, slot_words, max_rows}
 use Rattle.model.specs.Slots.{entry_in, entries_in}
 use Rattle.model.specs.Transfers.{Progress, whole, Transfer, Delivery, deliver_rows}
 use Rattle.slots.specs.Layout.{slot_at}
@@ -38,6 +38,9 @@ module _ (t : Header) (ws ps : List ℕ) (h : Header) (done es : List Entry) (i 
 
   pub tier-fits : slot_words * i + slot_words ≤ length ws
   tier-fits = (place-fits t ws ps ledger s i under).1
+
+  pub tier-small : i < max_rows
+  tier-small = (place-fits t ws ps ledger s i under).0
 
   tail : drop (i + 1) (done ++ drop i es) ≡ drop (i + 1) es
   tail = sym (drop-drop 1 i (done ++ drop i es)) ∙ ap (drop 1) (drop_at done (drop i es) i long) ∙ drop-drop 1 i es

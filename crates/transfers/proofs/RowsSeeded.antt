@@ -5,17 +5,23 @@ use Prim.Native.Nat.{ℕ, suc, ◌+◌, ◌-◌, ◌*◌, ◌≤◌, ◌<◌}
 use native.Mathlib.Omega.{arith}
 use lib.ListN.{length, take, drop, drop_of_length-le}
 use Rattle.std.specs.Prelude.{Result, Err}
+use Rattle.meter.specs.declared.Meter.{Meter}
+use Rattle.meter.specs.declared.Sharing.{Sharing}
 use Rattle.meter.specs.declared.Unpaid.{Unpaid}
 use Rattle.meter.specs.declared.Unpaid.TheVariants.{Declined, Stopped}
+use Rattle.model.specs.declared.Header.{Header}
 use Rattle.model.specs.declared.LearningLimits.{LearningLimits}
 use Rattle.model.specs.Records.{Entry, slot_words, max_outputs}
 use Rattle.model.specs.Transfers.{Progress, whole, Transfer, seed_rows}
+use Rattle.model.specs.Refusals.{ledger_in}
+use Rattle.contents.specs.Lent.{lent}
+use Rattle.retain_keep.specs.Stood.{Stood}
 use Rattle.slots.specs.Layout.{RowsOver}
 use Rattle.slots.proofs.Rows.{slot-code}
 use Rattle.transfers.specs.declared.receiving.TransferState.{TransferState}
-use Rattle.transfers.specs.Transfer.{progress_of, Carried, Ready}
+use Rattle.transfers.specs.Transfer.{progress_of, start_by, start_of, Carried, Ready}
 use Rattle.transfers.proofs.Seeds.{onward_by, seed-end, seed-split}
-use Rattle.transfers.proofs.Carrying.{carried-up, ready_at}
+use Rattle.transfers.proofs.Carrying.{carried-up, carried-start, ready_at}
 
 -- a row of the giver's slots, as the code lends it
 pub row-ready : (n i rows : ℕ) (p : TransferState) (slots postings given : List ℕ) (v : Transfer) (o : ℕ)
@@ -23,6 +29,14 @@ pub row-ready : (n i rows : ℕ) (p : TransferState) (slots postings given : Lis
     → Ready p slots postings (take ((slot_words * i + slot_words) - slot_words * i) (drop (slot_words * i) given)) o
 row-ready n i rows p slots postings given v o h g m l =
     subst (λ (row : List ℕ). Ready p slots postings row o) (sym (slot-code given i)) (ready_at n i rows p slots postings given v o h g m l)
+
+-- the definition's transfer at the start of the code's
+pub carried_first : (h : Header) (slots postings : List ℕ) → Stood h slots postings (ledger_in (lent h slots postings))
+    → (a : Sharing) (m : Meter) {p : TransferState} → p ≡ start_by h a m
+    → Carried h.limits.atoms 0 whole p slots postings (start_of p slots postings)
+carried_first h slots postings s a m e =
+    subst (λ (p : TransferState). Carried h.limits.atoms 0 whole p slots postings (start_of p slots postings)) (sym e)
+    (carried-start (start_by h a m) slots postings s refl)
 
 -- a transfer that does not go on
 pub ended : (u : Unpaid) (v : Transfer) (f : Transfer → Transfer) → onward_by (progress_of {A = Unit {0}} (Err u)) v f ≡ v
