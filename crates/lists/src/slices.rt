@@ -17,10 +17,12 @@ pub fn all_zero(s: &[u64]) -> bool
     s.iter().fold(0, |bits, x| bits | *x) == 0
 }
 
-// The first words of dst become those of src.
+// The first words of dst become those of src. Word by word: with `copy_from_slice` an archive for C would need memmove from outside.
 pub fn copy(src: &[u64], dst: &mut [u64])
     requires { length src.now ≤ length dst.old }
     ensures { dst.new ≡ put 0 src.now dst.old }
 {
-    dst[..src.len()].copy_from_slice(src);
+    for i in 0..src.len() {
+        dst[i] = src[i];
+    }
 }

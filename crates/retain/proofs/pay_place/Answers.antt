@@ -26,7 +26,7 @@ returns-in_err-prepared-clause-reads c =
     let n : ℕ = prepare_reads (row_in c.args.p.now) in
     let more : n ≤ n + room_reads c.args.room c.args.rows = omega arith in
     read-more n _ _ _ _ e more
-      (sym (ap (λ r. read_end r c.prepare-prepared.new.purse) c.in_err-prepared.was) ∙ c.prepare-prepared.ensures.reads)
+    (sym (ap (λ r. read_end r c.prepare-prepared.new.purse) c.in_err-prepared.was) ∙ c.prepare-prepared.ensures.reads)
 
 pub returns-in_err-pay_all : goal.returns-in_err-pay_all
 returns-in_err-pay_all c =

@@ -25,5 +25,5 @@ reads_of-reads-requires c = let k = counts c.requires in omega arith
 pub returns-clause-reads : goal.returns-clause-reads
 returns-clause-reads c =
     let reads-are : c.reads_of-reads.result ≡ prepare_reads (row_in c.args.p.now) =
-        c.reads_of-reads.ensures ∙ ap₂ reads_for (counts c.requires).all c.form_of-form.ensures ∙ reads-form (row_in c.args.p.now) in
+    c.reads_of-reads.ensures ∙ ap₂ reads_for (counts c.requires).all c.form_of-form.ensures ∙ reads-form (row_in c.args.p.now) in
     c.pay_all-paid.ensures ∙ ap (λ (n : ℕ). pay n c.args.purse.now.account c.args.purse.now.meter) reads-are
