@@ -1,5 +1,5 @@
-// A call of one of the functions for C on raw words: what the programs `damaged` and `replay` share. Nothing is tested here: whatever the
-// words are, they are lent as they are.
+// A call of one of the functions for C, by its number or as an `Operation`, on raw words: what the programs `damaged` and `replay` share.
+// Nothing is tested here: whatever the words are, they are lent as they are.
 #![tactic(auto)]
 
 use boundary::{
@@ -87,42 +87,75 @@ fn limits_in(head: &[u64; HEADER_WORDS]) -> [u64; LIMITS_WORDS] {
     limits
 }
 
-// The call: the refusal, or 0, as the function for C answers it.
-pub fn call(operation: Operation, lent: &mut Lent) -> u64 {
-    let (head, store, answer, meter, cursor, given) = split(lent.words);
-    let slots = &mut *lent.slots;
-    let postings = &mut *lent.postings;
-    let first = &mut *lent.first;
-    let second = &mut *lent.second;
-    let third = &mut *lent.third;
-    let fourth = &mut *lent.fourth;
-    let limits = limits_in(head);
-    let [number, atom, value] = *given;
-    match operation {
-        Operation::Make => ledger_make(&limits, number, head, answer, slots, postings),
-        Operation::Begin => ledger_begin(head, answer, slots, postings),
-        Operation::Hit => ledger_hit(head, answer, slots, postings, number),
-        Operation::Deduce => ledger_deduce(
-            head, answer, meter, slots, postings, number, first, second,
-        ),
-        Operation::NextOutput => ledger_next_output(
-            head, answer, meter, cursor, slots, postings, number, first, second,
-        ),
-        Operation::Decide => {
-            ledger_decide(answer, head[HEAD_ATOMS_AT], first, second, atom, value)
+impl Operation {
+    // The call: the refusal, or 0, as the function for C answers it.
+    pub fn call(self, lent: &mut Lent) -> u64 {
+        let (head, store, answer, meter, cursor, given) = split(lent.words);
+        let slots = &mut *lent.slots;
+        let postings = &mut *lent.postings;
+        let first = &mut *lent.first;
+        let second = &mut *lent.second;
+        let third = &mut *lent.third;
+        let fourth = &mut *lent.fourth;
+        let limits = limits_in(head);
+        let [number, atom, value] = *given;
+        match self {
+            Operation::Make => ledger_make(&limits, number, head, answer, slots, postings),
+            Operation::Begin => ledger_begin(head, answer, slots, postings),
+            Operation::Hit => ledger_hit(head, answer, slots, postings, number),
+            Operation::Deduce => ledger_deduce(
+                head, answer, meter, slots, postings, number, first, second,
+            ),
+            Operation::NextOutput => ledger_next_output(
+                head, answer, meter, cursor, slots, postings, number, first, second,
+            ),
+            Operation::Decide => {
+                ledger_decide(answer, head[HEAD_ATOMS_AT], first, second, atom, value)
+            }
+            Operation::Offer => ledger_offer(
+                head, answer, meter, slots, postings, first, second, number,
+            ),
+            Operation::Candidates => ledger_candidates(
+                head, answer, meter, slots, postings, first, second,
+            ),
+            Operation::Close => ledger_close(
+                head, answer, meter, slots, postings, first, second, third, fourth,
+            ),
+            Operation::Seed => ledger_seed(
+                head, store, answer, meter, slots, postings, first, second,
+            ),
+            Operation::Deliver => ledger_deliver(
+                head, store, answer, meter, slots, postings, first, second,
+            ),
         }
-        Operation::Offer => ledger_offer(
-            head, answer, meter, slots, postings, first, second, number,
-        ),
-        Operation::Candidates => ledger_candidates(
-            head, answer, meter, slots, postings, first, second,
-        ),
-        Operation::Close => ledger_close(
-            head, answer, meter, slots, postings, first, second, third, fourth,
-        ),
-        Operation::Seed => ledger_seed(head, store, answer, meter, slots, postings, first, second),
-        Operation::Deliver => ledger_deliver(
-            head, store, answer, meter, slots, postings, first, second,
-        ),
     }
+}
+
+// The call of a function by its number, from 0 on in the order of include/ledger.h; any other number is that of `offer`. Of fewer words than
+// WORDS none are read or written: the call is then lent zeros.
+pub fn call(
+    operation: u64,
+    words: &mut [u64],
+    slots: &mut [u64],
+    postings: &mut [u64],
+    first: &mut [u64],
+    second: &mut [u64],
+    third: &mut [u64],
+    fourth: &mut [u64],
+) -> u64 {
+    let operation = OPERATIONS
+        .get(operation as usize)
+        .copied()
+        .unwrap_or(Operation::Offer);
+    let mut zeros = [0u64; WORDS];
+    let mut lent = Lent {
+        words: words.first_chunk_mut().unwrap_or(&mut zeros),
+        slots,
+        postings,
+        first,
+        second,
+        third,
+        fourth,
+    };
+    operation.call(&mut lent)
 }

@@ -186,7 +186,7 @@ fn attempt(operation: Operation, copy: &[u64; COPY_WORDS]) -> Tried {
         third: scratch(copy[ROW_SCRATCH_LEN_AT], &mut rows),
         fourth: scratch(copy[ATOM_SCRATCH_LEN_AT], &mut atoms),
     };
-    let refused = calls::call(operation, &mut lent);
+    let refused = operation.call(&mut lent);
     Tried {
         refused,
         wrong: refused != 0 && !is_kept(operation, copy, &lent),

@@ -134,7 +134,7 @@ fn call_at(operation: Operation, s: &[u8], at: usize, out: &mut Writer) -> usize
         third,
         fourth,
     };
-    let refusal = calls::call(operation, &mut lent);
+    let refusal = operation.call(&mut lent);
     out.put_field(b" ", refusal);
     put_lent(out, &lent);
     out.put(b'\n');

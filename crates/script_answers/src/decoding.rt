@@ -99,7 +99,9 @@ fn conditions(slot: &Slot) -> &[u64]
 }
 
 // The words of the outputs of a slot.
-fn outputs(slot: &Slot) -> &[u64] {
+fn outputs(slot: &Slot) -> &[u64]
+    ensures { BODY_AT + length result.now ≤ SLOT_WORDS }
+{
     let behind = &slot[BODY_AT + conditions(slot).len()..];
     if is_packed(slot) {
         let groups = wrapping_sub_u64(slot[TOTAL_GROUPS_AT], slot[CONDITION_GROUPS_AT]);

@@ -19,10 +19,16 @@ pub fn put_refused(out: &mut Writer, n: u64) {
     out.put_text(b" charge=0");
 }
 
-// The answer's case by its name, the word of `names` that it counts.
+// The answer's case by its name, the word of `names` that it counts. Where the name ends with a colon the answer's value stands for it.
 pub fn put_case(out: &mut Writer, names: &[u8], answer: &[u64; ANSWER_WORDS]) {
     out.put(b' ');
-    out.put_text(nth(names, answer[0] as usize));
+    match nth(names, answer[0] as usize) {
+        [name @ .., b':'] => {
+            out.put_text(name);
+            out.put_field(b" ", answer[1]);
+        }
+        name => out.put_text(name),
+    }
 }
 
 // The seed mark of a header.

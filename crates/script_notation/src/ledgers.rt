@@ -1,5 +1,7 @@
 // The ledgers of a script, whose words lie in the program's arrays.
-use crate::memory::{Head, Postings, ROWS, Slots};
+ghost use Rattle.std.specs.Prelude.{◌≤◌, length, IfSome};
+
+use crate::memory::{Head, POSTINGS, Postings, ROWS, SLOTS, Slots};
 use crate::points::Point;
 use model::{POSTING_WORDS, SLOT_WORDS};
 use wire::HEAD_TIER_ROWS_AT;
@@ -27,7 +29,9 @@ fn part<'a>(
     slots: &'a mut Slots,
     postings: &'a mut Postings,
     rows: u64,
-) -> Option<Ledger<'a>> {
+) -> Option<Ledger<'a>>
+    ensures { IfSome result (λ l. (length l.slots.now ≤ SLOTS) × (length l.postings.now ≤ POSTINGS)) }
+{
     if rows == 0 || ROWS < rows {
         return None;
     }
@@ -46,7 +50,9 @@ pub fn place_for<'a>(
     postings: &'a mut [Postings],
     index: u64,
     rows: u64,
-) -> Option<Ledger<'a>> {
+) -> Option<Ledger<'a>>
+    ensures { IfSome result (λ l. (length l.slots.now ≤ SLOTS) × (length l.postings.now ≤ POSTINGS)) }
+{
     let i = index as usize;
     part(
         heads.get_mut(i)?,

@@ -14,7 +14,7 @@ const WORD_BYTES: usize = 8;
 
 // A name as words of eight bytes.
 #[derive(Clone, Copy, Debug, PartialEq, Eq)]
-pub struct Name([u64; NAME_WORDS]);
+pub struct Name(pub [u64; NAME_WORDS]);
 
 // An atom that has a name.
 #[derive(Clone, Copy, Debug, PartialEq, Eq)]
@@ -54,20 +54,18 @@ pub fn name_of(word: &[u8]) -> Option<Name> {
 
 // The atom of a name.
 pub fn atom_named(points: &[Option<Point>], name: Name) -> Option<u64> {
-    points
-        .iter()
-        .flatten()
-        .find(|point| point.name == name)
-        .map(|point| point.atom)
+    points.iter().find_map(|place| match place {
+        Some(point) if point.name == name => Some(point.atom),
+        _ => None,
+    })
 }
 
 // The name of an atom.
 pub fn name_at(points: &[Option<Point>], atom: u64) -> Option<Name> {
-    points
-        .iter()
-        .flatten()
-        .find(|point| point.atom == atom)
-        .map(|point| point.name)
+    points.iter().find_map(|place| match place {
+        Some(point) if point.atom == atom => Some(point.name),
+        _ => None,
+    })
 }
 
 // Names an atom, unless it has the name already.

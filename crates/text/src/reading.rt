@@ -1,5 +1,5 @@
 // The words of a line, which spaces part; decimal numbers from 0 to 2^64 - 1; lists of them.
-ghost use Rattle.std.specs.Prelude.{◌+◌, ◌≤◌, min, length};
+ghost use Rattle.std.specs.Prelude.{◌≡◌, ◌+◌, ◌-◌, ◌≤◌, min, length, take, drop};
 
 // A list that was read: how many numbers it has, and the place after it.
 #[derive(Clone, Copy)]
@@ -21,6 +21,7 @@ pub fn join_lines(s: &mut [u8]) {
 pub fn word(s: &[u8], at: usize) -> (&[u8], usize)
     ensures within { result.1 ≤ length s.now }
     ensures behind { min at (length s.now) + length result.0.now ≤ result.1 }
+    ensures part { result.0.now ≡ take (length result.0.now) (drop (result.1 - length result.0.now) s.now) }
 {
     let Some(rest) = s.get(at..) else {
         return (&[], s.len());

@@ -1,6 +1,8 @@
 // Output: bytes are kept, and written to standard output in large pieces.
 ghost use Rattle.std.specs.Prelude.{◌≡◌, ◌≤◌};
 
+use crate::reading::word;
+
 const STDOUT: i32 = 1;
 
 const MOST_BYTES: usize = 65536;
@@ -76,9 +78,12 @@ impl Writer {
 
     // Numbers, each after the name that is its word of a text, and a space before each name.
     pub fn put_fields(&mut self, names: &[u8], numbers: &[u64]) {
-        for (name, n) in names.split(|byte| *byte == b' ').zip(numbers) {
+        let mut at = 0;
+        for n in numbers {
+            let (name, after) = word(names, at);
             self.put(b' ');
             self.put_field(name, *n);
+            at = after;
         }
     }
 
