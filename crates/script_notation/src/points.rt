@@ -1,6 +1,8 @@
 // `point ATOM NAME`: `point ATOM NAME`. From then on the name stands for the atom in `rule` and `plan`. A name is a letter and then
 // letters, digits, `-`, `_` and `.`, 31 bytes at most. An atom has one name, and a name one atom; an error is another name for an atom, a
 // name that is another atom's, an atom of 1,048,576 or more, a bad name, and the first name after 1,024. `reset` leaves the names.
+ghost use Rattle.std.specs.Prelude.{◌≤◌, length};
+
 use crate::calls::LineError;
 use text::{Writer, ended, number, pack, word};
 use words::MAX_ATOMS;
@@ -60,12 +62,34 @@ pub fn atom_named(points: &[Option<Point>], name: Name) -> Option<u64> {
     })
 }
 
+// How many points are of atoms below this one. Points stand in the order of their atoms, before the free places.
+fn below(points: &[Option<Point>], atom: u64) -> usize
+    ensures { result ≤ length points.now }
+{
+    points.partition_point(|place| match place {
+        Some(point) => point.atom < atom,
+        None => false,
+    })
+}
+
 // The name of an atom.
 pub fn name_at(points: &[Option<Point>], atom: u64) -> Option<Name> {
-    points.iter().find_map(|place| match place {
-        Some(point) if point.atom == atom => Some(point.name),
+    match points.get(below(points, atom)) {
+        Some(Some(point)) if point.atom == atom => Some(point.name),
         _ => None,
-    })
+    }
+}
+
+// A point in its place, the later ones a place further on.
+fn insert(points: &mut [Option<Point>], point: Point) -> Result<(), LineError> {
+    let at = below(points, point.atom);
+    let rest = &mut points[at..];
+    let [.., None] = rest else {
+        return Err(LineError::NoRoom);
+    };
+    rest.copy_within(..rest.len() - 1, 1);
+    rest[0] = Some(point);
+    Ok(())
 }
 
 // Names an atom, unless it has the name already.
@@ -83,12 +107,7 @@ fn add(points: &mut [Option<Point>], point: Point) -> Result<(), LineError> {
     if name_at(points, point.atom).is_some() {
         return Err(LineError::NameTaken);
     }
-    let free = points
-        .iter_mut()
-        .find(|place| place.is_none())
-        .ok_or(LineError::NoRoom)?;
-    *free = Some(point);
-    Ok(())
+    insert(points, point)
 }
 
 // A name.
