@@ -2,9 +2,9 @@
 use script_answers::dump;
 use script_notation::calls::{Asked, Call, LineError, call_of};
 use script_notation::ledgers::{Memory, ledger_at};
-use script_notation::points;
+use script_notation::points::{InOrder, call_in_order};
 use script_several::{decide, make, transfer};
-use script_single::{act, candidates, next};
+use script_single::{act_by, candidates, next};
 use text::Writer;
 use wire::HEADER_WORDS;
 
@@ -41,7 +41,7 @@ fn on_ledger(
         Call::Dump => dump(q, &ledger, out),
         Call::Candidates => candidates(q, &mut ledger, out),
         Call::Next => next(q, &ledger, out),
-        _ => act(q, &mut ledger, points, out),
+        _ => act_by(q, &mut ledger, &InOrder(points), out),
     }
 }
 
@@ -53,7 +53,7 @@ pub fn run(line: &[u8], memory: &mut Memory, out: &mut Writer) -> Result<(), Lin
         Call::Make => make(line, at, memory, out),
         Call::Decide => decide(line, at, out),
         Call::Reset => reset(line, at, memory, out),
-        Call::Point => points::call(line, at, memory.points, out),
+        Call::Point => call_in_order(line, at, memory.points, out),
         Call::Seed | Call::Deliver => transfer(call, line, at, memory, out),
         _ => on_ledger(call, line, at, memory, out),
     }

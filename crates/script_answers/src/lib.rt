@@ -8,4 +8,7 @@ mod rows;
 
 pub use cases::{Deduced, Offered, Output, contradicted};
 pub use lines::{put_call, put_case, put_charge, put_end, put_head, put_refused};
-pub use rows::{dump, put_row};
+pub use rows::{dump, put_row, put_row_by};
+
+#[cfg(test)]
+mod tests;

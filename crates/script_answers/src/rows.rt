@@ -4,31 +4,36 @@ use crate::lines::put_call;
 use model::{BODY_AT, GROUP_WORDS, SLOT_WORDS, SOURCE_AT, TOTAL_GROUPS_AT};
 use script_notation::calls::{Asked, LineError};
 use script_notation::ledgers::Ledger;
-use script_notation::literals::put_items;
-use script_notation::points::Point;
+use script_notation::literals::put_items_by;
+use script_notation::points::{Anywhere, Names, Point};
 use std::num::wrapping_add_usize;
 use text::{Writer, ended, kept};
 use wire::{HEAD_ROWS_AT, HEAD_STALE_AT};
 use words::run_count;
 
 // The row of a slot by its items.
-fn put_slot(out: &mut Writer, points: &[Option<Point>], slot: &Slot) {
+fn put_slot<N: Names>(out: &mut Writer, names: &N, slot: &Slot) {
     let conditions = condition_codes(slot);
     let outputs = output_codes(slot);
     out.put(b' ');
-    put_items(out, points, conditions.as_slice());
+    put_items_by(out, names, conditions.as_slice());
     out.put_text(b" -> ");
-    put_items(out, points, outputs.as_slice());
+    put_items_by(out, names, outputs.as_slice());
 }
 
 // The row at a position by its items, ` ITEMS -> ITEMS`; nothing where there is none.
-pub fn put_row(out: &mut Writer, points: &[Option<Point>], slots: &[u64], position: u64) {
+pub fn put_row_by<N: Names>(out: &mut Writer, names: &N, slots: &[u64], position: u64) {
     let (rows, _) = slots.as_chunks::<SLOT_WORDS>();
     let i = position as usize;
     match rows.get(i) {
-        Some(slot) => put_slot(out, points, slot),
+        Some(slot) => put_slot(out, names, slot),
         None => {}
     }
+}
+
+// The same by the names of points in any order.
+pub fn put_row(out: &mut Writer, points: &[Option<Point>], slots: &[u64], position: u64) {
+    put_row_by(out, &Anywhere(points), slots, position);
 }
 
 // Groups as `INDEX:PRESENT:ABSENT` with commas between them, or `-` for none.

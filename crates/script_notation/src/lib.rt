@@ -9,3 +9,5 @@ pub mod literals;
 pub mod memory;
 pub mod points;
 pub mod regions;
+#[cfg(test)]
+mod tests;

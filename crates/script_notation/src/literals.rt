@@ -4,7 +4,7 @@
 ghost use Rattle.std.specs.Prelude.{◌≤◌, length};
 
 use crate::memory::ATOMS;
-use crate::points::{Point, atom_named, name_at, name_of, put_atom, put_name};
+use crate::points::{Anywhere, Names, Point, atom_named, name_of, put_atom_by, put_name};
 use std::num::wrapping_add_u64;
 use text::{Writer, value, word};
 use words::MAX_ATOMS;
@@ -108,8 +108,8 @@ pub fn gather(set: &[u64], list: &mut [u64]) -> usize
 }
 
 // A literal: by its atom's name, with `!` where it is absent, or by its code where the atom has none.
-fn put_item(out: &mut Writer, points: &[Option<Point>], code: u64) {
-    let Some(name) = name_at(points, code / 2) else {
+fn put_item<N: Names>(out: &mut Writer, names: &N, code: u64) {
+    let Some(name) = names.name_at(code / 2) else {
         out.put_decimal(code);
         return;
     };
@@ -120,23 +120,33 @@ fn put_item(out: &mut Writer, points: &[Option<Point>], code: u64) {
 }
 
 // A literal as an item of `plan`, where a number alone is an atom: by its atom's name, or by its atom with `+` or `!`.
-pub fn put_literal(out: &mut Writer, points: &[Option<Point>], code: u64) {
+pub fn put_literal_by<N: Names>(out: &mut Writer, names: &N, code: u64) {
     let atom = code / 2;
     if code % 2 == 0 {
         out.put(b'!');
-    } else if name_at(points, atom).is_none() {
+    } else if names.name_at(atom).is_none() {
         out.put(b'+');
     }
-    put_atom(out, points, atom);
+    put_atom_by(out, names, atom);
+}
+
+// The same by the names of points in any order.
+pub fn put_literal(out: &mut Writer, points: &[Option<Point>], code: u64) {
+    put_literal_by(out, &Anywhere(points), code);
 }
 
 // Literals with commas between them, or `-` for none.
-pub fn put_items(out: &mut Writer, points: &[Option<Point>], codes: &[u64]) {
+pub fn put_items_by<N: Names>(out: &mut Writer, names: &N, codes: &[u64]) {
     if codes.is_empty() {
         out.put(b'-');
     }
     for (i, code) in codes.iter().enumerate() {
         out.put_comma(0 < i);
-        put_item(out, points, *code);
+        put_item(out, names, *code);
     }
+}
+
+// The same by the names of points in any order.
+pub fn put_items(out: &mut Writer, points: &[Option<Point>], codes: &[u64]) {
+    put_items_by(out, &Anywhere(points), codes);
 }

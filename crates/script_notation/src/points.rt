@@ -1,7 +1,7 @@
 // `point ATOM NAME`: `point ATOM NAME`. From then on the name stands for the atom in `rule` and `plan`. A name is a letter and then
 // letters, digits, `-`, `_` and `.`, 31 bytes at most. An atom has one name, and a name one atom; an error is another name for an atom, a
 // name that is another atom's, an atom of 1,048,576 or more, a bad name, and the first name after 1,024. `reset` leaves the names.
-ghost use Rattle.std.specs.Prelude.{◌≤◌, length};
+ghost use Rattle.std.specs.Prelude.{◌≡◌, ◌≤◌, length};
 
 use crate::calls::LineError;
 use text::{Writer, ended, number, pack, word};
@@ -62,6 +62,60 @@ pub fn atom_named(points: &[Option<Point>], name: Name) -> Option<u64> {
     })
 }
 
+// The name of an atom. Points stand in any order, with free places among them.
+pub fn name_at(points: &[Option<Point>], atom: u64) -> Option<Name> {
+    points
+        .iter()
+        .flatten()
+        .find(|point| point.atom == atom)
+        .map(|point| point.name)
+}
+
+// Points that are asked for names.
+pub trait Names {
+    // The points themselves.
+    fn points(&self) -> &[Option<Point>];
+
+    // The name of an atom.
+    fn name_at(&self, atom: u64) -> Option<Name>;
+}
+
+// Points in any order, with free places among them.
+#[derive(Clone, Copy)]
+pub struct Anywhere<'a>(pub &'a [Option<Point>]);
+
+impl Names for Anywhere<'_> {
+    fn points(&self) -> &[Option<Point>]
+        ensures { result.now ≡ self.now.0.now }
+    {
+        let Anywhere(points) = self;
+        points
+    }
+
+    fn name_at(&self, atom: u64) -> Option<Name> {
+        name_at(self.0, atom)
+    }
+}
+
+// Points in the order of their atoms, before the free places, as `call_in_order` keeps them: a name is found by halves.
+#[derive(Clone, Copy)]
+pub struct InOrder<'a>(pub &'a [Option<Point>]);
+
+impl Names for InOrder<'_> {
+    fn points(&self) -> &[Option<Point>]
+        ensures { result.now ≡ self.now.0.now }
+    {
+        self.0
+    }
+
+    fn name_at(&self, atom: u64) -> Option<Name> {
+        match self.0.get(below(self.0, atom)) {
+            Some(Some(point)) if point.atom == atom => Some(point.name),
+            _ => None,
+        }
+    }
+}
+
 // How many points are of atoms below this one. Points stand in the order of their atoms, before the free places.
 fn below(points: &[Option<Point>], atom: u64) -> usize
     ensures { result ≤ length points.now }
@@ -70,14 +124,6 @@ fn below(points: &[Option<Point>], atom: u64) -> usize
         Some(point) => point.atom < atom,
         None => false,
     })
-}
-
-// The name of an atom.
-pub fn name_at(points: &[Option<Point>], atom: u64) -> Option<Name> {
-    match points.get(below(points, atom)) {
-        Some(Some(point)) if point.atom == atom => Some(point.name),
-        _ => None,
-    }
 }
 
 // A point in its place, the later ones a place further on.
@@ -92,22 +138,32 @@ fn insert(points: &mut [Option<Point>], point: Point) -> Result<(), LineError> {
     Ok(())
 }
 
-// Names an atom, unless it has the name already.
+// A point in the first free place.
 fn add(points: &mut [Option<Point>], point: Point) -> Result<(), LineError> {
+    let free = points
+        .iter_mut()
+        .find(|place| place.is_none())
+        .ok_or(LineError::NoRoom)?;
+    *free = Some(point);
+    Ok(())
+}
+
+// Whether an atom has not yet the name that it is given; an error where it has another, or the name is another atom's.
+fn is_new<N: Names>(names: &N, point: Point) -> Result<bool, LineError> {
     if MAX_ATOMS <= point.atom {
         return Err(LineError::Malformed);
     }
-    if let Some(atom) = atom_named(points, point.name) {
+    if let Some(atom) = atom_named(names.points(), point.name) {
         return if atom == point.atom {
-            Ok(())
+            Ok(false)
         } else {
             Err(LineError::NameTaken)
         };
     }
-    if name_at(points, point.atom).is_some() {
+    if names.name_at(point.atom).is_some() {
         return Err(LineError::NameTaken);
     }
-    insert(points, point)
+    Ok(true)
 }
 
 // A name.
@@ -118,28 +174,62 @@ pub fn put_name(out: &mut Writer, name: Name) {
 }
 
 // An atom by its name, or by its number where it has none.
-pub fn put_atom(out: &mut Writer, points: &[Option<Point>], atom: u64) {
-    match name_at(points, atom) {
+pub fn put_atom_by<N: Names>(out: &mut Writer, names: &N, atom: u64) {
+    match names.name_at(atom) {
         Some(name) => put_name(out, name),
         None => out.put_decimal(atom),
     }
 }
 
-pub fn call(
-    line: &[u8],
-    at: usize,
-    points: &mut [Option<Point>],
-    out: &mut Writer,
-) -> Result<(), LineError> {
+// The same by the names of points in any order.
+pub fn put_atom(out: &mut Writer, points: &[Option<Point>], atom: u64) {
+    put_atom_by(out, &Anywhere(points), atom);
+}
+
+// The point that the rest of a line is, and the word that is its name.
+fn point_in(line: &[u8], at: usize) -> Result<(Point, &[u8]), LineError> {
     let (atom, at) = number(line, at).ok_or(LineError::Malformed)?;
     let (word, at) = word(line, at);
     let name = name_of(word).ok_or(LineError::Malformed)?;
     if !ended(line, at) {
         return Err(LineError::Malformed);
     }
-    add(points, Point { atom, name })?;
+    Ok((Point { atom, name }, word))
+}
+
+// The answer's line.
+fn put_point(out: &mut Writer, atom: u64, word: &[u8]) {
     out.put_field(b"point ", atom);
     out.put(b' ');
     out.put_text(word);
+}
+
+// The call of a line among points in any order: a new one takes the first free place.
+pub fn call(
+    line: &[u8],
+    at: usize,
+    points: &mut [Option<Point>],
+    out: &mut Writer,
+) -> Result<(), LineError> {
+    let (point, word) = point_in(line, at)?;
+    if is_new(&Anywhere(points), point)? {
+        add(points, point)?;
+    }
+    put_point(out, point.atom, word);
+    Ok(())
+}
+
+// The same among points in the order of their atoms, before the free places, which keep that order.
+pub fn call_in_order(
+    line: &[u8],
+    at: usize,
+    points: &mut [Option<Point>],
+    out: &mut Writer,
+) -> Result<(), LineError> {
+    let (point, word) = point_in(line, at)?;
+    if is_new(&InOrder(points), point)? {
+        insert(points, point)?;
+    }
+    put_point(out, point.atom, word);
     Ok(())
 }

@@ -4,7 +4,7 @@ ghost use Rattle.std.specs.Prelude.{◌≤◌, length, IfSome};
 use crate::arguments::Lists;
 use crate::literals::CODES;
 use crate::memory::ATOMS;
-use crate::points::{Point, put_atom};
+use crate::points::{Anywhere, Names, Point, put_atom_by};
 use std::num::wrapping_add_u64;
 use text::{Writer, ended, value, word};
 use words::WORD_BITS;
@@ -130,12 +130,12 @@ pub fn region_of<'a>(atoms: u64, set: &[u64], held: &'a mut [u64], cut: &'a mut 
 }
 
 // The atoms of a set, with commas between them, or `-` for none.
-fn put_atoms(out: &mut Writer, atoms: u64, words: &[u64], points: &[Option<Point>]) {
+fn put_atoms<N: Names>(out: &mut Writer, atoms: u64, words: &[u64], names: &N) {
     let mut some = false;
     for atom in 0..atoms {
         if words::contains(words, atom) {
             out.put_comma(some);
-            put_atom(out, points, atom);
+            put_atom_by(out, names, atom);
             some = true;
         }
     }
@@ -144,7 +144,15 @@ fn put_atoms(out: &mut Writer, atoms: u64, words: &[u64], points: &[Option<Point
     }
 }
 
-// A region: the atoms held, and the atoms cut, by the names that they have in `points`.
+// A region: the atoms held, and the atoms cut, by their names.
+pub fn put_region_by<N: Names>(out: &mut Writer, atoms: u64, held: &[u64], cut: &[u64], names: &N) {
+    out.put_text(b" held=");
+    put_atoms(out, atoms, held, names);
+    out.put_text(b" cut=");
+    put_atoms(out, atoms, cut, names);
+}
+
+// The same by the names that they have in `points`, which stand in any order.
 pub fn put_region(
     out: &mut Writer,
     atoms: u64,
@@ -152,8 +160,5 @@ pub fn put_region(
     cut: &[u64],
     points: &[Option<Point>],
 ) {
-    out.put_text(b" held=");
-    put_atoms(out, atoms, held, points);
-    out.put_text(b" cut=");
-    put_atoms(out, atoms, cut, points);
+    put_region_by(out, atoms, held, cut, &Anywhere(points));
 }

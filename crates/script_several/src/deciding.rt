@@ -4,7 +4,8 @@ use boundary::ledger_decide;
 use script_answers::{put_case, put_refused};
 use script_notation::calls::LineError;
 use script_notation::memory::{ATOMS, List};
-use script_notation::regions::{put_region, read_region};
+use script_notation::points::InOrder;
+use script_notation::regions::{put_region_by, read_region};
 use text::{Writer, filled};
 use wire::ANSWER_WORDS;
 use words::MAX_ATOMS;
@@ -39,6 +40,6 @@ pub fn decide(line: &[u8], at: usize, out: &mut Writer) -> Result<(), LineError>
         return Ok(());
     }
     put_case(out, b"False True", &answer);
-    put_region(out, atoms, held, cut, &[]);
+    put_region_by(out, atoms, held, cut, &InOrder(&[]));
     Ok(())
 }

@@ -14,15 +14,16 @@ ghost use Rattle.std.specs.Prelude.{◌≤◌};
 
 use boundary::{ledger_begin, ledger_close, ledger_deduce, ledger_hit, ledger_offer};
 use script_answers::{
-    Deduced, Offered, contradicted, put_call, put_case, put_charge, put_head, put_refused, put_row,
+    Deduced, Offered, contradicted, put_call, put_case, put_charge, put_head, put_refused,
+    put_row_by,
 };
 use script_notation::arguments::read_lists;
 use script_notation::calls::{Asked, Call, LineError};
 use script_notation::ledgers::Ledger;
-use script_notation::literals::put_literal;
+use script_notation::literals::put_literal_by;
 use script_notation::memory::{EachAtom, EachRow, Head, List};
-use script_notation::points::Point;
-use script_notation::regions::put_region;
+use script_notation::points::{Anywhere, InOrder, Names, Point};
+use script_notation::regions::put_region_by;
 use text::{Writer, filled, kept};
 use wire::{ANSWER_WORDS, HEAD_ATOMS_AT, HEAD_TIER_ROWS_AT, METER_WORDS};
 
@@ -96,11 +97,11 @@ fn put_offered(out: &mut Writer, offered: Offered) {
 }
 
 // The same with the row that took the offer in.
-fn put_joined(out: &mut Writer, offered: Offered, slots: &[u64], points: &[Option<Point>]) {
+fn put_joined<N: Names>(out: &mut Writer, offered: Offered, slots: &[u64], names: &N) {
     put_offered(out, offered);
     match offered {
         Offered::Subsumed(position) | Offered::Added(position) => {
-            put_row(out, points, slots, position)
+            put_row_by(out, names, slots, position)
         }
         _ => {}
     }
@@ -120,16 +121,16 @@ fn put_deduced(out: &mut Writer, deduced: Deduced) {
 }
 
 // The answer's words; of `rule` and `tip` with the row that took the offer in.
-fn put_word(
+fn put_word<N: Names>(
     out: &mut Writer,
     call: Call,
     answer: &[u64; ANSWER_WORDS],
     slots: &[u64],
-    points: &[Option<Point>],
+    names: &N,
 ) {
     match call {
         Call::Offer => put_offered(out, Offered::from(*answer)),
-        Call::Rule | Call::Tip => put_joined(out, Offered::from(*answer), slots, points),
+        Call::Rule | Call::Tip => put_joined(out, Offered::from(*answer), slots, names),
         Call::Deduce => put_deduced(out, Deduced::from(*answer)),
         Call::Close | Call::Plan => put_case(out, b"Closed Conflict Stopped", answer),
         _ => out.put_text(b" Done"),
@@ -145,59 +146,60 @@ fn put_contradicted(out: &mut Writer, output: Option<u64>) {
 }
 
 // The same as an item.
-fn put_because(out: &mut Writer, output: Option<u64>, points: &[Option<Point>]) {
+fn put_because<N: Names>(out: &mut Writer, output: Option<u64>, names: &N) {
     out.put_text(b" because=");
     match output {
-        Some(code) => put_literal(out, points, code),
+        Some(code) => put_literal_by(out, names, code),
         None => out.put(b'-'),
     }
 }
 
 // After the charge of `close` and `plan` the region, and the output that they name.
-fn put_closed(
+fn put_closed<N: Names>(
     out: &mut Writer,
     call: Call,
     answer: &[u64; ANSWER_WORDS],
     atoms: u64,
     held: &[u64],
     cut: &[u64],
-    points: &[Option<Point>],
+    names: &N,
 ) {
     match call {
         Call::Close => {
-            put_region(out, atoms, held, cut, &[]);
+            put_region_by(out, atoms, held, cut, &InOrder(&[]));
             put_contradicted(out, contradicted(answer));
         }
         Call::Plan => {
-            put_region(out, atoms, held, cut, points);
-            put_because(out, contradicted(answer), points);
+            put_region_by(out, atoms, held, cut, names);
+            put_because(out, contradicted(answer), names);
         }
         _ => {}
     }
 }
 
 // The line after the ledger's number.
-fn put_answer(
+fn put_answer<N: Names>(
     out: &mut Writer,
     call: Call,
     answer: &[u64; ANSWER_WORDS],
     ledger: &Ledger,
     first: &[u64],
     second: &[u64],
-    points: &[Option<Point>],
+    names: &N,
 ) {
     let head = *ledger.head;
-    put_word(out, call, answer, ledger.slots, points);
+    put_word(out, call, answer, ledger.slots, names);
     put_charge(out, answer[2]);
     let atoms = head[HEAD_ATOMS_AT];
-    put_closed(out, call, answer, atoms, first, second, points);
+    put_closed(out, call, answer, atoms, first, second, names);
     put_head(out, &head);
 }
 
-pub fn act(
+// The call of a line, and its answer with these names.
+pub fn act_by<N: Names>(
     q: Asked,
     ledger: &mut Ledger,
-    points: &[Option<Point>],
+    names: &N,
     out: &mut Writer,
 ) -> Result<(), LineError> {
     let mut given = [0u64; 2];
@@ -209,6 +211,7 @@ pub fn act(
     let at = text::numbers(q.line, q.at, &mut given[..n]).ok_or(LineError::Malformed)?;
     let head = *ledger.head;
     let atoms = head[HEAD_ATOMS_AT];
+    let points = names.points();
     let lists = read_lists(call, q.line, at, points, atoms, &mut first, &mut second).ok_or(
         LineError::Malformed,
     )?;
@@ -223,6 +226,16 @@ pub fn act(
         put_refused(out, refusal);
         return Ok(());
     }
-    put_answer(out, call, &answer, ledger, first, second, points);
+    put_answer(out, call, &answer, ledger, first, second, names);
     Ok(())
+}
+
+// The same with the names of points in any order.
+pub fn act(
+    q: Asked,
+    ledger: &mut Ledger,
+    points: &[Option<Point>],
+    out: &mut Writer,
+) -> Result<(), LineError> {
+    act_by(q, ledger, &Anywhere(points), out)
 }

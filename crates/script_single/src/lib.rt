@@ -5,5 +5,8 @@
 mod acting;
 mod searching;
 
-pub use acting::act;
+pub use acting::{act, act_by};
 pub use searching::{candidates, next};
+
+#[cfg(test)]
+mod tests;

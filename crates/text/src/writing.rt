@@ -1,5 +1,5 @@
 // Output: bytes are kept, and written to standard output in large pieces.
-ghost use Rattle.std.specs.Prelude.{◌≡◌, ◌≤◌};
+ghost use Rattle.std.specs.Prelude.{◌≡◌, ◌≤◌, take};
 
 use crate::reading::word;
 
@@ -29,6 +29,13 @@ impl Writer {
     {
         io::write_all(STDOUT, &self.bytes[..self.count]);
         self.count = 0;
+    }
+
+    // The bytes that are not written yet.
+    pub fn waiting(&self) -> &[u8]
+        ensures { result.now ≡ take self.now.count self.now.bytes }
+    {
+        &self.bytes[..self.count]
     }
 
     // One byte.
