@@ -41,7 +41,7 @@ fn on_ledger(
         Call::Dump => dump(q, &ledger, out),
         Call::Candidates => candidates(q, &mut ledger, out),
         Call::Next => next(q, &ledger, out),
-        _ => act_by(q, &mut ledger, &InOrder(points), out),
+        _ => act_by(q, &mut ledger, InOrder(points), out),
     }
 }
 

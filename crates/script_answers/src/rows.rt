@@ -12,7 +12,7 @@ use wire::{HEAD_ROWS_AT, HEAD_STALE_AT};
 use words::run_count;
 
 // The row of a slot by its items.
-fn put_slot<N: Names>(out: &mut Writer, names: &N, slot: &Slot) {
+fn put_slot<N: Names>(out: &mut Writer, names: N, slot: &Slot) {
     let conditions = condition_codes(slot);
     let outputs = output_codes(slot);
     out.put(b' ');
@@ -22,7 +22,7 @@ fn put_slot<N: Names>(out: &mut Writer, names: &N, slot: &Slot) {
 }
 
 // The row at a position by its items, ` ITEMS -> ITEMS`; nothing where there is none.
-pub fn put_row_by<N: Names>(out: &mut Writer, names: &N, slots: &[u64], position: u64) {
+pub fn put_row_by<N: Names>(out: &mut Writer, names: N, slots: &[u64], position: u64) {
     let (rows, _) = slots.as_chunks::<SLOT_WORDS>();
     let i = position as usize;
     match rows.get(i) {
@@ -33,7 +33,7 @@ pub fn put_row_by<N: Names>(out: &mut Writer, names: &N, slots: &[u64], position
 
 // The same by the names of points in any order.
 pub fn put_row(out: &mut Writer, points: &[Option<Point>], slots: &[u64], position: u64) {
-    put_row_by(out, &Anywhere(points), slots, position);
+    put_row_by(out, Anywhere(points), slots, position);
 }
 
 // Groups as `INDEX:PRESENT:ABSENT` with commas between them, or `-` for none.

@@ -33,6 +33,6 @@ fn a_row_is_put_by_names_in_order(rt: HostRuntime) {
     assert_eq!(rt; call_in_order(b"9 b", 0, &mut points, &mut out), Ok(()));
     assert_eq!(rt; call_in_order(b"3 a", 0, &mut points, &mut out), Ok(()));
     let mut out = Writer::new();
-    put_row_by(&mut out, &InOrder(&points), &slot(), 0);
+    put_row_by(&mut out, InOrder(&points), &slot(), 0);
     assert_eq!(rt; out.waiting(), b" a -> !b".as_slice());
 }

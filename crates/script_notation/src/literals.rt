@@ -108,7 +108,7 @@ pub fn gather(set: &[u64], list: &mut [u64]) -> usize
 }
 
 // A literal: by its atom's name, with `!` where it is absent, or by its code where the atom has none.
-fn put_item<N: Names>(out: &mut Writer, names: &N, code: u64) {
+fn put_item<N: Names>(out: &mut Writer, names: N, code: u64) {
     let Some(name) = names.name_at(code / 2) else {
         out.put_decimal(code);
         return;
@@ -120,7 +120,7 @@ fn put_item<N: Names>(out: &mut Writer, names: &N, code: u64) {
 }
 
 // A literal as an item of `plan`, where a number alone is an atom: by its atom's name, or by its atom with `+` or `!`.
-pub fn put_literal_by<N: Names>(out: &mut Writer, names: &N, code: u64) {
+pub fn put_literal_by<N: Names>(out: &mut Writer, names: N, code: u64) {
     let atom = code / 2;
     if code % 2 == 0 {
         out.put(b'!');
@@ -132,11 +132,11 @@ pub fn put_literal_by<N: Names>(out: &mut Writer, names: &N, code: u64) {
 
 // The same by the names of points in any order.
 pub fn put_literal(out: &mut Writer, points: &[Option<Point>], code: u64) {
-    put_literal_by(out, &Anywhere(points), code);
+    put_literal_by(out, Anywhere(points), code);
 }
 
 // Literals with commas between them, or `-` for none.
-pub fn put_items_by<N: Names>(out: &mut Writer, names: &N, codes: &[u64]) {
+pub fn put_items_by<N: Names>(out: &mut Writer, names: N, codes: &[u64]) {
     if codes.is_empty() {
         out.put(b'-');
     }
@@ -148,5 +148,5 @@ pub fn put_items_by<N: Names>(out: &mut Writer, names: &N, codes: &[u64]) {
 
 // The same by the names of points in any order.
 pub fn put_items(out: &mut Writer, points: &[Option<Point>], codes: &[u64]) {
-    put_items_by(out, &Anywhere(points), codes);
+    put_items_by(out, Anywhere(points), codes);
 }

@@ -72,7 +72,7 @@ pub fn name_at(points: &[Option<Point>], atom: u64) -> Option<Name> {
 }
 
 // Points that are asked for names.
-pub trait Names {
+pub trait Names: Copy {
     // The points themselves.
     fn points(&self) -> &[Option<Point>];
 
@@ -149,7 +149,7 @@ fn add(points: &mut [Option<Point>], point: Point) -> Result<(), LineError> {
 }
 
 // Whether an atom has not yet the name that it is given; an error where it has another, or the name is another atom's.
-fn is_new<N: Names>(names: &N, point: Point) -> Result<bool, LineError> {
+fn is_new<N: Names>(names: N, point: Point) -> Result<bool, LineError> {
     if MAX_ATOMS <= point.atom {
         return Err(LineError::Malformed);
     }
@@ -174,7 +174,7 @@ pub fn put_name(out: &mut Writer, name: Name) {
 }
 
 // An atom by its name, or by its number where it has none.
-pub fn put_atom_by<N: Names>(out: &mut Writer, names: &N, atom: u64) {
+pub fn put_atom_by<N: Names>(out: &mut Writer, names: N, atom: u64) {
     match names.name_at(atom) {
         Some(name) => put_name(out, name),
         None => out.put_decimal(atom),
@@ -183,7 +183,7 @@ pub fn put_atom_by<N: Names>(out: &mut Writer, names: &N, atom: u64) {
 
 // The same by the names of points in any order.
 pub fn put_atom(out: &mut Writer, points: &[Option<Point>], atom: u64) {
-    put_atom_by(out, &Anywhere(points), atom);
+    put_atom_by(out, Anywhere(points), atom);
 }
 
 // The point that the rest of a line is, and the word that is its name.
@@ -212,7 +212,7 @@ pub fn call(
     out: &mut Writer,
 ) -> Result<(), LineError> {
     let (point, word) = point_in(line, at)?;
-    if is_new(&Anywhere(points), point)? {
+    if is_new(Anywhere(points), point)? {
         add(points, point)?;
     }
     put_point(out, point.atom, word);
@@ -227,7 +227,7 @@ pub fn call_in_order(
     out: &mut Writer,
 ) -> Result<(), LineError> {
     let (point, word) = point_in(line, at)?;
-    if is_new(&InOrder(points), point)? {
+    if is_new(InOrder(points), point)? {
         insert(points, point)?;
     }
     put_point(out, point.atom, word);

@@ -130,7 +130,7 @@ pub fn region_of<'a>(atoms: u64, set: &[u64], held: &'a mut [u64], cut: &'a mut 
 }
 
 // The atoms of a set, with commas between them, or `-` for none.
-fn put_atoms<N: Names>(out: &mut Writer, atoms: u64, words: &[u64], names: &N) {
+fn put_atoms<N: Names>(out: &mut Writer, atoms: u64, words: &[u64], names: N) {
     let mut some = false;
     for atom in 0..atoms {
         if words::contains(words, atom) {
@@ -145,7 +145,7 @@ fn put_atoms<N: Names>(out: &mut Writer, atoms: u64, words: &[u64], names: &N) {
 }
 
 // A region: the atoms held, and the atoms cut, by their names.
-pub fn put_region_by<N: Names>(out: &mut Writer, atoms: u64, held: &[u64], cut: &[u64], names: &N) {
+pub fn put_region_by<N: Names>(out: &mut Writer, atoms: u64, held: &[u64], cut: &[u64], names: N) {
     out.put_text(b" held=");
     put_atoms(out, atoms, held, names);
     out.put_text(b" cut=");
@@ -160,5 +160,5 @@ pub fn put_region(
     cut: &[u64],
     points: &[Option<Point>],
 ) {
-    put_region_by(out, atoms, held, cut, &Anywhere(points));
+    put_region_by(out, atoms, held, cut, Anywhere(points));
 }

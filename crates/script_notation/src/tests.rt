@@ -80,15 +80,15 @@ fn points_in_order_are_put_alike(rt: HostRuntime) {
     let names = InOrder(&points);
     assert_eq!(rt; names.name_at(3), name_of(b"a"));
     let mut out = Writer::new();
-    put_atom_by(&mut out, &names, 3);
-    put_atom_by(&mut out, &names, 4);
+    put_atom_by(&mut out, names, 3);
+    put_atom_by(&mut out, names, 4);
     for code in [6, 7, 8, 9] {
         out.put(b' ');
-        put_literal_by(&mut out, &names, code);
+        put_literal_by(&mut out, names, code);
     }
     out.put(b' ');
-    put_items_by(&mut out, &names, &[6, 7, 8, 19]);
-    put_region_by(&mut out, 10, &[520], &[16], &names);
+    put_items_by(&mut out, names, &[6, 7, 8, 19]);
+    put_region_by(&mut out, 10, &[520], &[16], names);
     assert_eq!(rt;
         out.waiting(),
         b"a4 !a a !4 +4 !a,a,8,b held=a,b cut=4".as_slice()

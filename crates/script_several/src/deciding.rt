@@ -40,6 +40,6 @@ pub fn decide(line: &[u8], at: usize, out: &mut Writer) -> Result<(), LineError>
         return Ok(());
     }
     put_case(out, b"False True", &answer);
-    put_region_by(out, atoms, held, cut, &InOrder(&[]));
+    put_region_by(out, atoms, held, cut, InOrder(&[]));
     Ok(())
 }

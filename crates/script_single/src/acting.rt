@@ -97,7 +97,7 @@ fn put_offered(out: &mut Writer, offered: Offered) {
 }
 
 // The same with the row that took the offer in.
-fn put_joined<N: Names>(out: &mut Writer, offered: Offered, slots: &[u64], names: &N) {
+fn put_joined<N: Names>(out: &mut Writer, offered: Offered, slots: &[u64], names: N) {
     put_offered(out, offered);
     match offered {
         Offered::Subsumed(position) | Offered::Added(position) => {
@@ -126,7 +126,7 @@ fn put_word<N: Names>(
     call: Call,
     answer: &[u64; ANSWER_WORDS],
     slots: &[u64],
-    names: &N,
+    names: N,
 ) {
     match call {
         Call::Offer => put_offered(out, Offered::from(*answer)),
@@ -146,7 +146,7 @@ fn put_contradicted(out: &mut Writer, output: Option<u64>) {
 }
 
 // The same as an item.
-fn put_because<N: Names>(out: &mut Writer, output: Option<u64>, names: &N) {
+fn put_because<N: Names>(out: &mut Writer, output: Option<u64>, names: N) {
     out.put_text(b" because=");
     match output {
         Some(code) => put_literal_by(out, names, code),
@@ -162,11 +162,11 @@ fn put_closed<N: Names>(
     atoms: u64,
     held: &[u64],
     cut: &[u64],
-    names: &N,
+    names: N,
 ) {
     match call {
         Call::Close => {
-            put_region_by(out, atoms, held, cut, &InOrder(&[]));
+            put_region_by(out, atoms, held, cut, InOrder(&[]));
             put_contradicted(out, contradicted(answer));
         }
         Call::Plan => {
@@ -185,7 +185,7 @@ fn put_answer<N: Names>(
     ledger: &Ledger,
     first: &[u64],
     second: &[u64],
-    names: &N,
+    names: N,
 ) {
     let head = *ledger.head;
     put_word(out, call, answer, ledger.slots, names);
@@ -199,7 +199,7 @@ fn put_answer<N: Names>(
 pub fn act_by<N: Names>(
     q: Asked,
     ledger: &mut Ledger,
-    names: &N,
+    names: N,
     out: &mut Writer,
 ) -> Result<(), LineError> {
     let mut given = [0u64; 2];
@@ -237,5 +237,5 @@ pub fn act(
     points: &[Option<Point>],
     out: &mut Writer,
 ) -> Result<(), LineError> {
-    act_by(q, ledger, &Anywhere(points), out)
+    act_by(q, ledger, Anywhere(points), out)
 }

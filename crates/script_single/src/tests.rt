@@ -91,10 +91,10 @@ fn a_call_is_answered_by_names_in_order(rt: HostRuntime) -> Result<(), Fail> {
     assert_eq!(rt; make(&mut ledger), 0);
     let names = InOrder(&points);
     let mut out = Writer::new();
-    assert_eq!(rt; act_by(rule(), &mut ledger, &names, &mut out), Ok(()));
+    assert_eq!(rt; act_by(rule(), &mut ledger, names, &mut out), Ok(()));
     assert!(rt; is_rule_answer(out.waiting()));
     let mut out = Writer::new();
-    assert_eq!(rt; act_by(plan(), &mut ledger, &names, &mut out), Ok(()));
+    assert_eq!(rt; act_by(plan(), &mut ledger, names, &mut out), Ok(()));
     assert!(rt; is_plan_answer(out.waiting()));
     Ok(())
 }
